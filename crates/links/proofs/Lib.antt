@@ -1,0 +1,2 @@
+-- Laws of links.
+pub mod Links

@@ -1,0 +1,2 @@
+-- Links in the area.
+pub mod Link

@@ -1,0 +1,22 @@
+-- "A free block's first four bytes, low byte first, hold a link."
+use Prim.Native.Nat.{ℕ, _*_}
+use mathlib.Core.List.{List, [], _∷_}
+use Rattle.fields.specs.Little.{getLE, setLE}
+
+-- the link of the block whose first unit is u; a unit is 8 bytes
+abbrev pub link : List ℕ → ℕ → ℕ
+link area u = getLE area (8 * u) 4
+
+-- the area with the link of the block at u written
+abbrev pub withLink : List ℕ → ℕ → ℕ → List ℕ
+withLink area u x = setLE area (8 * u) 4 x
+
+-- the block at a unit gets a link
+pub data LinkWrite : Type 0 where
+  _⇒_ : ℕ → ℕ → LinkWrite
+
+infix 68 _⇒_
+-- the area after a list of link writes, in their order
+abbrev pub linked : List LinkWrite → List ℕ → List ℕ
+linked [] area = area
+linked ((u ⇒ x) ∷ ls) area = linked ls (withLink area u x)

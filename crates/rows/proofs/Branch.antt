@@ -1,0 +1,15 @@
+-- Which branch a decided test takes.
+-- Assumes nothing.
+use mathlib.Core.Path.{_≡_, refl}
+use Rattle.rows.specs.Branch.{if}
+
+module _ {ℓ} {A : Type ℓ} {P : Type 0} where
+  -- If the fact holds, it is the first.
+  pub if-yes : (d : Dec P) (a b : A) → P → if d a b ≡ a
+  if-yes (yes p) a b h = refl
+  if-yes (no n) a b h = absurd (n h)
+
+  -- If it does not hold, it is the second.
+  pub if-no : (d : Dec P) (a b : A) → ¬ P → if d a b ≡ b
+  if-no (yes p) a b h = absurd (h p)
+  if-no (no n) a b h = refl

@@ -1,0 +1,7 @@
+pub mod Branch
+pub mod Update
+pub mod Weights
+pub mod Counting
+pub mod Totals
+pub mod Pigeonhole
+pub mod Linked

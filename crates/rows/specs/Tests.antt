@@ -1,0 +1,36 @@
+-- Tests of numbers that hand on the fact they found, for use in a proof by cases.
+-- Assumes nothing.
+use mathlib.Core.Path.{_≡_, refl}
+use mathlib.Core.Logic.{_≢_}
+use mathlib.Core.Bool.{Bool, true, false}
+use Prim.Native.Nat.{ℕ, _≤_, _<_}
+use native.Mathlib.Omega.{arith}
+use native.Mathlib.Decide.{ℕ-discrete, decLt}
+
+-- A computed test either holds or fails.
+pub data Seen (b : Bool) : Type 0 where
+  holds : b ≡ true → Seen b
+  fails : b ≡ false → Seen b
+
+-- Whether a computed test holds.
+pub seen : (b : Bool) → Seen b
+seen true = holds refl
+seen false = fails refl
+
+-- Two numbers are the same, or the first is another one.
+pub data Same (u v : ℕ) : Type 0 where
+  same : u ≡ v → Same u v
+  other : u ≢ v → Same u v
+
+-- Whether two numbers are the same.
+pub same? : (u v : ℕ) → Same u v
+same? u v = elim (ℕ-discrete u v) [ yes e ↦ same e | no d ↦ other d ]
+
+-- The first number is below the second, or it is not.
+pub data Order (u v : ℕ) : Type 0 where
+  before : u < v → Order u v
+  after : v ≤ u → Order u v
+
+-- Whether one number is below another.
+pub order? : (u v : ℕ) → Order u v
+order? u v = elim (decLt u v) [ yes l ↦ before l | no n ↦ after (omega arith) ]
