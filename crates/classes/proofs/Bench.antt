@@ -1,0 +1,36 @@
+-- The rows of the bench table about sizes, as one statement; and the row about the end of a region.
+-- Assumes nothing.
+use mathlib.Core.Bool.{false}
+use mathlib.Core.Path.{_≡_, refl}
+use mathlib.Core.List.{List, [], _∷_, map}
+use Prim.Native.Nat.{ℕ}
+use Rattle.classes.specs.Classes.{units, block, perRegion}
+use Rattle.classes.specs.Places.{isFirst}
+use Rattle.classes.specs.Sizes.{classOf, choice}
+use Rattle.classes.specs.declared.size.Choice.{Choice}
+use Rattle.classes.specs.declared.size.Choice.the-variants.{Class, Refused}
+
+-- what a row shows for a size: the bytes of the block that serves it, or the number that refuses it
+pub data Shown : Type 0 where
+  bytes : ℕ → Shown
+  number : ℕ → Shown
+
+abbrev pub shown : Choice → Shown
+shown (Class c) = bytes (block c)
+shown (Refused n) = number n
+
+-- the rows: a size, and what is shown for it
+abbrev pub sizes : List (ℕ × Shown)
+sizes =
+    (0, number 8) ∷ (1, bytes 8) ∷ (9, bytes 16) ∷ (17, bytes 24) ∷
+    (65, bytes 80) ∷ (256, bytes 256) ∷ (257, number 9) ∷ []
+
+-- each row is what the choice shows
+pub sizes-hold : map (λ r. shown (choice (r .0))) sizes ≡ map (λ r. r .1) sizes
+unfolding units classOf choice
+sizes-hold = refl
+
+-- unit 510 is no block in a region of 24-byte blocks, whose 16 last bytes are left over
+pub unit-510 : isFirst 2 510 ≡ false
+unfolding isFirst units perRegion
+unit-510 = refl

@@ -1,0 +1,6 @@
+pub mod Below
+pub mod Tables
+pub mod Series
+pub mod Sizes
+pub mod Bench
+pub mod Places

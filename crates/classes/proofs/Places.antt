@@ -1,0 +1,97 @@
+-- The laws of the places of blocks.
+-- Assumes nothing.
+use mathlib.Core.Path.{_≡_, refl, sym, ap, _∙_}
+use mathlib.Core.Bool.{Bool, true, false, _&&_, false≢true}
+use Prim.Native.Nat.{ℕ, suc, _+_, _*_, _/_, _%_, _≤_, _<_}
+use native.Mathlib.Omega.{arith}
+use native.Mathlib.Decide.{decLt}
+use native.Mathlib.Nat.{mul-le-mul-left, mul-div-cancel-left, mul-mod-right, div-add-mod}
+use lib.Dec.{ltb, eqb}
+use borrow.Author.Tests.{eq-eqb, lt-ltb, eqb-true, ltb-true}
+use Rattle.classes.specs.Classes.{units, block, perRegion}
+use Rattle.classes.specs.Places.{unitOf, regionOf, indexOf, isFirst, Block}
+use Rattle.classes.proofs.Tables.{units-low, fits}
+
+-- block i of region r is a block
+abbrev pub block-at : (r c i : ℕ) → i < perRegion c → Block r c (unitOf r c i)
+block-at r c i h = record { at = i; below = h; is = refl }
+
+-- a block stays in its region
+pub inside : {r c u : ℕ} → Block r c u → (512 * r ≤ u) × (u + units c ≤ 512 * r + 512)
+inside {c = c} b = omega (arith, mul-le-mul-left (units c) (b .below), b .is, fits c)
+
+-- .. and its bytes in the area
+pub in-area : {r c u : ℕ} (regions : ℕ) → Block r c u → r < regions → 8 * u + block c ≤ 4096 * regions
+in-area regions b h = omega (arith, inside b)
+
+-- its name is one of 0 to 8,191, as the area has at most 16 regions
+pub unit-below : {r c u : ℕ} → Block r c u → r < 16 → u < 8192
+unit-below {c = c} b h = omega (arith, inside b, units-low c)
+
+-- two blocks of one region do not overlap
+pub apart : {r c u v : ℕ} → Block r c u → Block r c v → u < v → u + units c ≤ v
+apart {c = c} b d h = elim (decLt (b .at) (d .at)) [
+  | yes e ↦ omega (arith, mul-le-mul-left (units c) e, b .is, d .is)
+  | no e ↦ (let f : d .at ≤ b .at = omega arith in
+      absurd (omega (arith, mul-le-mul-left (units c) f, b .is, d .is)))
+]
+
+-- the units that stand before a block in its region
+offset-is : {r c u : ℕ} (b : Block r c u) → u % 512 ≡ units c * b .at
+offset-is {c = c} b = omega (arith, inside b, units-low c, b .is)
+
+-- a block's first unit gives its region
+pub region-is : {r c u : ℕ} → Block r c u → regionOf u ≡ r
+region-is {c = c} b = omega (arith, inside b, units-low c)
+
+-- .. and its index
+pub index-is : {r c u : ℕ} (b : Block r c u) → indexOf c u ≡ b .at
+index-is {c = c} b = rw (offset-is b) (mul-div-cancel-left (b .at) (units-low c))
+
+-- which is below n
+pub index-below : {r c u : ℕ} → Block r c u → indexOf c u < perRegion c
+index-below b = rw (index-is b) (b .below)
+
+-- from a unit to its index and back
+pub unit-again : {r c u : ℕ} → Block r c u → unitOf r c (indexOf c u) ≡ u
+unit-again b = rw (index-is b) (sym (b .is))
+
+-- from a region and an index to the unit, and back to the region
+pub region-again : (r c i : ℕ) → i < perRegion c → regionOf (unitOf r c i) ≡ r
+region-again r c i h = region-is (block-at r c i h)
+
+-- .. and back to the index
+pub index-again : (r c i : ℕ) → i < perRegion c → indexOf c (unitOf r c i) ≡ i
+index-again r c i h = index-is (block-at r c i h)
+
+-- different regions or indexes have different units
+pub one-place : (r q c i k : ℕ) → i < perRegion c → k < perRegion c
+    → unitOf r c i ≡ unitOf q c k → (r ≡ q) × (i ≡ k)
+one-place r q c i k h j e = (
+  sym (region-again r c i h) ∙ ap regionOf e ∙ region-again q c k j,
+  sym (index-again r c i h) ∙ ap (indexOf c) e ∙ index-again q c k j,
+)
+
+-- both parts of a test pass
+both-true : (a b : Bool) → (a && b) ≡ true → (a ≡ true) × (b ≡ true)
+both-true true b e = (refl, e)
+both-true false b e = (e, absurd (false≢true e))
+
+-- the test of a first unit passes only at a block
+pub first-block : (c u : ℕ) → isFirst c u ≡ true → Block (regionOf u) c u
+unfolding isFirst
+first-block c u e =
+    let t = both-true (eqb (u % 512 % units c) 0) (ltb (indexOf c u) (perRegion c)) e in
+    let z : u % 512 % units c ≡ 0 = eqb-true (u % 512 % units c) 0 (t .0) in
+    record {
+      at = indexOf c u;
+      below = ltb-true (indexOf c u) (perRegion c) (t .1);
+      is = omega (arith, div-add-mod (u % 512) (units c));
+    }
+
+-- .. and at every block
+pub block-first : {r c u : ℕ} → Block r c u → isFirst c u ≡ true
+unfolding isFirst
+block-first {c = c} {u} b =
+    let z : u % 512 % units c ≡ 0 = rw (offset-is b) (mul-mod-right (units c) (b .at)) in
+    rw (eq-eqb (u % 512 % units c) 0 z, lt-ltb (indexOf c u) (perRegion c) (index-below b))

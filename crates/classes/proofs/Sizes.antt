@@ -1,0 +1,100 @@
+-- The laws of the class that serves a size.
+-- Assumes nothing.
+use mathlib.Core.Path.{_≡_, subst}
+use mathlib.Core.Bool.{Bool}
+use mathlib.Core.List.{List, [], _∷_}
+use Prim.Native.Nat.{ℕ, zero, suc, _+_, _*_, _-_, _/_, _≤_, _<_}
+use native.Mathlib.Omega.{arith}
+use native.Mathlib.Decide.{decLe, decLt}
+use lib.Dec.{T, ltb, ltb→lt}
+use lib.ListN.{length, getD}
+use borrow.Author.Tests.{le-leb, lt-leb, lt-ltb, le-ltb, eq-eqb, ne-eqb}
+use Rattle.classes.specs.Classes.{blocks, units, block}
+use Rattle.classes.specs.Sizes.{firstHolding, classOf, choice}
+use Rattle.classes.specs.declared.size.Choice.the-variants.{Class, Refused}
+use Rattle.classes.proofs.Below.{at}
+use Rattle.classes.proofs.Tables.{rows}
+
+-- what a search of a row finds is at least s
+found : (s : ℕ) (l : List ℕ) (d : ℕ) → firstHolding s l < length l → s ≤ getD l (firstHolding s l) d
+found s [] d h = absurd (omega arith)
+found s (b ∷ bs) d h = elim (decLe s b) [
+  | yes k ↦ rw (le-leb s b k) k
+  | no k ↦ (let e = lt-leb s b (omega arith) in
+      rw e (found s bs d (let i : suc (firstHolding s bs) < suc (length bs) = rw e at h in omega arith)))
+]
+
+-- where a search goes past the first entry b, that is below s
+further : (s b : ℕ) (bs : List ℕ) (k : ℕ) → k < firstHolding s (b ∷ bs) → (b < s) × (k ≤ firstHolding s bs)
+further s b bs k h = elim (decLe s b) [
+  | yes i ↦ absurd (let j : k < 0 = rw (le-leb s b i) at h in omega arith)
+  | no i ↦ (let j : k < suc (firstHolding s bs) = rw (lt-leb s b (omega arith)) at h in omega arith)
+]
+
+-- what a search passed is below s
+passed : (s : ℕ) (l : List ℕ) (d k : ℕ) → k < firstHolding s l → getD l k d < s
+passed s [] d k h = absurd (omega arith)
+passed s (b ∷ bs) d zero h = further s b bs zero h .0
+passed s (b ∷ bs) d (suc k) h = passed s bs d k (omega (arith, further s b bs (suc k) h))
+
+-- every class before that of s has a smaller block than s
+pub smallest : (s d : ℕ) → d < classOf s → block d < s
+unfolding classOf
+smallest s d h = rw (rows d .0) (passed s blocks 8 d h)
+
+-- a size up to 256 has a class
+pub is-class : (s : ℕ) → s ≤ 256 → classOf s < 16
+unfolding units
+is-class s h = elim (decLt (classOf s) 16) [
+  | yes k ↦ k
+  | no k ↦ absurd (omega (arith, smallest s 15 (omega arith)))
+]
+
+-- .. whose block holds it
+pub holds : (s : ℕ) → s ≤ 256 → s ≤ block (classOf s)
+unfolding classOf
+holds s h = rw (rows (classOf s) .0) (found s blocks 8 (is-class s h))
+
+-- a size and the bytes of its units, rounded up, have one class
+pub rounded : (s : ℕ) → s ≤ 256 → classOf (8 * ((s + 7) / 8)) ≡ classOf s
+rounded s h =
+    let w = 8 * ((s + 7) / 8) in
+    elim (decLt (classOf s) (classOf w)) [
+      | yes k ↦ absurd (omega (arith, smallest w (classOf s) k, holds s h))
+      | no k ↦ elim (decLt (classOf w) (classOf s)) [
+        | yes j ↦ absurd (omega (arith, smallest s (classOf w) j, holds w (omega arith)))
+        | no j ↦ omega arith
+      ]
+    ]
+
+-- less than a quarter of its block is left over by size s
+abbrev little : ℕ → Bool
+little s = ltb (4 * (block (classOf s) - s)) (block (classOf s))
+
+-- so it is for the sizes from 25 up
+pub quarter : (s : ℕ) → 25 ≤ s → s ≤ 256 → 4 * (block (classOf s) - s) < block (classOf s)
+unfolding classOf units
+quarter s l h =
+    let e : 25 + (s - 25) ≡ s = omega arith in
+    ltb→lt (4 * (block (classOf s) - s)) (block (classOf s))
+    (subst (λ (k : ℕ). T (little k)) e (at (λ k. little (25 + k)) 232 tt (s - 25) (omega arith)))
+
+-- and at 17 it is not
+pub not-at-17 : 4 * (block (classOf 17) - 17) < block (classOf 17) → ⊥
+unfolding classOf units
+not-at-17 h = omega arith
+
+-- the three answers: size 0,
+pub refuses-none : (s : ℕ) → s ≡ 0 → choice s ≡ Refused 8
+unfolding choice
+refuses-none s e = rw (eq-eqb s 0 e)
+
+-- a size above 256,
+pub refuses-large : (s : ℕ) → 256 < s → choice s ≡ Refused 9
+unfolding choice
+refuses-large s h = rw (ne-eqb s 0 (omega arith), lt-ltb 256 s h)
+
+-- and the others
+pub serves : (s : ℕ) → 1 ≤ s → s ≤ 256 → choice s ≡ Class (classOf s)
+unfolding choice
+serves s l h = rw (ne-eqb s 0 (omega arith), le-ltb 256 s h)

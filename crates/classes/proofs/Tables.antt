@@ -1,0 +1,93 @@
+-- The laws of the table of classes.
+-- Assumes nothing.
+use mathlib.Core.Path.{_≡_, refl}
+use mathlib.Core.Bool.{Bool}
+use mathlib.Core.List.{List, [], _∷_}
+use Prim.Native.Nat.{ℕ, zero, suc, _*_, _/_, _≤_, _<_}
+use native.Mathlib.Omega.{arith}
+use native.Mathlib.Decide.{decLt}
+use lib.Dec.{T, leb, ltb, eqb, leb→le, ltb→lt, eqb→eq}
+use lib.ListN.{length, getD, List·getD-eq-default}
+use Rattle.classes.specs.Classes.{blocks, counts, units, block, perRegion}
+use Rattle.classes.proofs.Below.{all, at}
+
+-- a test of the two entries of class c, its block and its n; past the table they are those of class 0
+entry : (ℕ → ℕ → Bool) → ℕ → Bool
+entry f c = f (getD blocks c 8) (getD counts c 512)
+
+-- a test that passes at the sixteen classes, and at class 0 again, passes at every c
+every-class : (f : ℕ → ℕ → Bool) → T (all (entry f) 17) → (c : ℕ) → T (entry f c)
+unfolding entry
+every-class f t c = elim (decLt c 16) [
+  | yes h ↦ at (entry f) 17 t c (omega arith)
+  | no h ↦ (let past : 16 ≤ c = omega arith in
+      rw (List·getD-eq-default blocks 8 past, List·getD-eq-default counts 512 past)
+      (at (entry f) 17 t 16 (omega arith)))
+]
+
+-- the definitions are the table's rows
+pub rows : (c : ℕ) → (block c ≡ getD blocks c 8) × (perRegion c ≡ getD counts c 512)
+unfolding units perRegion entry
+rows c = (eqb→eq (block c) (getD blocks c 8) (every-class (λ b n. eqb (8 * (b / 8)) b) tt c), refl)
+
+-- n is the number of blocks that fit in the 4,096 bytes of a region
+pub perRegion-is : (c : ℕ) → perRegion c ≡ 4096 / block c
+unfolding units perRegion entry
+perRegion-is c =
+    eqb→eq (perRegion c) (4096 / block c) (every-class (λ b n. eqb n (4096 / (8 * (b / 8)))) tt c)
+
+-- a block has at least one unit
+pub units-low : (c : ℕ) → 1 ≤ units c
+unfolding units entry
+units-low c = leb→le 1 (units c) (every-class (λ b n. leb 1 (b / 8)) tt c)
+
+-- .. and at most 32
+pub units-high : (c : ℕ) → units c ≤ 32
+unfolding units entry
+units-high c = leb→le (units c) 32 (every-class (λ b n. leb (b / 8) 32) tt c)
+
+-- a region has at least 16 blocks
+pub perRegion-low : (c : ℕ) → 16 ≤ perRegion c
+unfolding perRegion entry
+perRegion-low c = leb→le 16 (perRegion c) (every-class (λ b n. leb 16 n) tt c)
+
+-- .. and at most 512
+pub perRegion-high : (c : ℕ) → perRegion c ≤ 512
+unfolding perRegion entry
+perRegion-high c = leb→le (perRegion c) 512 (every-class (λ b n. leb n 512) tt c)
+
+-- its blocks fit into its 512 units
+pub fits : (c : ℕ) → units c * perRegion c ≤ 512
+unfolding units perRegion entry
+fits c = leb→le (units c * perRegion c) 512 (every-class (λ b n. leb (b / 8 * n) 512) tt c)
+
+-- an entry of a row is the same whatever is read past the row's end
+within : (l : List ℕ) (k d e : ℕ) → k < length l → getD l k d ≡ getD l k e
+within [] k d e h = absurd (omega arith)
+within (a ∷ l) zero d e h = refl
+within (a ∷ l) (suc k) d e h = within l k d e (omega arith)
+
+-- so a table that is the row of blocks gives a class's units
+pub units-entry : (c : ℕ) → c < 16 → getD blocks c 0 / 8 ≡ units c
+unfolding units
+units-entry c h = rw (within blocks c 0 8 h)
+
+-- .. and one that is the row of counts its n
+pub perRegion-entry : (c : ℕ) → c < 16 → getD counts c 0 ≡ perRegion c
+unfolding perRegion
+perRegion-entry c h = within counts c 0 512 h
+
+-- the block of the class after c is larger
+next : ℕ → Bool
+next c = ltb (units c) (units (suc c))
+
+-- blocks rise from class to class
+pub rise : (c d : ℕ) → c < d → d < 16 → units c < units d
+unfolding next units
+rise c zero h l = absurd (omega arith)
+rise c (suc d) h l =
+    let s : units d < units (suc d) = ltb→lt (units d) (units (suc d)) (at next 15 tt d (omega arith)) in
+    elim (decLt c d) [
+      | yes k ↦ omega (arith, rise c d k (omega arith))
+      | no k ↦ (let e : c ≡ d = omega arith in rw e s)
+    ]

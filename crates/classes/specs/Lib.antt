@@ -1,0 +1,3 @@
+pub mod Classes
+pub mod Sizes
+pub mod Places

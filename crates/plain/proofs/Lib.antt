@@ -1,0 +1,2 @@
+-- Rows of the bench table, on the plain pool.
+pub mod Bench

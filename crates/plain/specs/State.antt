@@ -1,0 +1,128 @@
+-- What the plain pool keeps: rows and plain numbers, no links and no head words.
+-- Assumes nothing.
+use mathlib.Core.List.{List}
+use Prim.Native.Nat.{ℕ, _+_}
+use Rattle.rows.specs.Update.{update}
+
+-- an anchor's "state .. (0 EMPTY, 1 PARTIAL, 2 FULL)"
+pub data State : Type 0 where
+  EMPTY PARTIAL FULL : State
+
+abbrev pub numberOf : State → ℕ
+numberOf EMPTY = 0
+numberOf PARTIAL = 1
+numberOf FULL = 2
+
+-- "each descriptor's state, region, class and chain, a row of blocks"
+pub record Descriptor : Type 0 where
+  pub state : State
+  pub region : ℕ
+  pub class : ℕ
+  pub chain : List ℕ
+
+-- "An anchor read notes the state and the chain's first block, if any, and length": the block's unit plus one, 0 for none
+pub record Note : Type 0 where
+  pub state : State
+  pub first : ℕ
+  pub length : ℕ
+
+-- The three steps of a pop and of a push: "read head .. ; read the item's next; exchange" and "read head; write the item's
+-- next; exchange". "A head read notes the list's number of won exchanges, whether or not the row is empty": the number stays
+-- noted until the exchange. A pop that finds its list empty is over, and keeps no note.
+pub data Phase : Type 0 where
+  read : Phase
+  next : ℕ → Phase
+  exchange : ℕ → Phase
+
+-- The pops of the step list, each with what the task has under way: c the class, d a descriptor.
+pub data Pop : Type 0 where
+  -- allocate, step 2: "Pop the class's partial list"
+  partial : (c : ℕ) → Pop
+  -- allocate, step 5: "Pop a spare descriptor"
+  spare : (c : ℕ) → Pop
+  -- allocate, step 6: "Pop a spare region", with the descriptor popped before
+  region : (c d : ℕ) → Pop
+
+-- The pushes of the step list: u is the block being freed, w the state in which its free found the anchor, r a region.
+pub data Push : Type 0 where
+  -- allocate, step 3: "EMPTY: push the descriptor on the spare list"
+  retire : (c d : ℕ) → Push
+  -- allocate, step 6: "Empty: push the descriptor back"
+  back : (c d : ℕ) → Push
+  -- free, step 4: "then push that region on its spare list"
+  release : (c u d : ℕ) (w : State) (r : ℕ) → Push
+  -- free, step 5: "push the descriptor on the partial list"
+  offer : (c u d : ℕ) → Push
+
+-- "each task's request, place in the step list, what it noted and what it has under way". A place is named by its pop or push,
+-- or by its step: a of Allocate, f of Free. y is the first block of a group and g the others.
+pub data Place : Type 0 where
+  idle : Place
+  a1 : (c : ℕ) → Place
+  popping : Pop → Phase → Place
+  pushing : Push → Phase → Place
+  a3-read : (c d : ℕ) → Place
+  a3-exchange : (c d : ℕ) (n : Note) → Place
+  -- what is left of the chain that was taken: its first block x, which is moved next, and the others
+  a4 : (c x : ℕ) (q : List ℕ) → Place
+  a7 : (c d r : ℕ) → Place
+  -- block i of the region r is carved next
+  a8 : (c r i : ℕ) → Place
+  f1 : (c u : ℕ) → Place
+  -- the group so far
+  f2 : (c u : ℕ) (g : List ℕ) → Place
+  f3-read : (c u y : ℕ) (g : List ℕ) → Place
+  f3-link : (c u y : ℕ) (g : List ℕ) (d : ℕ) (n : Note) → Place
+  f3-exchange : (c u y : ℕ) (g : List ℕ) (d : ℕ) (n : Note) → Place
+  f4-clear : (c u d : ℕ) (w : State) (r : ℕ) → Place
+
+-- a task: its place, and "the caches as rows", one for each class
+pub record Task : Type 0 where
+  pub place : Place
+  pub cache : ℕ → List ℕ
+
+-- The lists by number: 0 to 15 the partial descriptors of each class, then these two.
+abbrev pub SPARES : ℕ
+SPARES = 16
+
+abbrev pub REGIONS : ℕ
+REGIONS = 17
+
+-- "each list as a row from the top, with the number of its won exchanges since the start, never wrapping; .. the map; the
+-- caches as rows; the blocks in users' hands", with the descriptors and the tasks above
+pub record Mem : Type 0 where
+  pub row : ℕ → List ℕ
+  pub won : ℕ → ℕ
+  pub descriptor : ℕ → Descriptor
+  -- the descriptor that a region's entry names, plus one; 0 for none
+  pub map : ℕ → ℕ
+  -- 1 for a block in a user's hands, by its unit, else 0
+  pub hands : ℕ → ℕ
+  pub task : ℕ → Task
+
+abbrev pub setTask : ℕ → Task → Mem → Mem
+setTask t T m =
+    record { row = m .row; won = m .won; descriptor = m .descriptor; map = m .map; hands = m .hands; task = update (m .task) t T }
+
+-- a won exchange of the list ℓ, after which its row is q: "takes or puts the top item and adds one"
+abbrev pub setRow : ℕ → List ℕ → Mem → Mem
+setRow ℓ q m = record {
+  row = update (m .row) ℓ q;
+  won = update (m .won) ℓ (m .won ℓ + 1);
+  descriptor = m .descriptor;
+  map = m .map;
+  hands = m .hands;
+  task = m .task;
+}
+
+abbrev pub setDescriptor : ℕ → Descriptor → Mem → Mem
+setDescriptor d D m =
+    record { row = m .row; won = m .won; descriptor = update (m .descriptor) d D; map = m .map; hands = m .hands; task = m .task }
+
+abbrev pub setMap : ℕ → ℕ → Mem → Mem
+setMap r z m =
+    record { row = m .row; won = m .won; descriptor = m .descriptor; map = update (m .map) r z; hands = m .hands; task = m .task }
+
+abbrev pub setHands : ℕ → ℕ → Mem → Mem
+setHands u b m =
+    record { row = m .row; won = m .won; descriptor = m .descriptor; map = m .map; hands = update (m .hands) u b; task = m .task }
