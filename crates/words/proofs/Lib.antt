@@ -1,0 +1,4 @@
+pub mod Heads
+pub mod Anchors
+pub mod Bits
+pub mod Marks
