@@ -10,9 +10,10 @@ use native.Mathlib.Decide.{ℕ-discrete, decLt}
 use borrow.Author.Tests.{leb-true, eq-eqb, ne-eqb}
 use lib.ListN.{length}
 use lib.Dec.{leb}
+use Rattle.fields.specs.Little.{Bytes}
 use Rattle.fields.specs.Columns.{Column, times, pastOf, inOrder, Field, View, Write, _:=_, assign, assigned}
 use Rattle.fields.specs.Columns.{columnOf, at, width, Has, view, write, written, Sound}
-use Rattle.fields.proofs.Numbers.{getLE-same, length-setLE}
+use Rattle.fields.proofs.Numbers.{getLE-same, length-setLE, bytes-setLE}
 use Rattle.fields.proofs.Elsewhere.{getLE-other}
 
 -- `times` is the product
@@ -133,3 +134,9 @@ module _ (size : ℕ) (table : List Column) (o : inOrder size 0 table ≡ true) 
 pub length-written : (table : List Column) (ws : List Write) (b : List ℕ) → length (written table ws b) ≡ length b
 length-written table [] b = refl
 length-written table ((f := x) ∷ ws) b = length-written table ws (write table (f := x) b) ∙ length-setLE b (at table f) (width table f) x
+
+-- writes leave a memory of bytes
+pub bytes-written : (table : List Column) (ws : List Write) (b : List ℕ) → Bytes b → Bytes (written table ws b)
+bytes-written table [] b h = h
+bytes-written table ((f := x) ∷ ws) b h =
+    bytes-written table ws (write table (f := x) b) (bytes-setLE b (at table f) (width table f) x h)

@@ -1,2 +1,29 @@
--- Rows of the bench table, on the plain pool.
+-- Laws of the plain pool: rows of the bench table, and the invariant.
 pub mod Bench
+pub mod Tests
+pub mod Blocks
+pub mod States
+pub mod Held
+pub mod Homes
+pub mod Notes
+pub mod Turn
+pub mod Places
+pub mod Owners
+pub mod Caches
+pub mod Exchanged
+pub mod Continues
+pub mod Lists
+pub mod Anchors
+pub mod Takes
+pub mod Regions
+pub mod Groups
+pub mod Returns
+pub mod Steps
+pub mod Starts
+pub mod Begins
+pub mod Always
+pub mod Codes
+pub mod Answers
+pub mod Never
+pub mod OnePlace
+pub mod Theorems

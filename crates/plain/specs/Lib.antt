@@ -1,5 +1,14 @@
--- The plain pool: what it keeps, its steps, its calls.
+-- The plain pool: what it keeps, its steps, its calls; and its invariant.
 pub mod State
 pub mod Moves
 pub mod Steps
 pub mod Calls
+pub mod Blocks
+pub mod States
+pub mod Held
+pub mod Weights
+pub mod Places
+pub mod Invariant
+pub mod Codes
+pub mod Never
+pub mod OnePlace

@@ -1,0 +1,15 @@
+-- The number of an answer is its code and 256 times its value. Assumes nothing.
+use mathlib.Core.Path.{_≡_, refl}
+use Prim.Native.Nat.{ℕ, _+_, _*_}
+use native.Mathlib.Omega.{arith}
+use Rattle.control.specs.Answers.{codeOf, valueOf, numberOf}
+use Rattle.control.specs.declared.answer.Answer.{Answer}
+use Rattle.control.specs.declared.answer.Answer.the-variants.{Accepted, Allocated, Freed, NoDescriptor, NoRegion, Refused}
+
+pub number-is : (a : Answer) → numberOf a ≡ codeOf a + 256 * valueOf a
+number-is Accepted = refl
+number-is (Allocated u) = refl
+number-is Freed = refl
+number-is NoDescriptor = refl
+number-is NoRegion = refl
+number-is (Refused n) = omega arith

@@ -1,0 +1,3 @@
+-- The control memory.
+pub mod Layout
+pub mod Answers

@@ -1,0 +1,32 @@
+// What a call answers.
+ghost use mathlib.Core.Path.{_≡_};
+ghost use Rattle.control.specs.Answers.{numberOf};
+
+pub enum Answer {
+    // Accepted, or still under way.
+    Accepted,
+    // An allocation finished with the block at this unit.
+    Allocated(u16),
+    // A free finished.
+    Freed,
+    // The request ended: no descriptor.
+    NoDescriptor,
+    // The request ended: no region.
+    NoRegion,
+    // The call was refused by this number and changed nothing.
+    Refused(u8),
+}
+
+// The answer as one number for C: the code, and 256 times the value.
+pub fn number(a: Answer) -> u64
+    ensures { λ r. ⌜ r ≡ numberOf a ⌝ }
+{
+    match a {
+        Answer::Accepted => 0,
+        Answer::Allocated(unit) => 20 + 256 * (unit as u64),
+        Answer::Freed => 20,
+        Answer::NoDescriptor => 12,
+        Answer::NoRegion => 13,
+        Answer::Refused(n) => n as u64,
+    }
+}

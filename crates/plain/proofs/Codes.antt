@@ -1,0 +1,264 @@
+-- The codes of a step, in every state: one pass over the step list.
+-- Assumes nothing.
+use mathlib.Core.Path.{_≡_, refl, sym, ap, _∙_}
+use mathlib.Core.Logic.{_≢_}
+use mathlib.Core.List.{List, [], _∷_, _++_}
+use Prim.Native.Nat.{ℕ, zero, suc, _+_, _≤_}
+use native.Mathlib.Omega.{arith}
+use native.Mathlib.Decide.{ℕ-discrete, decLt}
+use lib.ListN.{length}
+use Rattle.rows.specs.Branch.{if}
+use Rattle.rows.specs.Update.{update}
+use Rattle.rows.proofs.Update.{update-same, update-all}
+use Rattle.classes.specs.Classes.{perRegion}
+use Rattle.classes.specs.Places.{unitOf, regionOf}
+use Rattle.plain.specs.State.{State, EMPTY, PARTIAL, FULL, Phase, read, next, exchange, Pop, partial, spare}
+use Rattle.plain.specs.State.{region, Push, retire, back, release, offer, Place, idle, a1, popping, pushing}
+use Rattle.plain.specs.State.{a3-read, a3-exchange, a4, a7, a8, f1, f2, f3-read, f3-link, f3-exchange}
+use Rattle.plain.specs.State.{f4-clear, Task, SPARES, REGIONS, Mem}
+use Rattle.plain.specs.Moves.{Decided, nothing, lost, Answer, going, finished, refused}
+use Rattle.plain.specs.Steps.{popList, pushList, f6, f5, moving, whenPopped, asNoted?, at, cached, popRead}
+use Rattle.plain.specs.Steps.{popTake, pushPut, a1Step, a3Read, closed, f2Step, f3Read, returned, stepAt}
+use Rattle.plain.specs.Steps.{step}
+use Rattle.plain.specs.Codes.{StepCode, under-way, no-request, no-descriptor, no-region, finishes}
+use Rattle.plain.specs.Codes.{WayBack, stays, comes, StepFacts}
+use Rattle.plain.proofs.Tests.{either}
+
+-- 1 for a push of a descriptor back, else 0
+abbrev isBack : Place → ℕ
+isBack idle = 0
+isBack (a1 c) = 0
+isBack (popping p φ) = 0
+isBack (pushing (retire c d) φ) = 0
+isBack (pushing (back c d) φ) = 1
+isBack (pushing (release c u d w r) φ) = 0
+isBack (pushing (offer c u d) φ) = 0
+isBack (a3-read c d) = 0
+isBack (a3-exchange c d n) = 0
+isBack (a4 c x q) = 0
+isBack (a7 c d r) = 0
+isBack (a8 c r i) = 0
+isBack (f1 c u) = 0
+isBack (f2 c u g) = 0
+isBack (f3-read c u y g) = 0
+isBack (f3-link c u y g d n) = 0
+isBack (f3-exchange c u y g d n) = 0
+isBack (f4-clear c u d w r) = 0
+
+-- where the steps that are no end of a push or a pop lead to is no push back
+f6-back : (c u : ℕ) (q : List ℕ) → isBack (f6 q c u) ≡ 0
+f6-back c u [] = refl
+f6-back c u (x ∷ q) = refl
+
+f5-back : (s : State) (q : List ℕ) (c u d : ℕ) → isBack (f5 s q c u d) ≡ 0
+f5-back EMPTY q c u d = f6-back c u q
+f5-back PARTIAL q c u d = f6-back c u q
+f5-back FULL q c u d = refl
+
+moving-back : (c : ℕ) (q : List ℕ) → isBack (moving c q) ≡ 0
+moving-back c [] = refl
+moving-back c (x ∷ q) = refl
+
+closed-back : (t : ℕ) (k : ℕ → List ℕ) (c u : ℕ) (g : List ℕ) → isBack (closed t k c u g) ≡ 0
+closed-back t k c u [] = f6-back c u (k c)
+closed-back t k c u (y ∷ g) = refl
+
+popped-back : (p : Pop) (x : ℕ) → isBack (whenPopped p x) ≡ 0
+popped-back (partial c) x = refl
+popped-back (spare c) x = refl
+popped-back (region c d) x = refl
+
+-- a won exchange is one more
+one-more : (f : ℕ → ℕ) (i j : ℕ) → update f i (f i + 1) j ≤ f j + 1
+one-more f i = update-all (λ j n. n ≤ f j + 1) f i (f i + 1) (omega arith) (λ j d. omega arith)
+
+-- ---- results that are no end by 12 or 13
+
+-- the code is neither 12 nor 13
+abbrev Plain : ℕ → Type 0
+Plain n = (n ≢ 12) × (n ≢ 13)
+
+plain-0 : Plain 0
+plain-0 = (λ e. absurd (omega arith), λ e. absurd (omega arith))
+
+plain-7 : Plain 7
+plain-7 = (λ e. absurd (omega arith), λ e. absurd (omega arith))
+
+plain-20 : Plain 20
+plain-20 = (λ e. absurd (omega arith), λ e. absurd (omega arith))
+
+module _ (t : ℕ) (m : Mem) where
+  -- the place after a step that sets the task
+  placed-at : (f : ℕ → Task) (T : Task) → update f t T t .place ≡ T .place
+  placed-at f T = ap (λ (U : Task). U .place) (update-same f t T)
+
+  -- A step that sets the task to T, wins at most one exchange of a list and goes to no push back.
+  on : (x : Mem) (a : Answer) (T : Task) → x .task ≡ update (m .task) t T → StepCode (a .code) → Plain (a .code)
+      → isBack (T .place) ≡ 0 → ((ℓ : ℕ) → x .won ℓ ≤ m .won ℓ + 1) → StepFacts t m (x, a)
+  on x a T e s p b w = record {
+    code = s;
+    twelve = λ h. absurd (p .0 h);
+    thirteen = λ h. absurd (p .1 h);
+    wayBack = λ c d φ h.
+        absurd (omega (arith, b, ap isBack (sym (ap (λ f. f t .place) e ∙ placed-at (m .task) T) ∙ h)));
+    won = w;
+  }
+
+  -- Such a step that goes on, ..
+  goes : {x : Mem} {e : Decided} (T : Task) → x .task ≡ update (m .task) t T → isBack (T .place) ≡ 0
+      → ((ℓ : ℕ) → x .won ℓ ≤ m .won ℓ + 1) → StepFacts t m (x, going e)
+  goes {x} {e} T h b w = on x (going e) T h under-way plain-0 b w
+
+  -- .. and one that finishes.
+  done : {x : Mem} {v : ℕ} (T : Task) → x .task ≡ update (m .task) t T → isBack (T .place) ≡ 0
+      → ((ℓ : ℕ) → x .won ℓ ≤ m .won ℓ + 1) → StepFacts t m (x, finished v)
+  done {x} {v} T h b w = on x (finished v) T h finishes plain-20 b w
+
+  -- A step that changes nothing, at a place that is no push back.
+  nothing-done : (a : Answer) → StepCode (a .code) → Plain (a .code) → isBack (m .task t .place) ≡ 0
+      → StepFacts t m (m, a)
+  nothing-done a s p b = record {
+    code = s;
+    twelve = λ h. absurd (p .0 h);
+    thirteen = λ h. absurd (p .1 h);
+    wayBack = λ c d φ h. absurd (omega (arith, ap isBack h));
+    won = λ ℓ. omega arith;
+  }
+
+  -- The place that a push back is at names its class, descriptor and phase.
+  to-back : {c d : ℕ} {ψ : Phase} {e f : ℕ} {φ : Phase} → pushing (back c d) ψ ≡ pushing (back e f) φ
+      → WayBack t m c d ψ → WayBack t m e f φ
+  to-back {c} {d} {ψ} {e} {f} {φ} h w =
+      let a : c ≡ e = cc in
+      let b : d ≡ f = cc in
+      let g : ψ ≡ φ = cc in
+      rw (← a, ← b, ← g) w
+
+module _ (t : ℕ) (k : ℕ → List ℕ) (m : Mem) where
+  -- no exchange is won
+  none-won : (ℓ : ℕ) → m .won ℓ ≤ m .won ℓ + 1
+  none-won ℓ = omega arith
+
+  -- ---- pops
+
+  facts-popRead : (p : Pop) (q : List ℕ) → m .task t .place ≡ popping p read → m .row (popList p) ≡ q
+      → StepFacts t m (popRead t k p q m)
+  facts-popRead (partial c) [] h e = goes t m _ refl refl none-won
+  facts-popRead (spare c) [] h e = record {
+    code = no-descriptor;
+    twelve = λ i. (record { c = c; place = h; row = e }, refl);
+    thirteen = λ i. absurd (omega arith);
+    wayBack = λ c d φ i. absurd (omega (arith, ap isBack (sym (placed-at t m (m .task) _) ∙ i)));
+    won = none-won;
+  }
+  facts-popRead (region c d) [] h e = record {
+    code = under-way;
+    twelve = λ i. absurd (omega arith);
+    thirteen = λ i. absurd (omega arith);
+    wayBack = λ c′ d′ φ i.
+        to-back t m (sym (placed-at t m (m .task) _) ∙ i) (comes (record { place = h; row = e }));
+    won = none-won;
+  }
+  facts-popRead p (x ∷ q) h e = goes t m _ refl refl none-won
+
+  facts-popTake : (p : Pop) (q : List ℕ) → StepFacts t m (popTake t k p q m)
+  facts-popTake p [] = goes t m _ refl refl none-won
+  facts-popTake p (x ∷ q) = goes t m _ refl (popped-back p x) (one-more (m .won) (popList p))
+
+  -- ---- pushes
+
+  facts-pushOn : (p : Push) (φ ψ : Phase) (e : Decided) → m .task t .place ≡ pushing p φ
+      → StepFacts t m (at t k (pushing p ψ) m, going e)
+  facts-pushOn (retire c d) φ ψ e h = goes t m _ refl refl none-won
+  facts-pushOn (back c d) φ ψ e h = record {
+    code = under-way;
+    twelve = λ i. absurd (omega arith);
+    thirteen = λ i. absurd (omega arith);
+    wayBack = λ c′ d′ χ i. to-back t m (sym (placed-at t m (m .task) _) ∙ i) (stays φ h);
+    won = none-won;
+  }
+  facts-pushOn (release c u d w r) φ ψ e h = goes t m _ refl refl none-won
+  facts-pushOn (offer c u d) φ ψ e h = goes t m _ refl refl none-won
+
+  facts-pushPut : (p : Push) (n : ℕ) → m .task t .place ≡ pushing p (exchange n) → m .won (pushList p) ≡ n
+      → StepFacts t m (pushPut t k p m)
+  facts-pushPut (retire c d) n h e = goes t m _ refl refl (one-more (m .won) SPARES)
+  facts-pushPut (back c d) n h e = record {
+    code = no-region;
+    twelve = λ i. absurd (omega arith);
+    thirteen = λ i. (d, record { c = c; n = n; place = h; won = e }, refl);
+    wayBack = λ c d φ i. absurd (omega (arith, ap isBack (sym (placed-at t m (m .task) _) ∙ i)));
+    won = one-more (m .won) SPARES;
+  }
+  facts-pushPut (release c u d w r) n h e = goes t m _ refl (f5-back w (k c) c u d) (one-more (m .won) REGIONS)
+  facts-pushPut (offer c u d) n h e = goes t m _ refl (f6-back c u (k c)) (one-more (m .won) c)
+
+  -- ---- the other steps
+
+  facts-a1 : (c : ℕ) (q : List ℕ) → StepFacts t m (a1Step t k c q m)
+  facts-a1 c [] = goes t m _ refl refl none-won
+  facts-a1 c (x ∷ q) = done t m _ refl refl none-won
+
+  facts-a3 : (c d : ℕ) (s : State) → StepFacts t m (a3Read t k c d s m)
+  facts-a3 c d EMPTY = goes t m _ refl refl none-won
+  facts-a3 c d PARTIAL = goes t m _ refl refl none-won
+  facts-a3 c d FULL = goes t m _ refl refl none-won
+
+  facts-a8 : {P : Type 0} (e : Dec P) (c r i : ℕ) (q : List ℕ)
+      → StepFacts t m (cached t k c q (if e (a1 c) (a8 c r (suc i))) m, going nothing)
+  facts-a8 (yes e) c r i q = goes t m _ refl refl none-won
+  facts-a8 (no e) c r i q = goes t m _ refl refl none-won
+
+  facts-f2 : (c u : ℕ) (q g : List ℕ) → StepFacts t m (f2Step t k c u q g m)
+  facts-f2 c u [] g = goes t m _ refl (closed-back t k c u g) none-won
+  facts-f2 c u (x ∷ q) [] = goes t m _ refl refl none-won
+  facts-f2 c u (x ∷ q) (y ∷ g) =
+      either (StepFacts t m) (ℕ-discrete (regionOf x) (regionOf y)) _ _
+      (λ e. goes t m _ refl refl none-won) (λ e. goes t m _ refl refl none-won)
+
+  facts-f3 : (z c u y : ℕ) (g : List ℕ) → m .task t .place ≡ f3-read c u y g
+      → StepFacts t m (f3Read t k z c u y g m)
+  facts-f3 zero c u y g h = nothing-done t m (going nothing) under-way plain-0 (ap isBack h)
+  facts-f3 (suc d) c u y g h = goes t m _ refl refl none-won
+
+  facts-returned : {P : Type 0} (e : Dec P) (c u y : ℕ) (g : List ℕ) (d : ℕ) (w : State)
+      → StepFacts t m (returned t k e c u y g d w m)
+  facts-returned (yes e) c u y g d w = goes t m _ refl refl none-won
+  facts-returned (no e) c u y g d w = goes t m _ refl (f5-back w (k c) c u d) none-won
+
+  facts-at : (p : Place) → m .task t .place ≡ p → StepFacts t m (stepAt t k p m)
+  facts-at idle h = nothing-done t m (refused 7) no-request plain-7 (ap isBack h)
+  facts-at (a1 c) h = facts-a1 c (k c)
+  facts-at (popping p read) h = facts-popRead p (m .row (popList p)) h refl
+  facts-at (popping p (next n)) h = goes t m _ refl refl none-won
+  facts-at (popping p (exchange n)) h =
+      either (StepFacts t m) (ℕ-discrete (m .won (popList p)) n) _ _
+      (λ e. facts-popTake p (m .row (popList p))) (λ e. goes t m _ refl refl none-won)
+  facts-at (pushing p read) h = facts-pushOn p read (next (m .won (pushList p))) nothing h
+  facts-at (pushing p (next n)) h = facts-pushOn p (next n) (exchange n) nothing h
+  facts-at (pushing p (exchange n)) h =
+      either (StepFacts t m) (ℕ-discrete (m .won (pushList p)) n) _ _
+      (λ e. facts-pushPut p n h e) (λ e. facts-pushOn p (exchange n) read (lost (pushList p)) h)
+  facts-at (a3-read c d) h = facts-a3 c d (m .descriptor d .state)
+  facts-at (a3-exchange c d n) h =
+      either (StepFacts t m) (asNoted? (m .descriptor d) n) _ _
+      (λ e. goes t m _ refl (moving-back c (m .descriptor d .chain)) none-won) (λ e. goes t m _ refl refl none-won)
+  facts-at (a4 c x q) h = goes t m _ refl (moving-back c q) none-won
+  facts-at (a7 c d r) h = goes t m _ refl refl none-won
+  facts-at (a8 c r i) h = facts-a8 (ℕ-discrete (suc i) (perRegion c)) c r i (unitOf r c i ∷ k c)
+  facts-at (f1 c u) h =
+      either (StepFacts t m) (decLt (length (k c)) (perRegion c)) _ _
+      (λ e. done t m _ refl refl none-won) (λ e. goes t m _ refl refl none-won)
+  facts-at (f2 c u g) h = facts-f2 c u (k c) g
+  facts-at (f3-read c u y g) h = facts-f3 (m .map (regionOf y)) c u y g h
+  facts-at (f3-link c u y g d n) h = goes t m _ refl refl none-won
+  facts-at (f3-exchange c u y g d n) h =
+      either (StepFacts t m) (asNoted? (m .descriptor d) n) _ _
+      (λ e. facts-returned (ℕ-discrete (length (y ∷ (g ++ m .descriptor d .chain))) (perRegion c))
+      c u y g d (n .state)) (λ e. goes t m _ refl refl none-won)
+  facts-at (f4-clear c u d w r) h = goes t m _ refl refl none-won
+
+-- What every step answers, in every state.
+pub step-facts : (t : ℕ) (m : Mem) → StepFacts t m (step t m)
+unfolding step
+step-facts t m = facts-at t (m .task t .cache) m (m .task t .place) refl

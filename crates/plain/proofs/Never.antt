@@ -1,0 +1,86 @@
+-- What never happens in a pool that has the invariant.
+-- Assumes nothing.
+use mathlib.Core.Path.{_≡_, refl, ap}
+use mathlib.Core.List.{List, [], _∷_}
+use Prim.Native.Nat.{ℕ, _≤_, _<_}
+use native.Mathlib.Omega.{arith}
+use lib.ListN.{length}
+use Rattle.rows.proofs.Weights.{when-same}
+use Rattle.plain.specs.State.{State, EMPTY, PARTIAL, FULL, numberOf, Note, a3-exchange, f3-read, f3-link}
+use Rattle.plain.specs.State.{f3-exchange, Mem}
+use Rattle.plain.specs.Steps.{popList, AsNoted}
+use Rattle.plain.specs.States.{isFull}
+use Rattle.plain.specs.Invariant.{Invariant}
+use Rattle.plain.specs.Never.{Top, GroupFits, GroupNamed, NeverHappens}
+use Rattle.plain.proofs.States.{is-open}
+use Rattle.plain.proofs.Places.{turnAt, placeHolds, noteHolds}
+use Rattle.plain.proofs.Owners.{home-of}
+use Rattle.plain.proofs.Anchors.{in-hand}
+use Rattle.plain.proofs.Takes.{taken}
+use Rattle.plain.proofs.Groups.{Grouped, group-fits}
+
+-- A row with an item has a top item.
+pub top-item : (q : List ℕ) → 1 ≤ length q → Top q
+top-item [] h = absurd (omega arith)
+top-item (x ∷ q) h = record { item = x; rest = q; is = refl }
+
+-- A state with the number 1 is PARTIAL.
+partial-is : (s : State) → numberOf s ≡ 1 → s ≡ PARTIAL
+partial-is EMPTY e = absurd (omega arith)
+partial-is PARTIAL e = refl
+partial-is FULL e = absurd (omega arith)
+
+module _ {area : ℕ} {m : Mem} {t : ℕ} (I : Invariant area m) (l : t < 8) where
+  reads : (c u y : ℕ) (g : List ℕ) → m .task t .place ≡ f3-read c u y g → GroupNamed m c y g
+  reads c u y g e =
+      let w = turnAt I l e in
+      let f = home-of w y (omega (arith, when-same y 1)) in
+      let group : Grouped m (f3-read c u y g) c u y g (f .d) =
+      record { blocks = refl; class = refl; together = placeHolds w .2; named = f .named } in
+      record {
+        d = f .d;
+        fits = f .fits;
+        entry = f .named;
+        opens = (f .region, is-open (m .descriptor (f .d) .state) (f .counts));
+        class = f .class;
+        count = group-fits w group;
+      }
+
+  takes : (c d : ℕ) (n : Note) → m .task t .place ≡ a3-exchange c d n → AsNoted (m .descriptor d) n
+      → (n .state ≡ PARTIAL) × Top (m .descriptor d .chain)
+  takes c d n e s =
+      let T = taken (turnAt I l e) s in (
+        partial-is (n .state) (omega (arith, s, ap numberOf (T .state))),
+        top-item (m .descriptor d .chain) (T .chain .0),
+      )
+
+  links : (c u y : ℕ) (g : List ℕ) (d : ℕ) (n : Note) → m .task t .place ≡ f3-link c u y g d n
+      → GroupFits m c y g d (n .length)
+  links c u y g d n e =
+      let w = turnAt I l e in
+      let o = placeHolds w in
+      let group : Grouped m (f3-link c u y g d n) c u y g d =
+      record { blocks = refl; class = refl; together = o .2; named = o .3 } in
+      record { now = group-fits w group; then = o .4 }
+
+  returns : (c u y : ℕ) (g : List ℕ) (d : ℕ) (n : Note) → m .task t .place ≡ f3-exchange c u y g d n
+      → GroupFits m c y g d (n .length)
+  returns c u y g d n e =
+      let w = turnAt I l e in
+      let o = placeHolds w in
+      let group : Grouped m (f3-exchange c u y g d n) c u y g d =
+      record { blocks = refl; class = refl; together = o .2; named = o .3 } in
+      record { now = group-fits w group; then = o .4 }
+
+  -- What never happens at a step of the task t.
+  pub never : NeverHappens m t
+  never = record {
+    popExchange = λ p n e h. top-item (m .row (popList p)) (noteHolds (turnAt I l e) .1 h);
+    groupStep = λ c u g e h. top-item g (omega (arith, placeHolds (turnAt I l e), ap length h));
+    freeReads = reads;
+    allocateReads = λ c d e h.
+        absurd (omega (arith, in-hand (turnAt I l e) d (omega (arith, when-same d 1)), ap isFull h));
+    allocateTakes = takes;
+    freeLinks = links;
+    freeReturns = returns;
+  }

@@ -1,0 +1,172 @@
+-- Step 3 of a free: its group goes before its region's chain; at n blocks the region closes.
+-- Assumes nothing.
+use mathlib.Core.Path.{_≡_, refl, sym, ap, _∙_}
+use mathlib.Core.List.{List, _∷_, _++_}
+use Prim.Native.Nat.{ℕ, _+_, _≤_}
+use native.Mathlib.Omega.{arith}
+use native.Mathlib.Decide.{ℕ-discrete}
+use lib.ListN.{length}
+use Rattle.rows.specs.Weights.{when, one}
+use Rattle.rows.specs.Counting.{count}
+use Rattle.rows.proofs.Weights.{when-add, when-le, when-zero}
+use Rattle.classes.specs.Classes.{perRegion}
+use Rattle.plain.specs.State.{State, EMPTY, PARTIAL, FULL, numberOf, Descriptor, Note, f3-exchange, Mem}
+use Rattle.plain.specs.Steps.{AsNoted, asNoted?, returned, f3Exchange}
+use Rattle.plain.specs.Blocks.{isBlock}
+use Rattle.plain.specs.States.{isFull}
+use Rattle.plain.specs.Held.{owed}
+use Rattle.plain.specs.Invariant.{all-returned}
+use Rattle.plain.proofs.Tests.{either, Kept}
+use Rattle.plain.proofs.Turn.{Turn}
+use Rattle.plain.proofs.Places.{taskOf, placeHolds, placed}
+use Rattle.plain.proofs.Owners.{Owner}
+use Rattle.plain.proofs.Continues.{f5-held, f5-holds, f5-note}
+use Rattle.plain.proofs.Anchors.{anchored}
+use Rattle.plain.proofs.Groups.{Grouped, group-owner, group-opened, group-joined, group-fits}
+use Rattle.plain.proofs.Groups.{group-whole}
+
+-- ---- what a free owes
+
+-- A free that found FULL owes the descriptor, which then is no longer counted as FULL.
+owed-full : (s s′ : State) (x d : ℕ) → numberOf s ≡ numberOf s′ → count x (owed s′ d) ≡ when x d (isFull s)
+owed-full EMPTY EMPTY x d e = sym (when-zero x d)
+owed-full EMPTY PARTIAL x d e = absurd (omega arith)
+owed-full EMPTY FULL x d e = absurd (omega arith)
+owed-full PARTIAL EMPTY x d e = absurd (omega arith)
+owed-full PARTIAL PARTIAL x d e = sym (when-zero x d)
+owed-full PARTIAL FULL x d e = absurd (omega arith)
+owed-full FULL EMPTY x d e = absurd (omega arith)
+owed-full FULL PARTIAL x d e = absurd (omega arith)
+owed-full FULL FULL x d e = omega arith
+
+-- It owes no other descriptor.
+owed-le : (s : State) (x d : ℕ) → count x (owed s d) ≤ one x d
+owed-le EMPTY x d = omega arith
+owed-le PARTIAL x d = omega arith
+owed-le FULL x d = omega arith
+
+-- ---- the won exchange
+
+module _ {area : ℕ} {m : Mem} {t c u y d : ℕ} {g : List ℕ} {n : Note} {k : ℕ → List ℕ}
+    (w : Turn area m t (taskOf (f3-exchange c u y g d n) k)) where
+  -- the descriptor before the exchange
+  abbrev D : Descriptor
+  D = m .descriptor d
+
+  -- the group and the chain
+  abbrev joined : List ℕ
+  joined = y ∷ (g ++ m .descriptor d .chain)
+
+  group : Grouped m (f3-exchange c u y g d n) c u y g d
+  group = record { blocks = refl; class = refl; together = placeHolds w .2; named = placeHolds w .3 }
+
+  own : Owner m c y d
+  own = group-owner w group
+
+  -- the descriptor is of the class
+  of-class : (f z : ℕ) → when f (m .descriptor d .class) z ≡ when f c z
+  of-class f z = ap (λ (x : ℕ). when f x z) (own .class)
+
+  -- The group leaves what is under way and joins the chain.
+  moved : (v : ℕ) → count v (u ∷ y ∷ g) + count v (m .descriptor d .chain) ≡ (one v u + 0) + count v joined
+  moved v = omega (arith, group-joined w group v)
+
+  moved-class : (f v : ℕ) → when f c (count v (u ∷ y ∷ g)) + when f c (count v (m .descriptor d .chain))
+      ≡ when f c (one v u + 0) + when f c (count v joined)
+  moved-class f v = omega (
+    arith,
+    when-add f c (count v (u ∷ y ∷ g)) (count v (m .descriptor d .chain)),
+    when-add f c (one v u + 0) (count v joined),
+    ap (when f c) (moved v),
+  )
+
+  -- The descriptor that is owed is of the class.
+  owed-class : (f x : ℕ) → when f c (count x (owed (n .state) d)) ≤ when f (m .descriptor d .class) (one x d)
+  owed-class f x = omega (
+    arith,
+    when-le f c (count x (owed (n .state) d)) (one x d) (owed-le (n .state) x d),
+    of-class f (one x d),
+  )
+
+  -- Fewer than n blocks: PARTIAL.
+  to-partial : AsNoted (m .descriptor d) n → (h : ¬ (length joined ≡ perRegion c))
+      → Kept area (returned t k (no h) c u y g d (n .state) m)
+  to-partial s no-end =
+      let o = own .counts in
+      anchored w _ d _ (f5-held (n .state) c u d (k c)) (record {
+        fits = own .fits;
+        counts = o;
+        class = refl;
+        region = refl;
+        descriptors = λ x. omega (arith, owed-full (D .state) (n .state) x d (s .0 .0), when-zero x d);
+        regions = λ r. omega (arith, o (one r (D .region)));
+        unmapped = λ r. omega arith;
+        classes = λ f x. omega (arith, owed-class f x);
+        spares = λ x. omega arith;
+        blocks = λ v. omega (arith, moved v, o (count v (D .chain)), o (isBlock v (D .region) (D .class)));
+        blockClasses = λ f v. omega (
+          arith,
+          moved-class f v,
+          o (when f (D .class) (count v (D .chain))),
+          o (when f (D .class) (isBlock v (D .region) (D .class))),
+          of-class f (count v (D .chain)),
+          of-class f (count v joined),
+        );
+        chain = record {
+          fits = group-opened w group .fits;
+          inside = λ v. group-joined w group v .1;
+          sized = (omega arith, omega (arith, group-fits w group, ap perRegion (own .class)));
+        };
+        closed = tt;
+      })
+      (f5-holds (m .map) k (n .state) c u d (placeHolds w .0) (omega (arith, placeHolds w .1)))
+      (f5-note _ _ (n .state) c u d (k c))
+
+  -- n blocks: EMPTY, and the region is no longer open, but held by the task.
+  to-empty : AsNoted (m .descriptor d) n → (h : length joined ≡ perRegion c)
+      → Kept area (returned t k (yes h) c u y g d (n .state) m)
+  to-empty s end =
+      let o = own .counts in
+      anchored w _ d _ refl (record {
+        fits = own .fits;
+        counts = o;
+        class = refl;
+        region = refl;
+        descriptors = λ x. omega (arith, owed-full (D .state) (n .state) x d (s .0 .0), when-zero x d);
+        regions = λ r. omega (arith, o (one r (D .region)), ap (one r) (own .region));
+        unmapped = λ r. omega arith;
+        classes = λ f x. omega (arith, owed-class f x);
+        spares = λ x. omega arith;
+        blocks = λ v. omega (
+          arith,
+          moved v,
+          group-whole w group end v,
+          o (count v (D .chain)),
+          o (isBlock v (D .region) (D .class)),
+        );
+        blockClasses = λ f v. omega (
+          arith,
+          moved-class f v,
+          o (when f (D .class) (count v (D .chain))),
+          o (when f (D .class) (isBlock v (D .region) (D .class))),
+          of-class f (count v (D .chain)),
+          of-class f (isBlock v (D .region) (D .class)),
+          ap (when f c) (group-whole w group end v),
+        );
+        chain = tt;
+        closed = all-returned (group-opened w group .fits) (λ v. sym (group-whole w group end v))
+            (end ∙ ap perRegion (sym (own .class)));
+      })
+      (placeHolds w .0, omega (arith, placeHolds w .1)) tt
+
+  -- The exchange, won or lost.
+  pub f3-exchange-inv : Kept area (f3Exchange t k c u y g d n m)
+  f3-exchange-inv = either (Kept area) (asNoted? (m .descriptor d) n) _ _
+      (λ s. by (ℕ-discrete (length joined) (perRegion c)) (to-empty s) (to-partial s))
+      (λ s. placed w _ refl (placeHolds w .0, placeHolds w .1, placeHolds w .2) tt)
+    where
+      by : {P : Type 0} (e : Dec P) → ((h : P) → Kept area (returned t k (yes h) c u y g d (n .state) m))
+          → ((h : ¬ P) → Kept area (returned t k (no h) c u y g d (n .state) m))
+          → Kept area (returned t k e c u y g d (n .state) m)
+      by (yes h) a b = a h
+      by (no h) a b = b h

@@ -1,0 +1,226 @@
+-- One task's turn: what a step has to show of what it changes, and that the invariant then holds again.
+-- Assumes nothing.
+use mathlib.Core.Path.{_≡_, refl, sym, ap, subst, _∙_}
+use mathlib.Core.Logic.{_≢_}
+use Prim.Native.Nat.{ℕ, suc, _+_, _≤_, _<_}
+use native.Mathlib.Omega.{arith}
+use Rattle.rows.specs.Update.{update}
+use Rattle.rows.specs.Weights.{one}
+use Rattle.rows.specs.Counting.{count}
+use Rattle.rows.specs.Totals.{total}
+use Rattle.rows.proofs.Update.{update-all}
+use Rattle.rows.proofs.Weights.{below-max}
+use Rattle.rows.proofs.Totals.{total-le, total-one, total-update}
+use Rattle.classes.specs.Places.{regionOf}
+use Rattle.plain.specs.State.{Task, SPARES, REGIONS, Mem, setTask}
+use Rattle.plain.specs.Steps.{at}
+use Rattle.plain.specs.States.{IfOpen, IfEmpty, isEmpty}
+use Rattle.plain.specs.Held.{classAt, underWay}
+use Rattle.plain.specs.Weights.{rowWeight, insideWeight, insideClassWeight, chainWeight}
+use Rattle.plain.specs.Weights.{chainClassWeight, openWeight, fullWeight, blockWeight}
+use Rattle.plain.specs.Weights.{blockClassWeight, descriptorWeight, descriptorClassWeight}
+use Rattle.plain.specs.Weights.{spareWeight, regionWeight, unmappedWeight}
+use Rattle.plain.specs.Places.{TaskHolds}
+use Rattle.plain.specs.Invariant.{OpenDescriptor, ClosedDescriptor, Invariant}
+use Rattle.plain.proofs.Held.{spare-held, class-held, unmapped-held}
+use Rattle.plain.proofs.Homes.{inside-open, class-inside, underWay-class}
+use Rattle.plain.proofs.Notes.{holds-kept, Exchanges, as-before, note-kept}
+
+-- the task t, which is T, is about to take a step in a memory that has the invariant
+pub record Turn (area : ℕ) (m : Mem) (t : ℕ) (T : Task) : Type 0 where
+  pub inv : Invariant area m
+  pub fits : t < 8
+  pub is : m .task t ≡ T
+
+-- Two of the laws say n ≤ e, of a descriptor that is on some list or held in some way. After a step n′ ≤ e′
+-- holds if no more is asked, or if e′ is 1 or the descriptor is FULL (f′), since it has one place at most.
+pub data Asked (n n′ e e′ f′ : ℕ) : Type 0 where
+  fewer : n′ + e ≤ n + e′ → Asked n n′ e e′ f′
+  enough : 1 ≤ e′ + f′ → Asked n n′ e e′ f′
+
+-- A region that is spare, or held without an entry, n′ times in all, has the entry z′ = 0: no more is asked than
+-- before and its entry stays; or it has none; or it is open now (o′), and so neither spare nor held.
+pub data Unmapped (n n′ z z′ o′ : ℕ) : Type 0 where
+  as-mapped : n′ ≤ n → z′ ≡ z → Unmapped n n′ z z′ o′
+  no-entry : z′ ≡ 0 → Unmapped n n′ z z′ o′
+  opens : 1 ≤ o′ → Unmapped n n′ z z′ o′
+
+-- what a step has to show, after which the memory is m′, and the task T′
+pub record Shown (m : Mem) (t : ℕ) (T : Task) (m′ : Mem) (T′ : Task) : Type 0 where
+  pub descriptors : (x : ℕ)
+      → total 17 (rowWeight x) (m′ .row) + descriptorWeight x t T′ + total 64 (fullWeight x) (m′ .descriptor)
+      ≡ total 17 (rowWeight x) (m .row) + descriptorWeight x t T + total 64 (fullWeight x) (m .descriptor)
+  pub regions : (r : ℕ)
+      → count r (m′ .row REGIONS) + regionWeight r t T′ + total 64 (openWeight r) (m′ .descriptor)
+      ≡ count r (m .row REGIONS) + regionWeight r t T + total 64 (openWeight r) (m .descriptor)
+  pub classes : (c x : ℕ) → c < 16 → Asked
+      (count x (m .row c) + descriptorClassWeight c x t T)
+      (count x (m′ .row c) + descriptorClassWeight c x t T′)
+      (one c (m .descriptor x .class))
+      (one c (m′ .descriptor x .class))
+      (total 64 (fullWeight x) (m′ .descriptor))
+  pub spares : (x : ℕ) → Asked
+      (count x (m .row SPARES) + spareWeight x t T)
+      (count x (m′ .row SPARES) + spareWeight x t T′)
+      (isEmpty (m .descriptor x .state))
+      (isEmpty (m′ .descriptor x .state))
+      (total 64 (fullWeight x) (m′ .descriptor))
+  pub blocks : (v : ℕ)
+      → m′ .hands v + blockWeight v t T′ + total 64 (chainWeight v) (m′ .descriptor)
+      + total 64 (insideWeight v) (m .descriptor)
+      ≡ m .hands v + blockWeight v t T + total 64 (chainWeight v) (m .descriptor)
+      + total 64 (insideWeight v) (m′ .descriptor)
+  pub blockClasses : (c v : ℕ)
+      → total 8 (blockClassWeight c v) (m .task) + blockClassWeight c v t T′
+      + total 64 (chainClassWeight c v) (m′ .descriptor)
+      ≤ blockClassWeight c v t T + total 64 (insideClassWeight c v) (m′ .descriptor)
+  pub chains : (d : ℕ) → d < 64 → IfOpen (m′ .descriptor d .state) (OpenDescriptor (m′ .descriptor d))
+  pub closed : (d : ℕ) → d < 64 → IfEmpty (m′ .descriptor d .state) (ClosedDescriptor (m′ .descriptor d))
+  pub maps : (d : ℕ) → d < 64 → IfOpen (m′ .descriptor d .state) (m′ .map (m′ .descriptor d .region) ≡ suc d)
+  pub entries : (r : ℕ) → m′ .map r ≤ 64
+  pub unmapped : (r : ℕ) → Unmapped
+      (count r (m .row REGIONS) + unmappedWeight r t T)
+      (count r (m′ .row REGIONS) + unmappedWeight r t T′)
+      (m .map r)
+      (m′ .map r)
+      (total 64 (openWeight r) (m′ .descriptor))
+  pub own : TaskHolds m′ T′
+  -- the map's entries of open regions stay
+  pub kept : (r : ℕ) → 1 ≤ total 64 (openWeight r) (m .descriptor) → m′ .map r ≡ m .map r
+  pub exchanges : (ℓ : ℕ) → Exchanges (m .won ℓ) (m .row ℓ) (m′ .won ℓ) (m′ .row ℓ)
+
+module _ {area : ℕ} {m : Mem} {t : ℕ} {T : Task} (w : Turn area m t T) where
+  -- What the invariant says of the task itself.
+  pub taskHolds : TaskHolds m T
+  taskHolds = rw (w .is) at (w .inv .tasks t (w .fits))
+
+  -- The region of what a task has under way is open.
+  underWay-open : (j y : ℕ) → j < 8 → 1 ≤ count y (underWay (m .task j .place))
+      → 1 ≤ total 64 (openWeight (regionOf y)) (m .descriptor)
+  underWay-open j y l h =
+      let c = classAt (m .task j .place) in
+      omega (arith, underWay-class (w .inv) j y l, class-inside (w .inv) c y, inside-open (w .inv) y)
+
+  -- A step that shows what it has to show keeps the invariant.
+  pub turn-inv : (m′ : Mem) (T′ : Task) → m′ .task ≡ update (m .task) t T′ → Shown m t T m′ T′ → Invariant area m′
+  turn-inv m′ T′ e s = record {
+    descriptors = λ x. omega (arith, w .inv .descriptors x, retask (descriptorWeight x), s .descriptors x);
+    regions = λ r. omega (arith, w .inv .regions r, retask (regionWeight r), s .regions r);
+    classes = λ c x l. classes c x l (s .classes c x l);
+    spares = λ x. spares x (s .spares x);
+    blocks = λ v. omega (arith, w .inv .blocks v, retask (blockWeight v), s .blocks v);
+    blockClasses = λ c v. omega (arith, retask (blockClassWeight c v), s .blockClasses c v);
+    chains = s .chains;
+    closed = s .closed;
+    maps = s .maps;
+    entries = s .entries;
+    unmapped = λ r. unmapped r (s .unmapped r);
+    tasks = subst (λ (f : ℕ → Task). (j : ℕ) → j < 8 → TaskHolds m′ (f j)) (sym e)
+        (update-all (λ j U. j < 8 → TaskHolds m′ U) (m .task) t T′ (λ l. s .own) others);
+  }
+    where
+      -- a weight summed over the tasks, after the task's change
+      retask : (z : ℕ → Task → ℕ) → total 8 z (m′ .task) + z t T ≡ total 8 z (m .task) + z t T′
+      retask z = omega (
+        arith,
+        total-update 8 z (m .task) t T′ (w .fits),
+        ap (z t) (w .is),
+        ap (λ (f : ℕ → Task). total 8 z f) e,
+      )
+
+      -- A descriptor is on the list ℓ, or held, or FULL, but once; z is a way to hold it.
+      once : (z : ℕ → Task → ℕ) (x ℓ : ℕ) → ℓ < 17
+          → ((i : ℕ) → z i (m′ .task i) ≤ descriptorWeight x i (m′ .task i))
+          → count x (m′ .row ℓ) + total 8 z (m′ .task) + total 64 (fullWeight x) (m′ .descriptor) ≤ 1
+      once z x ℓ l h = omega (
+        arith,
+        w .inv .descriptors x,
+        retask (descriptorWeight x),
+        s .descriptors x,
+        total-one 17 (rowWeight x) (m′ .row) ℓ l,
+        total-le 8 z (descriptorWeight x) (m′ .task) (λ i g. h i),
+        below-max x 64,
+      )
+
+      classes : (c x : ℕ) → c < 16 → Asked
+          (count x (m .row c) + descriptorClassWeight c x t T)
+          (count x (m′ .row c) + descriptorClassWeight c x t T′)
+          (one c (m .descriptor x .class))
+          (one c (m′ .descriptor x .class))
+          (total 64 (fullWeight x) (m′ .descriptor))
+          → count x (m′ .row c) + total 8 (descriptorClassWeight c x) (m′ .task) ≤ one c (m′ .descriptor x .class)
+      classes c x l (fewer h) = omega (arith, w .inv .classes c x l, retask (descriptorClassWeight c x))
+      classes c x l (enough h) =
+          let z = descriptorClassWeight c x in
+          omega (arith, once z x c (omega arith) (λ i. class-held c x (m′ .task i .place)))
+
+      spares : (x : ℕ) → Asked
+          (count x (m .row SPARES) + spareWeight x t T)
+          (count x (m′ .row SPARES) + spareWeight x t T′)
+          (isEmpty (m .descriptor x .state))
+          (isEmpty (m′ .descriptor x .state))
+          (total 64 (fullWeight x) (m′ .descriptor))
+          → count x (m′ .row SPARES) + total 8 (spareWeight x) (m′ .task) ≤ isEmpty (m′ .descriptor x .state)
+      spares x (fewer h) = omega (arith, w .inv .spares x, retask (spareWeight x))
+      spares x (enough h) =
+          omega (arith, once (spareWeight x) x SPARES (omega arith) (λ i. spare-held x (m′ .task i .place)))
+
+      unmapped : (r : ℕ) → Unmapped
+          (count r (m .row REGIONS) + unmappedWeight r t T)
+          (count r (m′ .row REGIONS) + unmappedWeight r t T′)
+          (m .map r)
+          (m′ .map r)
+          (total 64 (openWeight r) (m′ .descriptor))
+          → 1 ≤ count r (m′ .row REGIONS) + total 8 (unmappedWeight r) (m′ .task) → m′ .map r ≡ 0
+      unmapped r (as-mapped l f) h = f ∙ w .inv .unmapped r (omega (arith, retask (unmappedWeight r)))
+      unmapped r (no-entry f) h = f
+      unmapped r (opens o) h = absurd (omega (
+        arith,
+        w .inv .regions r,
+        retask (regionWeight r),
+        s .regions r,
+        total-le 8 (unmappedWeight r) (regionWeight r) (m′ .task) (λ i g. unmapped-held r (m′ .task i .place)),
+        below-max r area,
+      ))
+
+      others : (j : ℕ) → j ≢ t → j < 8 → TaskHolds m′ (m .task j)
+      others j d l =
+          let o = w .inv .tasks j l in
+          record {
+            lengths = o .lengths;
+            place = holds-kept (m .map) (m′ .map) (m .task j .cache) (m .task j .place)
+                (λ y h. s .kept (regionOf y) (underWay-open j y l h)) (o .place);
+            note = note-kept m m′ (m .task j .place) (s .exchanges) (o .note);
+          }
+
+-- ---- a step that changes the task alone
+
+-- what such a step has to show
+pub record Within (t : ℕ) (T T′ : Task) : Type 0 where
+  pub blocks : (v : ℕ) → blockWeight v t T′ ≡ blockWeight v t T
+  pub blockClasses : (c v : ℕ) → blockClassWeight c v t T′ ≤ blockClassWeight c v t T
+  pub descriptors : (x : ℕ) → descriptorWeight x t T′ ≡ descriptorWeight x t T
+  pub classes : (c x : ℕ) → descriptorClassWeight c x t T′ ≤ descriptorClassWeight c x t T
+  pub spares : (x : ℕ) → spareWeight x t T′ ≤ spareWeight x t T
+  pub regions : (r : ℕ) → regionWeight r t T′ ≡ regionWeight r t T
+  pub unmapped : (r : ℕ) → unmappedWeight r t T′ ≤ unmappedWeight r t T
+
+module _ {area : ℕ} {m : Mem} {t : ℕ} {T : Task} (w : Turn area m t T) where
+  -- Such a step keeps the invariant.
+  pub within : (T′ : Task) → Within t T T′ → TaskHolds m T′ → Invariant area (setTask t T′ m)
+  within T′ s o = turn-inv w _ T′ refl (record {
+    descriptors = λ x. omega (arith, s .descriptors x);
+    regions = λ r. omega (arith, s .regions r);
+    classes = λ c x l. fewer (omega (arith, s .classes c x));
+    spares = λ x. fewer (omega (arith, s .spares x));
+    blocks = λ v. omega (arith, s .blocks v);
+    blockClasses = λ c v. omega (arith, s .blockClasses c v, w .inv .blockClasses c v);
+    chains = w .inv .chains;
+    closed = w .inv .closed;
+    maps = w .inv .maps;
+    entries = w .inv .entries;
+    unmapped = λ r. as-mapped (omega (arith, s .unmapped r)) refl;
+    own = record { lengths = o .lengths; place = o .place; note = o .note };
+    kept = λ r h. refl;
+    exchanges = λ ℓ. as-before refl refl;
+  })

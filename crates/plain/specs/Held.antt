@@ -1,0 +1,85 @@
+-- What a task has under way at each place.
+-- Assumes nothing.
+use mathlib.Core.List.{List, [], _∷_}
+use Prim.Native.Nat.{ℕ, _+_, _-_}
+use Rattle.rows.specs.Weights.{when}
+use Rattle.rows.specs.Counting.{count}
+use Rattle.classes.specs.Classes.{perRegion}
+use Rattle.plain.specs.State.{State, EMPTY, PARTIAL, FULL, partial, spare, region, retire, back, release}
+use Rattle.plain.specs.State.{offer, Place, idle, a1, popping, pushing, a3-read, a3-exchange, a4, a7, a8, f1}
+use Rattle.plain.specs.State.{f2, f3-read, f3-link, f3-exchange, f4-clear}
+use Rattle.plain.specs.Blocks.{blocksFrom}
+
+-- What a task has under way beside its caches: blocks, all of one class; descriptors held as spare, which are
+-- EMPTY; descriptors held for the partial list of the class; regions that are neither open nor spare, without an
+-- entry in the map, and, as closing, those that still have one.
+pub record Held : Type 0 where
+  pub class : ℕ
+  pub blocks : List ℕ
+  pub spares : List ℕ
+  pub listed : List ℕ
+  pub regions : List ℕ
+  pub closing : List ℕ
+
+-- class, blocks, descriptors held as spare, descriptors held for the class's list, regions; none is closing
+abbrev pub hold : ℕ → List ℕ → List ℕ → List ℕ → List ℕ → Held
+hold c b s l r = record { class = c; blocks = b; spares = s; listed = l; regions = r; closing = [] }
+
+-- the descriptor that a free owes to the partial list, if it found the anchor FULL
+abbrev pub owed : State → ℕ → List ℕ
+owed EMPTY d = []
+owed PARTIAL d = []
+owed FULL d = d ∷ []
+
+-- What each place has under way. The blocks are a taken chain, those still to be carved, the block being freed,
+-- and a group.
+abbrev pub held : Place → Held
+held idle = hold 0 [] [] [] []
+held (a1 c) = hold c [] [] [] []
+held (popping (partial c) φ) = hold c [] [] [] []
+held (popping (spare c) φ) = hold c [] [] [] []
+held (popping (region c d) φ) = hold c [] (d ∷ []) [] []
+held (pushing (retire c d) φ) = hold c [] (d ∷ []) [] []
+held (pushing (back c d) φ) = hold c [] (d ∷ []) [] []
+held (pushing (release c u d w r) φ) = hold c (u ∷ []) [] (owed w d) (r ∷ [])
+held (pushing (offer c u d) φ) = hold c (u ∷ []) [] (d ∷ []) []
+held (a3-read c d) = hold c [] [] (d ∷ []) []
+held (a3-exchange c d n) = hold c [] [] (d ∷ []) []
+held (a4 c x q) = hold c (x ∷ q) [] [] []
+held (a7 c d r) = hold c [] (d ∷ []) [] (r ∷ [])
+held (a8 c r i) = hold c (blocksFrom r c i (perRegion c - i)) [] [] []
+held (f1 c u) = hold c (u ∷ []) [] [] []
+held (f2 c u g) = hold c (u ∷ g) [] [] []
+held (f3-read c u y g) = hold c (u ∷ y ∷ g) [] [] []
+held (f3-link c u y g d n) = hold c (u ∷ y ∷ g) [] [] []
+held (f3-exchange c u y g d n) = hold c (u ∷ y ∷ g) [] [] []
+held (f4-clear c u d w r) =
+    record { class = c; blocks = u ∷ []; spares = []; listed = owed w d; regions = []; closing = r ∷ [] }
+
+-- the class of what is under way
+abbrev pub classAt : Place → ℕ
+classAt p = held p .class
+
+-- the blocks under way
+abbrev pub underWay : Place → List ℕ
+underWay p = held p .blocks
+
+-- how often the descriptor d is held as spare
+abbrev pub holdsSpare : ℕ → Place → ℕ
+holdsSpare d p = count d (held p .spares)
+
+-- how often it is held for the partial list of the class c
+abbrev pub holdsForClass : ℕ → ℕ → Place → ℕ
+holdsForClass c d p = when c (held p .class) (count d (held p .listed))
+
+-- how often it is held
+abbrev pub holdsDescriptor : ℕ → Place → ℕ
+holdsDescriptor d p = count d (held p .spares) + count d (held p .listed)
+
+-- how often the region r is held
+abbrev pub holdsRegion : ℕ → Place → ℕ
+holdsRegion r p = count r (held p .regions) + count r (held p .closing)
+
+-- how often it is held without an entry in the map
+abbrev pub holdsUnmapped : ℕ → Place → ℕ
+holdsUnmapped r p = count r (held p .regions)

@@ -1,0 +1,54 @@
+-- What never happens, so that the plain pool's definitions may say there what they like.
+-- Assumes nothing.
+use mathlib.Core.Path.{_≡_}
+use mathlib.Core.Logic.{_≢_}
+use mathlib.Core.List.{List, [], _∷_, _++_}
+use Prim.Native.Nat.{ℕ, suc, _+_, _≤_, _<_}
+use lib.ListN.{length}
+use Rattle.classes.specs.Classes.{perRegion}
+use Rattle.classes.specs.Places.{regionOf}
+use Rattle.plain.specs.State.{PARTIAL, FULL, Note, exchange, Pop, popping, a3-read, a3-exchange, f2, f3-read}
+use Rattle.plain.specs.State.{f3-link, f3-exchange, Mem}
+use Rattle.plain.specs.Steps.{popList, item, noted, AsNoted}
+use Rattle.plain.specs.Calls.{Opens}
+
+-- a row that is not empty: its top item and the others
+pub record Top (q : List ℕ) : Type 0 where
+  pub item : ℕ
+  pub rest : List ℕ
+  pub is : q ≡ item ∷ rest
+
+-- the group, y and g, and the chain of the descriptor d have at most n blocks together; so have the group and the
+-- chain as it was noted
+pub record GroupFits (m : Mem) (c y : ℕ) (g : List ℕ) (d noted : ℕ) : Type 0 where
+  pub now : length (y ∷ (g ++ m .descriptor d .chain)) ≤ perRegion c
+  pub then : noted + length (y ∷ g) ≤ perRegion c
+
+-- the map names a descriptor that opens the region of the group, for the class; and the count will not pass n
+pub record GroupNamed (m : Mem) (c y : ℕ) (g : List ℕ) : Type 0 where
+  pub d : ℕ
+  pub fits : d < 64
+  pub entry : m .map (regionOf y) ≡ suc d
+  pub opens : Opens (m .descriptor d) (regionOf y)
+  pub class : m .descriptor d .class ≡ c
+  pub count : length (y ∷ (g ++ m .descriptor d .chain)) ≤ perRegion c
+
+-- of the task t of the memory m
+pub record NeverHappens (m : Mem) (t : ℕ) : Type 0 where
+  -- a pop's exchange whose list has the noted number finds a top item
+  pub popExchange : (p : Pop) (n : ℕ) → m .task t .place ≡ popping p (exchange n) → m .won (popList p) ≡ n
+      → Top (m .row (popList p))
+  -- a group step with the cache empty has a group to close
+  pub groupStep : (c u : ℕ) (g : List ℕ) → m .task t .place ≡ f2 c u g → m .task t .cache c ≡ [] → Top g
+  -- the anchor read of a free finds an open region's descriptor
+  pub freeReads : (c u y : ℕ) (g : List ℕ) → m .task t .place ≡ f3-read c u y g → GroupNamed m c y g
+  -- the anchor read of an allocate never finds FULL
+  pub allocateReads : (c d : ℕ) → m .task t .place ≡ a3-read c d → m .descriptor d .state ≢ FULL
+  -- the won anchor exchange of an allocate had noted PARTIAL, and takes a chain that is not empty
+  pub allocateTakes : (c d : ℕ) (n : Note) → m .task t .place ≡ a3-exchange c d n → AsNoted (m .descriptor d) n
+      → (n .state ≡ PARTIAL) × Top (m .descriptor d .chain)
+  -- no count of a free passes n
+  pub freeLinks : (c u y : ℕ) (g : List ℕ) (d : ℕ) (n : Note) → m .task t .place ≡ f3-link c u y g d n
+      → GroupFits m c y g d (n .length)
+  pub freeReturns : (c u y : ℕ) (g : List ℕ) (d : ℕ) (n : Note) → m .task t .place ≡ f3-exchange c u y g d n
+      → GroupFits m c y g d (n .length)

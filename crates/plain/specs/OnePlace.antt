@@ -1,0 +1,45 @@
+-- The one place of each block, and of each item of a list.
+-- Assumes nothing.
+use mathlib.Core.Path.{_≡_}
+use mathlib.Core.Logic.{_≢_}
+use Prim.Native.Nat.{ℕ, suc, _+_, _≤_, _<_}
+use Rattle.rows.specs.Counting.{count}
+use Rattle.rows.specs.Totals.{total}
+use Rattle.classes.specs.Places.{regionOf}
+use Rattle.plain.specs.State.{REGIONS, Mem}
+use Rattle.plain.specs.Calls.{Opens, First}
+use Rattle.plain.specs.Weights.{rowWeight, chainWeight, blockWeight, blockClassWeight}
+
+-- v is a block of an open region, whose descriptor is d: "the first unit of a block of an open region", as test 10
+-- of a free finds it
+pub record OpenBlock (m : Mem) (v d : ℕ) : Type 0 where
+  pub entry : m .map (regionOf v) ≡ suc d
+  pub opens : Opens (m .descriptor d) (regionOf v)
+  pub first : First (m .descriptor d .class) v
+
+-- where the unit v is
+pub record OnePlace (m : Mem) (v : ℕ) : Type 0 where
+  -- a block of an open region is once in a user's hands, or with a task, cached or under way, or in the region's
+  -- chain
+  pub once : (d : ℕ) → OpenBlock m v d
+      → m .hands v + total 8 (blockWeight v) (m .task) + count v (m .descriptor d .chain) ≡ 1
+  -- .. and it is with a task for its class alone
+  pub class : (d : ℕ) → OpenBlock m v d → (c : ℕ) → c ≢ m .descriptor d .class
+      → total 8 (blockClassWeight c v) (m .task) ≡ 0
+  -- a unit that is no such block is nowhere
+  pub nowhere : ((d : ℕ) → ¬ OpenBlock m v d)
+      → (m .hands v ≡ 0) × (total 8 (blockWeight v) (m .task) ≡ 0)
+      × (total 64 (chainWeight v) (m .descriptor) ≡ 0)
+
+-- the items of the lists, in an area of `area` regions
+pub record OnceListed (area : ℕ) (m : Mem) : Type 0 where
+  -- a descriptor is at most once on all the lists of descriptors together
+  pub descriptors : (d : ℕ) → total 17 (rowWeight d) (m .row) ≤ 1
+  -- .. and so on each
+  pub descriptor : (ℓ d : ℕ) → ℓ < 17 → count d (m .row ℓ) ≤ 1
+  -- it is one of the 64
+  pub below : (ℓ d : ℕ) → ℓ < 17 → 1 ≤ count d (m .row ℓ) → d < 64
+  -- a region is at most once on the list of spare regions, ..
+  pub region : (r : ℕ) → count r (m .row REGIONS) ≤ 1
+  -- .. and one of the area's
+  pub inArea : (r : ℕ) → 1 ≤ count r (m .row REGIONS) → r < area

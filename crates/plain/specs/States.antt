@@ -1,0 +1,43 @@
+-- What counts only in some states of an anchor.
+-- Assumes nothing.
+use mathlib.Core.Path.{_≡_}
+use Prim.Native.Nat.{ℕ}
+use Rattle.plain.specs.State.{State, EMPTY, PARTIAL, FULL}
+
+-- n while the anchor is not EMPTY, else 0
+abbrev pub ifOpen : State → ℕ → ℕ
+ifOpen EMPTY n = 0
+ifOpen PARTIAL n = n
+ifOpen FULL n = n
+
+-- the anchor is not EMPTY: everything counts
+abbrev pub IsOpen : State → Type 0
+IsOpen s = (n : ℕ) → ifOpen s n ≡ n
+
+-- X is asked while the anchor is not EMPTY, else nothing
+abbrev pub IfOpen : State → Type 0 → Type 0
+IfOpen EMPTY X = Unit {0}
+IfOpen PARTIAL X = X
+IfOpen FULL X = X
+
+-- X is asked while the anchor is EMPTY, else nothing
+abbrev pub IfEmpty : State → Type 0 → Type 0
+IfEmpty EMPTY X = X
+IfEmpty PARTIAL X = Unit {0}
+IfEmpty FULL X = Unit {0}
+
+-- n while the anchor is FULL, else 0
+abbrev pub ifFull : State → ℕ → ℕ
+ifFull EMPTY n = 0
+ifFull PARTIAL n = 0
+ifFull FULL n = n
+
+-- 1 if the anchor is FULL, else 0
+abbrev pub isFull : State → ℕ
+isFull s = ifFull s 1
+
+-- 1 if the anchor is EMPTY, else 0
+abbrev pub isEmpty : State → ℕ
+isEmpty EMPTY = 1
+isEmpty PARTIAL = 0
+isEmpty FULL = 0

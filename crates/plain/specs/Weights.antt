@@ -1,0 +1,74 @@
+-- What each holder weighs. The first numbers are what is asked about, the last one is the holder's own; the
+-- totals over all holders are what the invariant speaks of.
+-- Assumes nothing.
+use mathlib.Core.List.{List}
+use Prim.Native.Nat.{ℕ, _+_}
+use Rattle.rows.specs.Weights.{when, one}
+use Rattle.rows.specs.Counting.{count}
+use Rattle.rows.specs.Totals.{total}
+use Rattle.plain.specs.State.{Descriptor, Task}
+use Rattle.plain.specs.Blocks.{isBlock}
+use Rattle.plain.specs.States.{ifOpen, isFull}
+use Rattle.plain.specs.Held.{classAt, underWay, holdsSpare, holdsForClass, holdsDescriptor}
+use Rattle.plain.specs.Held.{holdsRegion, holdsUnmapped}
+
+-- ---- a row: how often v stands in it
+
+abbrev pub rowWeight : ℕ → ℕ → List ℕ → ℕ
+rowWeight v i q = count v q
+
+-- ---- a descriptor. An EMPTY one has no region and no chain: whatever stands in its fields, it weighs nothing.
+
+-- v is a block of its region
+abbrev pub insideWeight : ℕ → ℕ → Descriptor → ℕ
+insideWeight v i D = ifOpen (D .state) (isBlock v (D .region) (D .class))
+
+-- .. and the class is c
+abbrev pub insideClassWeight : ℕ → ℕ → ℕ → Descriptor → ℕ
+insideClassWeight c v i D = ifOpen (D .state) (when c (D .class) (isBlock v (D .region) (D .class)))
+
+-- how often v stands in its chain
+abbrev pub chainWeight : ℕ → ℕ → Descriptor → ℕ
+chainWeight v i D = ifOpen (D .state) (count v (D .chain))
+
+-- .. if the class is c
+abbrev pub chainClassWeight : ℕ → ℕ → ℕ → Descriptor → ℕ
+chainClassWeight c v i D = ifOpen (D .state) (when c (D .class) (count v (D .chain)))
+
+-- it opens the region r
+abbrev pub openWeight : ℕ → ℕ → Descriptor → ℕ
+openWeight r i D = ifOpen (D .state) (one r (D .region))
+
+-- it is the descriptor d, and FULL
+abbrev pub fullWeight : ℕ → ℕ → Descriptor → ℕ
+fullWeight d i D = when d i (isFull (D .state))
+
+-- ---- a task
+
+-- how often it has the block v, in its caches or under way
+abbrev pub blockWeight : ℕ → ℕ → Task → ℕ
+blockWeight v i T = total 16 (rowWeight v) (T .cache) + count v (underWay (T .place))
+
+-- .. for the class c
+abbrev pub blockClassWeight : ℕ → ℕ → ℕ → Task → ℕ
+blockClassWeight c v i T = count v (T .cache c) + when c (classAt (T .place)) (count v (underWay (T .place)))
+
+-- how often it holds the descriptor d
+abbrev pub descriptorWeight : ℕ → ℕ → Task → ℕ
+descriptorWeight d i T = holdsDescriptor d (T .place)
+
+-- .. for the partial list of the class c
+abbrev pub descriptorClassWeight : ℕ → ℕ → ℕ → Task → ℕ
+descriptorClassWeight c d i T = holdsForClass c d (T .place)
+
+-- .. as spare
+abbrev pub spareWeight : ℕ → ℕ → Task → ℕ
+spareWeight d i T = holdsSpare d (T .place)
+
+-- how often it holds the region r
+abbrev pub regionWeight : ℕ → ℕ → Task → ℕ
+regionWeight r i T = holdsRegion r (T .place)
+
+-- .. without an entry in the map
+abbrev pub unmappedWeight : ℕ → ℕ → Task → ℕ
+unmappedWeight r i T = holdsUnmapped r (T .place)

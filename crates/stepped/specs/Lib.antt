@@ -1,0 +1,14 @@
+-- The stepped pool: outcomes, the tests whose failure is 14, the steps, the calls.
+pub mod Outcome
+pub mod Ranges
+pub mod Lists
+pub mod Allocate
+pub mod Free
+pub mod Steps
+pub mod Start
+pub mod Calls
+pub mod Memory
+pub mod Relation
+pub mod Events
+pub mod Observe
+pub mod Agreement

@@ -1,0 +1,183 @@
+-- The pops and pushes of the step list, each in three steps: "read head; read the item's next; exchange", and "read head;
+-- write the item's next; exchange. A lost exchange goes back to the head read."
+-- Assumes nothing.
+use Prim.Native.Nat.{ℕ, _+_, _-_}
+use mathlib.Core.Bool.{Bool, cond, _&&_}
+use mathlib.Core.List.{List, [], _∷_}
+use lib.Dec.{ltb, leb, eqb}
+use Rattle.fields.specs.Columns.{Field, View, Write, _:=_}
+use Rattle.words.specs.Head.{itemOf, advancedWord}
+use Rattle.words.specs.Anchor.{FULL, isState}
+use Rattle.classes.specs.Classes.{perRegion}
+use Rattle.plain.specs.State.{SPARES, REGIONS}
+use Rattle.plain.specs.Moves.{Decided, nothing, found-empty, popped, pushed, lost}
+use Rattle.control.specs.Layout.{Head, TaskHead, CacheCount, GroupCount, TaskPlace, TaskNext, TaskDescriptor, TaskRegion, TaskState, DescriptorNext, RegionNext}
+use Rattle.control.specs.declared.answer.Answer.the-variants.{NoDescriptor, NoRegion}
+use Rattle.control.specs.declared.moves.Pop.{Pop}
+use Rattle.control.specs.declared.moves.Pop.the-variants.{Partial, Spare, Region}
+use Rattle.control.specs.declared.moves.Push.{Push}
+use Rattle.control.specs.declared.moves.Push.the-variants.{Retire, Back, Release, Offer}
+use Rattle.stepped.specs.Outcome.{Outcome, bad, accept, close}
+use Rattle.stepped.specs.Ranges.{oneTo}
+
+-- ---- the places of the moves: each has three in a row, from its first
+
+abbrev pub popPlace : Pop → ℕ
+popPlace Partial = 2
+popPlace Spare = 5
+popPlace Region = 8
+
+abbrev pub pushPlace : Push → ℕ
+pushPlace Retire = 11
+pushPlace Back = 14
+pushPlace Release = 17
+pushPlace Offer = 20
+
+-- ---- the list of a move, for a request of the class c; how many items there are; and where an item's next stands
+
+abbrev pub popList : Pop → ℕ → ℕ
+popList Partial c = c
+popList Spare c = SPARES
+popList Region c = REGIONS
+
+abbrev pub popItems : Pop → ℕ → ℕ
+popItems Partial regions = 64
+popItems Spare regions = 64
+popItems Region regions = regions
+
+abbrev pub popNextField : Pop → ℕ → Field
+popNextField Partial = DescriptorNext
+popNextField Spare = DescriptorNext
+popNextField Region = RegionNext
+
+abbrev pub pushList : Push → ℕ → ℕ
+pushList Retire c = SPARES
+pushList Back c = SPARES
+pushList Release c = REGIONS
+pushList Offer c = c
+
+abbrev pub pushItems : Push → ℕ → ℕ
+pushItems Retire regions = 64
+pushItems Back regions = 64
+pushItems Release regions = regions
+pushItems Offer regions = 64
+
+abbrev pub pushNextField : Push → ℕ → Field
+pushNextField Retire = DescriptorNext
+pushNextField Back = DescriptorNext
+pushNextField Release = RegionNext
+pushNextField Offer = DescriptorNext
+
+-- the item that is pushed: what the task t has in hand
+abbrev pub itemField : Push → ℕ → Field
+itemField Retire = TaskDescriptor
+itemField Back = TaskDescriptor
+itemField Release = TaskRegion
+itemField Offer = TaskDescriptor
+
+-- v: what stands in the fields; t: the task, whose request is of the class c
+module _ (v : View) (regions t c : ℕ) where
+  -- free, step 6: "Cache not empty: 2. Else 1.", after the writes ws of the move e
+  unfoldable pub f6 : Decided → List Write → Outcome
+  f6 e ws =
+      let k = v (CacheCount t c) in
+      cond (leb k (perRegion c))
+      (cond (eqb k 0)
+      (accept e (TaskPlace t := 28 ∷ ws) [])
+      (accept e (TaskPlace t := 29 ∷ GroupCount t := 0 ∷ ws) []))
+      bad
+
+  -- free, step 5: "If it was FULL: push the descriptor on the partial list"
+  unfoldable pub f5 : ℕ → Decided → List Write → Outcome
+  f5 was e ws = cond (eqb was FULL) (accept e (TaskPlace t := pushPlace Offer ∷ ws) []) (f6 e ws)
+
+  -- ---- pops
+
+  -- step 2 "Empty: go to 5", step 5 "Empty: end with 12", step 6 "Empty: push the descriptor back"
+  abbrev pub whenEmpty : Pop → Decided → Outcome
+  whenEmpty Partial e = accept e (TaskPlace t := popPlace Spare ∷ []) []
+  whenEmpty Spare e = close NoDescriptor e (TaskPlace t := 0 ∷ []) []
+  whenEmpty Region e = accept e (TaskPlace t := pushPlace Back ∷ []) []
+
+  -- "read head (this finds an empty list)"
+  unfoldable pub popRead : Pop → Outcome
+  popRead p =
+      let word = v (Head (popList p c)) in
+      cond (eqb (itemOf word) 0)
+      (whenEmpty p (found-empty (popList p c)))
+      (cond (leb (itemOf word) (popItems p regions))
+      (accept nothing (TaskPlace t := (popPlace p + 1) ∷ TaskHead t := word ∷ []) [])
+      bad)
+
+  -- "read the item's next", that of the item x
+  unfoldable pub popNextOf : Pop → ℕ → Outcome
+  popNextOf p x =
+      let next = v (popNextField p x) in
+      cond (leb next (popItems p regions))
+      (accept nothing (TaskPlace t := (popPlace p + 2) ∷ TaskNext t := next ∷ []) [])
+      bad
+
+  -- the item is the noted head's
+  unfoldable pub popNext : Pop → Outcome
+  popNext p =
+      let item = itemOf (v (TaskHead t)) in
+      cond (oneTo (popItems p regions) item) (popNextOf p (item - 1)) bad
+
+  -- where a won pop of the item x leads: step 2 to 3, step 5 to 6, step 6 to 7; ws is the exchange
+  abbrev pub whenPopped : Pop → ℕ → Decided → List Write → Outcome
+  whenPopped Partial x e ws = accept e (TaskPlace t := 23 ∷ TaskDescriptor t := x ∷ ws) []
+  whenPopped Spare x e ws = accept e (TaskPlace t := popPlace Region ∷ TaskDescriptor t := x ∷ ws) []
+  whenPopped Region x e ws = accept e (TaskPlace t := 26 ∷ TaskRegion t := x ∷ ws) []
+
+  -- "exchange": won where the head word is the noted one
+  unfoldable pub popExchange : Pop → Outcome
+  popExchange p =
+      let ℓ = popList p c in
+      let items = popItems p regions in
+      let word = v (TaskHead t) in
+      let next = v (TaskNext t) in
+      let x = itemOf word - 1 in
+      cond (oneTo items (itemOf word) && leb next items && leb (itemOf (v (Head ℓ))) items)
+      (cond (eqb (v (Head ℓ)) word)
+      (whenPopped p x (popped ℓ x) (Head ℓ := advancedWord word next ∷ []))
+      (accept (lost ℓ) (TaskPlace t := popPlace p ∷ []) []))
+      bad
+
+  -- ---- pushes
+
+  -- "read head"
+  unfoldable pub pushRead : Push → Outcome
+  pushRead p =
+      let word = v (Head (pushList p c)) in
+      cond (leb (itemOf word) (pushItems p regions))
+      (accept nothing (TaskPlace t := (pushPlace p + 1) ∷ TaskHead t := word ∷ []) [])
+      bad
+
+  -- "write the item's next": the item of the noted head
+  unfoldable pub pushNext : Push → Outcome
+  pushNext p =
+      let x = v (itemField p t) in
+      let below = itemOf (v (TaskHead t)) in
+      cond (ltb x (pushItems p regions) && leb below (pushItems p regions))
+      (accept nothing (TaskPlace t := (pushPlace p + 2) ∷ pushNextField p x := below ∷ []) [])
+      bad
+
+  -- where a won push leads: step 3 "then 2", step 6 "the request ends with 13 at that won exchange", free's 4 and 5
+  abbrev pub whenPushed : Push → Decided → List Write → Outcome
+  whenPushed Retire e ws = accept e (TaskPlace t := popPlace Partial ∷ ws) []
+  whenPushed Back e ws = close NoRegion e (TaskPlace t := 0 ∷ ws) []
+  whenPushed Release e ws = cond (isState (v (TaskState t))) (f5 (v (TaskState t)) e ws) bad
+  whenPushed Offer e ws = f6 e ws
+
+  -- "exchange"
+  unfoldable pub pushExchange : Push → Outcome
+  pushExchange p =
+      let ℓ = pushList p c in
+      let items = pushItems p regions in
+      let word = v (TaskHead t) in
+      let x = v (itemField p t) in
+      cond (ltb x items && leb (itemOf word) items && leb (itemOf (v (Head ℓ))) items)
+      (cond (eqb (v (Head ℓ)) word)
+      (whenPushed p (pushed ℓ x) (Head ℓ := advancedWord word (x + 1) ∷ []))
+      (accept (lost ℓ) (TaskPlace t := pushPlace p ∷ []) []))
+      bad

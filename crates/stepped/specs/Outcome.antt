@@ -1,0 +1,51 @@
+-- What a call makes of the memories that it is lent.
+-- Assumes nothing.
+use Prim.Native.Nat.{ℕ}
+use mathlib.Core.Path.{_≡_}
+use mathlib.Core.List.{List, [], _∷_}
+use Rattle.fields.specs.Columns.{Write}
+use Rattle.links.specs.Link.{LinkWrite, linked}
+use Rattle.plain.specs.Moves.{Decided, nothing}
+use Rattle.control.specs.Layout.{changed}
+use Rattle.control.specs.declared.answer.Answer.{Answer}
+use Rattle.control.specs.declared.answer.Answer.the-variants.{Accepted, Refused}
+
+-- The answer, the move that was decided, the fields of the control memory that are written, and the links that are written in
+-- the area. Nothing else changes.
+pub record Outcome : Type 0 where
+  pub answer : Answer
+  pub decided : Decided
+  pub writes : List Write
+  pub links : List LinkWrite
+
+-- "A refused call answers the number and value 0 and leaves both memories unchanged."
+abbrev pub refuse : ℕ → Outcome
+refuse n = record { answer = Refused n; decided = nothing; writes = []; links = [] }
+
+-- "14 comes where the bad value is read, before any write."
+abbrev pub bad : Outcome
+bad = refuse 14
+
+-- accepted, or still under way
+abbrev pub accept : Decided → List Write → List LinkWrite → Outcome
+accept e ws ls = record { answer = Accepted; decided = e; writes = ws; links = ls }
+
+-- the request is over, with this answer
+abbrev pub close : Answer → Decided → List Write → List LinkWrite → Outcome
+close a e ws ls = record { answer = a; decided = e; writes = ws; links = ls }
+
+-- "For every input, the answer and each byte of both memories afterwards"
+pub record Effect : Type 0 where
+  pub answer : Answer
+  pub decided : Decided
+  pub control : List ℕ
+  pub area : List ℕ
+
+-- what an outcome makes of a control memory and an area
+abbrev pub effect : Outcome → List ℕ → List ℕ → Effect
+effect o control area = record {
+  answer = o .answer;
+  decided = o .decided;
+  control = changed (o .writes) control;
+  area = linked (o .links) area;
+}

@@ -1,0 +1,32 @@
+-- The control memory that a start leaves.
+-- Assumes nothing.
+use Prim.Native.Nat.{ℕ, zero, suc, _+_}
+use mathlib.Core.Bool.{cond}
+use mathlib.Core.List.{List, [], _∷_, _++_}
+use lib.Dec.{eqb}
+use lib.ListN.{replicate}
+use Rattle.fields.specs.Columns.{Field, Write, _:=_}
+use Rattle.plain.specs.State.{SPARES, REGIONS}
+use Rattle.control.specs.Layout.{Head, Top, DescriptorNext, RegionNext, Tasks, Regions, changed}
+
+-- the fields f 0 to f (n - 1) get the values x 0 to x (n - 1)
+abbrev pub fill : (ℕ → Field) → (ℕ → ℕ) → ℕ → List Write
+fill f x zero = []
+fill f x (suc n) = f n := x n ∷ fill f x n
+
+-- "rising from item 0 on top": of n items the last has no next, each other the one after it
+abbrev pub nextUp : ℕ → ℕ → ℕ
+nextUp n i = cond (eqb (i + 1) n) 0 (i + 2)
+
+-- what differs from zero: "both spare lists rising from item 0 on top", and 8,192 as the top of each empty cache
+unfoldable pub startWrites : ℕ → ℕ → List Write
+startWrites tasks regions =
+    Tasks := tasks
+    ∷ Regions := regions
+    ∷ Head SPARES := 1
+    ∷ Head REGIONS := 1
+    ∷ (fill DescriptorNext (nextUp 64) 64 ++ (fill RegionNext (nextUp regions) regions ++ fill Top (λ i. 8192) 128))
+
+-- "tasks idle, caches and partial lists empty, tags 0, marks clear, map entries none": every other byte is zero
+unfoldable pub startImage : ℕ → ℕ → List ℕ
+startImage tasks regions = changed (startWrites tasks regions) (replicate 8192 0)
