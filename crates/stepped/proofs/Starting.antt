@@ -10,6 +10,7 @@ use borrow.Author.Tests.{eq-eqb, ne-eqb, le-leb, lt-leb}
 use lib.Dec.{eqb, leb}
 use lib.ListN.{length, getD, replicate, length-replicate}
 use Rattle.rows.specs.Branch.{if, both}
+use Rattle.rows.proofs.Branch.{if-yes}
 use Rattle.fields.specs.Little.{Bytes, getLE}
 use Rattle.fields.specs.Columns.{Field, View, Write, _:=_, assigned, at, width, Has, Sound}
 use Rattle.fields.proofs.Layouts.{length-written, bytes-written}
@@ -18,6 +19,7 @@ use Rattle.plain.specs.Calls.{Pool}
 use Rattle.control.specs.declared.answer.Answer.the-variants.{Accepted}
 use Rattle.plain.specs.Calls as Plain
 use Rattle.plain.specs.Invariant.{Good}
+use Rattle.plain.proofs.Starts.{start-inv}
 use Rattle.plain.proofs.Always.{call-good}
 use Rattle.control.specs.Layout.{layout, Tasks, Regions, seen, changed, DescriptorNext, RegionNext, Top}
 use Rattle.control.proofs.Fields.{seen-changed}
@@ -130,3 +132,26 @@ module _ {s₁ : Memories} {s : Pool} (S : Sim s₁ s) (control : ℕ) (area : L
   unfolding Stepped.startIn
   start-alike (yes e) g = rw e (test-two (Plain.area? bytes) g)
   start-alike (no e) g = rw (ne-eqb control 8192 e) (stays S (λ z. Unit {0}) tt 1)
+
+-- an accepted start, whatever was before: the control memory may have looked like a started pool, or have held anything
+pub accepted-start : (s₁ : Memories) (s : Pool) (area : List ℕ) (tasks : ℕ) → Plain.Area (length area) → Plain.Tasks tasks
+    → Alike (λ z. Unit {0}) (startOn 8192 area tasks s₁) (Plain.startCall 8192 (length area) tasks s)
+unfolding Stepped.startIn
+accepted-start s₁ s area tasks a t =
+    let regions = length area / 4096 in
+    rw (
+      eq-eqb (length area % 4096) 0 (a .0),
+      le-leb 1 (length area) (a .1 .0),
+      le-leb (length area) 65536 (a .1 .1),
+      le-leb 1 tasks (t .0),
+      le-leb tasks 8 (t .1),
+      if-yes (ℕ-discrete 8192 8192) (if (Plain.area? (length area)) (if (Plain.tasks? tasks) (new tasks regions, going nothing) (Plain.refuse 3 s)) (Plain.refuse 2 s)) (Plain.refuse 1 s) refl,
+      if-yes (Plain.area? (length area)) (if (Plain.tasks? tasks) (new tasks regions, going nothing) (Plain.refuse 3 s)) (Plain.refuse 2 s) a,
+      if-yes (Plain.tasks? tasks) (new tasks regions, going nothing) (Plain.refuse 3 s) t,
+    )
+    (record {
+      says = refl;
+      shows = tt;
+      sim = started tasks regions (t .1) (omega (arith, a)) area (omega (arith, a)) (omega (arith, a)) (new tasks regions) refl
+          (record { few = t .1; small = λ k. omega (arith, a); inv = λ k. start-inv regions });
+    })

@@ -31,7 +31,7 @@ use Rattle.stepped.specs.Agreement.{Agrees, Untouched, Agree, Unstarted,
 use Rattle.stepped.proofs.Both.{Both, Fitting}
 use Rattle.stepped.proofs.Turns.{At}
 use Rattle.stepped.proofs.Simulation.{Sim, Alike, fitting, tested-alike, taken-is}
-use Rattle.stepped.proofs.Starting.{start-alike}
+use Rattle.stepped.proofs.Starting.{start-alike, accepted-start}
 use Rattle.stepped.proofs.Begins.{when-idle, allocate-both, free-both}
 use Rattle.stepped.proofs.Stepping.{step-both}
 use Rattle.stepped.proofs.Writing.{write-related}
@@ -156,3 +156,14 @@ agreement es s₁ U p = agree es s₁ unstarted (record {
   regions = λ h. absurd (omega arith);
   related = λ h. absurd (omega arith);
 }) p
+
+-- The same from an accepted start on any memories and in any pool: the control memory before it may look like a started pool, or
+-- hold anything.
+pub agreement-from-start : (es : List Event) (s₁ : Memories) (s : Pool) (area : List ℕ) (tasks : ℕ) → Plain.Area (length area)
+    → Plain.Tasks tasks → Premises es (whole (start 8192 area tasks) s .0)
+    → (stepped (start 8192 area tasks) s₁ .1 ≡ whole (start 8192 area tasks) s .1)
+    × Agree es (stepped (start 8192 area tasks) s₁ .0) (whole (start 8192 area tasks) s .0)
+unfolding Plain.call
+agreement-from-start es s₁ s area tasks a t p =
+    let A = accepted-start s₁ s area tasks a t in
+    (A .says, agree es (stepped (start 8192 area tasks) s₁ .0) (whole (start 8192 area tasks) s .0) (A .sim) p)
