@@ -15,15 +15,14 @@ use Rattle.rows.proofs.Totals.{total-one, total-update}
 use Rattle.plain.specs.State.{EMPTY, Descriptor, Place, Task, Mem, setDescriptor}
 use Rattle.plain.specs.Steps.{at}
 use Rattle.plain.specs.States.{IsOpen, IfOpen, IfEmpty, isFull, isEmpty}
-use Rattle.plain.specs.Held.{Held, held}
+use Rattle.plain.specs.Held.{Held, held, blockIn, classBlockIn, descriptorIn, spareIn, listedIn}
+use Rattle.plain.specs.Held.{regionIn, unmappedIn}
 use Rattle.plain.specs.Weights.{insideWeight, insideClassWeight, chainWeight, chainClassWeight}
 use Rattle.plain.specs.Weights.{openWeight, fullWeight, descriptorWeight, descriptorClassWeight}
 use Rattle.plain.specs.Weights.{spareWeight}
 use Rattle.plain.specs.Places.{HoldsAt, NoteHolds}
 use Rattle.plain.specs.Invariant.{OpenDescriptor, ClosedDescriptor, Invariant}
 use Rattle.plain.proofs.States.{open-holds, open-asks, open-not-empty, empty-is}
-use Rattle.plain.proofs.Held.{blockIn, classBlockIn, spareIn, listedIn, descriptorIn, regionIn}
-use Rattle.plain.proofs.Held.{unmappedIn}
 use Rattle.plain.proofs.Notes.{as-before}
 use Rattle.plain.proofs.Turn.{Turn, Asked, fewer, enough, as-mapped, turn-inv}
 use Rattle.plain.proofs.Places.{taskOf, lengths}

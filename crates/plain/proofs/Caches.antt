@@ -22,13 +22,12 @@ use Rattle.classes.proofs.Tables.{perRegion-low}
 use Rattle.plain.specs.State.{Place, idle, a1, a4, a8, f1, f2, Task, Mem}
 use Rattle.plain.specs.Steps.{cached, a1Step, a8Step, f1Step, f2Step, stepAt}
 use Rattle.plain.specs.Blocks.{blocksFrom}
-use Rattle.plain.specs.Held.{hold, held, underWay}
+use Rattle.plain.specs.Held.{hold, held, blockIn, classBlockIn, descriptorIn, spareIn, listedIn}
+use Rattle.plain.specs.Held.{regionIn, unmappedIn, underWay}
 use Rattle.plain.specs.Weights.{rowWeight, blockWeight}
 use Rattle.plain.specs.Places.{Together, HoldsAt, NoteHolds}
 use Rattle.plain.specs.Invariant.{Invariant}
 use Rattle.plain.proofs.Tests.{either, Kept}
-use Rattle.plain.proofs.Held.{blockIn, classBlockIn, spareIn, listedIn, descriptorIn, regionIn}
-use Rattle.plain.proofs.Held.{unmappedIn}
 use Rattle.plain.proofs.Homes.{inside-open}
 use Rattle.plain.proofs.Notes.{as-before}
 use Rattle.plain.proofs.Turn.{Turn, fewer, as-mapped, turn-inv, within}
@@ -160,6 +159,7 @@ module _ {area : ℕ} {m : Mem} {t : ℕ} {k : ℕ → List ℕ} where
       (λ v. omega (arith, h v, ap (λ n. count v (blocksFrom r c i n)) f)) (omega arith)
       (o .0, omega (arith, length-update k c q), omega arith) tt
 
+  -- The step itself.
   pub a8-inv : (c r i : ℕ) → Turn area m t (taskOf (a8 c r i) k) → Kept area (a8Step t k c r i m)
   a8-inv c r i w = carve-inv c r i _ (λ v. omega arith) (omega arith) w (ℕ-discrete (suc i) (perRegion c))
 

@@ -11,36 +11,42 @@ use Rattle.plain.specs.Steps.{f6, f5}
 use Rattle.plain.specs.Held.{hold, owed, held}
 use Rattle.plain.specs.Places.{HoldsAt, NoteHolds}
 
--- ---- what it has under way: the block being freed, and the descriptor that it owes
+-- ---- what it has under way
 
+-- From step 6 on it has the block being freed, ..
 pub f6-held : (c u : ℕ) (q : List ℕ) → held (f6 q c u) ≡ hold c (u ∷ []) [] [] []
 f6-held c u [] = refl
 f6-held c u (x ∷ q) = refl
 
+-- .. and at step 5 the descriptor that it owes too.
 pub f5-held : (s : State) (c u d : ℕ) (q : List ℕ) → held (f5 s q c u d) ≡ hold c (u ∷ []) [] (owed s d) []
 f5-held EMPTY c u d q = f6-held c u q
 f5-held PARTIAL c u d q = f6-held c u q
 f5-held FULL c u d q = refl
 
--- ---- what holds there: the cache has fewer than n blocks
+-- ---- what holds there
 
+-- The cache has fewer than n blocks at step 6, ..
 pub f6-holds : (map : ℕ → ℕ) (k : ℕ → List ℕ) (c u : ℕ) (q : List ℕ) → k c ≡ q → c < 16
     → length (k c) < perRegion c → HoldsAt map k (f6 q c u)
 f6-holds map k c u [] e l h = l
 f6-holds map k c u (x ∷ q) e l h = (l, omega (arith, ap length e), omega arith, tt)
 
+-- .. and at step 5.
 pub f5-holds : (map : ℕ → ℕ) (k : ℕ → List ℕ) (s : State) (c u d : ℕ) → c < 16 → length (k c) < perRegion c
     → HoldsAt map k (f5 s (k c) c u d)
 f5-holds map k EMPTY c u d l h = f6-holds map k c u (k c) refl l h
 f5-holds map k PARTIAL c u d l h = f6-holds map k c u (k c) refl l h
 f5-holds map k FULL c u d l h = (l, h)
 
--- ---- nothing is noted there
+-- ---- what is noted there
 
+-- Nothing is noted at step 6, ..
 pub f6-note : (row : ℕ → List ℕ) (won : ℕ → ℕ) (c u : ℕ) (q : List ℕ) → NoteHolds row won (f6 q c u)
 f6-note row won c u [] = tt
 f6-note row won c u (x ∷ q) = tt
 
+-- .. nor at step 5.
 pub f5-note : (row : ℕ → List ℕ) (won : ℕ → ℕ) (s : State) (c u d : ℕ) (q : List ℕ)
     → NoteHolds row won (f5 s q c u d)
 f5-note row won EMPTY c u d q = f6-note row won c u q

@@ -12,12 +12,11 @@ use Rattle.rows.proofs.Weights.{weight-update}
 use Rattle.rows.proofs.Totals.{total-out, total-update}
 use Rattle.plain.specs.State.{Place, SPARES, REGIONS, Mem, setRow}
 use Rattle.plain.specs.Steps.{at}
-use Rattle.plain.specs.Held.{Held, held}
+use Rattle.plain.specs.Held.{Held, held, blockIn, classBlockIn, descriptorIn, spareIn, listedIn}
+use Rattle.plain.specs.Held.{regionIn, unmappedIn}
 use Rattle.plain.specs.Weights.{rowWeight}
 use Rattle.plain.specs.Places.{HoldsAt, NoteHolds}
 use Rattle.plain.specs.Invariant.{Invariant}
-use Rattle.plain.proofs.Held.{blockIn, classBlockIn, spareIn, listedIn, descriptorIn, regionIn}
-use Rattle.plain.proofs.Held.{unmappedIn}
 use Rattle.plain.proofs.Notes.{Exchanges, as-before, one-more}
 use Rattle.plain.proofs.Turn.{Turn, fewer, as-mapped, turn-inv}
 use Rattle.plain.proofs.Places.{taskOf, lengths}

@@ -10,11 +10,10 @@ use Rattle.classes.specs.Classes.{perRegion}
 use Rattle.plain.specs.State.{Phase, Pop, partial, spare, region, Push, retire, back, release, offer, Place}
 use Rattle.plain.specs.State.{popping, pushing, Task, Mem}
 use Rattle.plain.specs.Steps.{at}
-use Rattle.plain.specs.Held.{hold, held}
+use Rattle.plain.specs.Held.{hold, held, blockIn, classBlockIn, descriptorIn, spareIn, listedIn}
+use Rattle.plain.specs.Held.{regionIn, unmappedIn}
 use Rattle.plain.specs.Places.{HoldsAt, NoteHolds}
 use Rattle.plain.specs.Invariant.{Invariant}
-use Rattle.plain.proofs.Held.{blockIn, classBlockIn, spareIn, listedIn, descriptorIn, regionIn}
-use Rattle.plain.proofs.Held.{unmappedIn}
 use Rattle.plain.proofs.Turn.{Turn, taskHolds, within}
 
 -- a task at the place p, with the caches k
@@ -27,25 +26,29 @@ pub turnAt : {area : ℕ} {m : Mem} {t : ℕ} {p : Place} → Invariant area m �
 turnAt {m = m} {t = t} I l e =
     record { inv = I; fits = l; is = λ i. record { place = e i; cache = m .task t .cache } }
 
--- ---- the phases of a pop or a push hold the same and ask the same
+-- ---- the phases of a pop or a push
 
+-- The phases of a pop have the same under way, ..
 pub pop-held : (p : Pop) (φ ψ : Phase) → held (popping p ψ) ≡ held (popping p φ)
 pop-held (partial c) φ ψ = refl
 pop-held (spare c) φ ψ = refl
 pop-held (region c d) φ ψ = refl
 
+-- .. as have those of a push.
 pub push-held : (p : Push) (φ ψ : Phase) → held (pushing p ψ) ≡ held (pushing p φ)
 push-held (retire c d) φ ψ = refl
 push-held (back c d) φ ψ = refl
 push-held (release c u d w r) φ ψ = refl
 push-held (offer c u d) φ ψ = refl
 
+-- What holds at a phase of a pop holds at the others, ..
 pub pop-holds : (map : ℕ → ℕ) (k : ℕ → List ℕ) (p : Pop) (φ ψ : Phase)
     → HoldsAt map k (popping p φ) → HoldsAt map k (popping p ψ)
 pop-holds map k (partial c) φ ψ h = h
 pop-holds map k (spare c) φ ψ h = h
 pop-holds map k (region c d) φ ψ h = h
 
+-- .. and so at those of a push.
 pub push-holds : (map : ℕ → ℕ) (k : ℕ → List ℕ) (p : Push) (φ ψ : Phase)
     → HoldsAt map k (pushing p φ) → HoldsAt map k (pushing p ψ)
 push-holds map k (retire c d) φ ψ h = h

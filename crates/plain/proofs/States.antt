@@ -51,27 +51,33 @@ open-holds EMPTY l h = absurd (omega (arith, l 1))
 open-holds PARTIAL l h = h
 open-holds FULL l h = h
 
+-- What holds may be asked in every state.
 pub open-asks : (z : State) {X : Type 0} → X → IfOpen z X
 open-asks EMPTY x = tt
 open-asks PARTIAL x = x
 open-asks FULL x = x
 
+-- An open anchor does not count as EMPTY.
 pub open-not-empty : (z : State) → IsOpen z → isEmpty z ≡ 0
 open-not-empty EMPTY h = absurd (omega (arith, h 1))
 open-not-empty PARTIAL h = refl
 open-not-empty FULL h = refl
 
+-- What is asked of an open anchor may be replaced by what follows from it.
 pub open-map : (z : State) {X Y : Type 0} → (IsOpen z → X → Y) → IfOpen z X → IfOpen z Y
 open-map EMPTY f x = tt
 open-map PARTIAL f x = f (λ i. refl) x
 open-map FULL f x = f (λ i. refl) x
 
--- ---- the state of a descriptor, found out
+-- ---- the states
+
+-- a state is one of the three
 pub data IsState (s : State) : Type 0 where
   is-empty : s ≡ EMPTY → IsState s
   is-partial : s ≡ PARTIAL → IsState s
   is-full : s ≡ FULL → IsState s
 
+-- Which state it is.
 pub state? : (s : State) → IsState s
 state? EMPTY = is-empty refl
 state? PARTIAL = is-partial refl

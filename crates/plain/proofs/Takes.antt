@@ -57,7 +57,7 @@ taken {m = m} {c = c} {d = d} {n = n} w s = by (state? (m .descriptor d .state))
           state = e;
           class = of-class;
           opened = v;
-          chain = (z .0, omega (arith, ap perRegion of-class));
+          chain = (omega arith, omega (arith, ap perRegion of-class));
         }
 
 module _ {area : ℕ} {m : Mem} {t : ℕ} {k : ℕ → List ℕ} where

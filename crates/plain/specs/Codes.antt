@@ -10,7 +10,7 @@ use Rattle.plain.specs.Moves.{found-empty, pushed, Answer}
 use Rattle.plain.specs.Steps.{Result, step}
 use Rattle.plain.specs.Calls.{Pool, Call, go, became}
 
--- the codes of a step
+-- the codes of a step: "Code 0 is accepted or still under way, 20 finished"; 7 without a request; 12 and 13 end one
 pub data StepCode : ℕ → Type 0 where
   under-way : StepCode 0
   no-request : StepCode 7
@@ -43,6 +43,7 @@ pub data WayBack (t : ℕ) (m : Mem) (c d : ℕ) : Phase → Type 0 where
 
 -- x is what a step of the task t makes of the memory m
 pub record StepFacts (t : ℕ) (m : Mem) (x : Result) : Type 0 where
+  -- the code is one of five
   pub code : StepCode (x .1 .code)
   -- 12 is answered by the read of an empty list of spare descriptors only
   pub twelve : x .1 .code ≡ 12 → ReadsNoSpare t m × (x .1 .decided ≡ found-empty SPARES)

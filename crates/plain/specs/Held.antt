@@ -56,6 +56,38 @@ held (f3-exchange c u y g d n) = hold c (u ∷ y ∷ g) [] [] []
 held (f4-clear c u d w r) =
     record { class = c; blocks = u ∷ []; spares = []; listed = owed w d; regions = []; closing = r ∷ [] }
 
+-- ---- how often something is under way
+
+-- the block v
+abbrev pub blockIn : ℕ → Held → ℕ
+blockIn v h = count v (h .blocks)
+
+-- .. for the class c
+abbrev pub classBlockIn : ℕ → ℕ → Held → ℕ
+classBlockIn c v h = when c (h .class) (count v (h .blocks))
+
+-- the descriptor d
+abbrev pub descriptorIn : ℕ → Held → ℕ
+descriptorIn d h = count d (h .spares) + count d (h .listed)
+
+-- .. as spare
+abbrev pub spareIn : ℕ → Held → ℕ
+spareIn d h = count d (h .spares)
+
+-- .. for the partial list of the class c
+abbrev pub listedIn : ℕ → ℕ → Held → ℕ
+listedIn c d h = when c (h .class) (count d (h .listed))
+
+-- the region r
+abbrev pub regionIn : ℕ → Held → ℕ
+regionIn r h = count r (h .regions) + count r (h .closing)
+
+-- .. without an entry in the map
+abbrev pub unmappedIn : ℕ → Held → ℕ
+unmappedIn r h = count r (h .regions)
+
+-- ---- the same of a place
+
 -- the class of what is under way
 abbrev pub classAt : Place → ℕ
 classAt p = held p .class
@@ -64,22 +96,22 @@ classAt p = held p .class
 abbrev pub underWay : Place → List ℕ
 underWay p = held p .blocks
 
--- how often the descriptor d is held as spare
-abbrev pub holdsSpare : ℕ → Place → ℕ
-holdsSpare d p = count d (held p .spares)
-
--- how often it is held for the partial list of the class c
-abbrev pub holdsForClass : ℕ → ℕ → Place → ℕ
-holdsForClass c d p = when c (held p .class) (count d (held p .listed))
-
--- how often it is held
+-- how often the descriptor d is held
 abbrev pub holdsDescriptor : ℕ → Place → ℕ
-holdsDescriptor d p = count d (held p .spares) + count d (held p .listed)
+holdsDescriptor d p = descriptorIn d (held p)
+
+-- .. as spare
+abbrev pub holdsSpare : ℕ → Place → ℕ
+holdsSpare d p = spareIn d (held p)
+
+-- .. for the partial list of the class c
+abbrev pub holdsForClass : ℕ → ℕ → Place → ℕ
+holdsForClass c d p = listedIn c d (held p)
 
 -- how often the region r is held
 abbrev pub holdsRegion : ℕ → Place → ℕ
-holdsRegion r p = count r (held p .regions) + count r (held p .closing)
+holdsRegion r p = regionIn r (held p)
 
--- how often it is held without an entry in the map
+-- .. without an entry in the map
 abbrev pub holdsUnmapped : ℕ → Place → ℕ
-holdsUnmapped r p = count r (held p .regions)
+holdsUnmapped r p = unmappedIn r (held p)

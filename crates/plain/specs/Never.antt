@@ -1,4 +1,4 @@
--- What never happens, so that the plain pool's definitions may say there what they like.
+-- What never happens, though the plain pool's definitions say what would be done there.
 -- Assumes nothing.
 use mathlib.Core.Path.{_≡_}
 use mathlib.Core.Logic.{_≢_}
@@ -33,7 +33,7 @@ pub record GroupNamed (m : Mem) (c y : ℕ) (g : List ℕ) : Type 0 where
   pub class : m .descriptor d .class ≡ c
   pub count : length (y ∷ (g ++ m .descriptor d .chain)) ≤ perRegion c
 
--- of the task t of the memory m
+-- what never happens at a step of the task t
 pub record NeverHappens (m : Mem) (t : ℕ) : Type 0 where
   -- a pop's exchange whose list has the noted number finds a top item
   pub popExchange : (p : Pop) (n : ℕ) → m .task t .place ≡ popping p (exchange n) → m .won (popList p) ≡ n

@@ -17,10 +17,10 @@ pub record OpenBlock (m : Mem) (v d : ℕ) : Type 0 where
   pub opens : Opens (m .descriptor d) (regionOf v)
   pub first : First (m .descriptor d .class) v
 
--- where the unit v is
+-- where the unit v is: "Its holder, or place, is a user's hands, a task or its region's chain, and it stands there
+-- once." What is under way counts with the task's caches.
 pub record OnePlace (m : Mem) (v : ℕ) : Type 0 where
-  -- a block of an open region is once in a user's hands, or with a task, cached or under way, or in the region's
-  -- chain
+  -- a block of an open region is once in a user's hands, or with a task, or in the region's chain
   pub once : (d : ℕ) → OpenBlock m v d
       → m .hands v + total 8 (blockWeight v) (m .task) + count v (m .descriptor d .chain) ≡ 1
   -- .. and it is with a task for its class alone

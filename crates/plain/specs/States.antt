@@ -26,15 +26,11 @@ IfEmpty EMPTY X = X
 IfEmpty PARTIAL X = Unit {0}
 IfEmpty FULL X = Unit {0}
 
--- n while the anchor is FULL, else 0
-abbrev pub ifFull : State → ℕ → ℕ
-ifFull EMPTY n = 0
-ifFull PARTIAL n = 0
-ifFull FULL n = n
-
 -- 1 if the anchor is FULL, else 0
 abbrev pub isFull : State → ℕ
-isFull s = ifFull s 1
+isFull EMPTY = 0
+isFull PARTIAL = 0
+isFull FULL = 1
 
 -- 1 if the anchor is EMPTY, else 0
 abbrev pub isEmpty : State → ℕ

@@ -9,11 +9,12 @@ use Rattle.rows.specs.Totals.{total}
 use Rattle.plain.specs.State.{Descriptor, Task}
 use Rattle.plain.specs.Blocks.{isBlock}
 use Rattle.plain.specs.States.{ifOpen, isFull}
-use Rattle.plain.specs.Held.{classAt, underWay, holdsSpare, holdsForClass, holdsDescriptor}
+use Rattle.plain.specs.Held.{classAt, underWay, holdsDescriptor, holdsSpare, holdsForClass}
 use Rattle.plain.specs.Held.{holdsRegion, holdsUnmapped}
 
--- ---- a row: how often v stands in it
+-- ---- a row
 
+-- how often v stands in it
 abbrev pub rowWeight : ℕ → ℕ → List ℕ → ℕ
 rowWeight v i q = count v q
 
