@@ -72,7 +72,7 @@ module _ {area : ℕ} {m : Mem} (I : Invariant area m) where
       }
 
   -- the descriptor that has v in its region, if the region has it at all
-  found : (v : ℕ) → 1 ≤ total 64 (insideWeight v) (m .descriptor) → (d : ℕ) × OpenBlock m v d
+  pub found : (v : ℕ) → 1 ≤ total 64 (insideWeight v) (m .descriptor) → (d : ℕ) × OpenBlock m v d
   found v h =
       let f = total-found 64 (insideWeight v) (m .descriptor) h in
       let D = m .descriptor (f .at) in

@@ -40,3 +40,4 @@ pub mod Pushes
 pub mod Stepping
 pub mod Theorem
 pub mod Observing
+pub mod Lent

@@ -31,6 +31,7 @@ use Rattle.plain.specs.Invariant.{Invariant, OpenDescriptor}
 use Rattle.plain.proofs.Blocks.{block-counts, counts-block}
 use Rattle.plain.proofs.States.{open-holds}
 use Rattle.plain.proofs.Homes.{inside-open}
+use Rattle.plain.proofs.OnePlace.{found}
 use Rattle.plain.proofs.Places.{taskOf, placeHolds}
 use Rattle.plain.proofs.Starts.{rising-count, length-rising}
 use Rattle.stepped.specs.Memory.{Slot, Memory}
@@ -53,6 +54,9 @@ list-read {nx} (suc n) (links {u = u} {r = r} e l) h =
 -- a row of different numbers below n has no more than n
 short : (n : ℕ) (q : List ℕ) → ((v : ℕ) → count v q ≤ below v n) → length q ≤ n
 short n q h = omega (arith, pigeonhole q (rising n 0) (λ v. omega (arith, h v, rising-count n v)), length-rising n 0)
+
+more : {l n : ℕ} → l ≤ n → l ≤ suc n
+more h = omega arith
 
 -- ---- open regions
 
@@ -239,10 +243,23 @@ module _ {regions : ℕ} {a : Memory} {m : Mem} (small : regions ≤ 16) (R : Re
       → m .hands v + total 8 (blockWeight v) (m .task) + count v (plainChain m r) ≡ 1
   plain-one r c v l f b = one-in (m .map r) r c v refl (I .entries r) f b
 
+  chain-blocks : (z r c v : ℕ) → z ≤ 64 → plainClassBy z r m ≡ suc c → 1 ≤ count v (plainChainBy z r m) → Block r c v
+  chain-blocks zero r c v l f h = absurd (omega arith)
+  chain-blocks (suc d) r c v l f h = go (opens? (m .descriptor d) r) f h
+    where
+      go : (q : Dec (Opens (m .descriptor d) r)) → if q (suc (m .descriptor d .class)) 0 ≡ suc c
+          → 1 ≤ count v (if q (m .descriptor d .chain) []) → Block r c v
+      go (no q) f h = absurd (omega arith)
+      go (yes q) f h =
+          let D = m .descriptor d in
+          let L = open-holds (D .state) (number-open (D .state) (not-empty R I (D .state) (q .1))) (I .chains d l) in
+          subst (λ (x : ℕ). Block r x v) (omega arith)
+          (subst (λ (x : ℕ). Block x (D .class) v) (q .0) (counts-block (D .region) (D .class) v (omega (arith, L .inside v))))
+
   pub observed : Same regions a m
   observed = record {
-    lists = λ ℓ l. list-read 64 (R .core .rows ℓ l) (short 64 (m .row ℓ) (λ v. omega (arith, I .descriptors v, total-one 17 (rowWeight v) (m .row) ℓ l)));
-    spares = list-read regions (R .core .spareRow) (short regions (m .row REGIONS) (λ v. omega (arith, I .regions v)));
+    lists = λ ℓ l. list-read 65 (R .core .rows ℓ l) (more (short 64 (m .row ℓ) (λ v. omega (arith, I .descriptors v, total-one 17 (rowWeight v) (m .row) ℓ l))));
+    spares = list-read (suc regions) (R .core .spareRow) (more (short regions (m .row REGIONS) (λ v. omega (arith, I .regions v))));
     classes = classes-at;
     chains = chains-at;
     holders = λ r v l k.
@@ -255,4 +272,6 @@ module _ {regions : ℕ} {a : Memory} {m : Mem} (small : regions ≤ 16) (R : Re
       total-same 8 (λ t s. withTask a t v) (a .slot) (blockWeight v) (m .task) (λ t i. with-task t v i),
     );
     plain-one-place = plain-one;
+    own-blocks = λ r c v l f h. chain-blocks (m .map r) r c v (I .entries r) f h;
+    held = λ v h. found I v (omega (arith, I .blocks v));
   }

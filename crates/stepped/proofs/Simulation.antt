@@ -28,7 +28,8 @@ use Rattle.stepped.specs.Outcome.{Outcome, Effect, effect, refuse, bad}
 use Rattle.stepped.specs.Calls as Stepped
 use Rattle.stepped.specs.Memory.{memoryOf}
 use Rattle.stepped.specs.Relation.{Related}
-use Rattle.stepped.specs.Events.{Memories, ran, Taken, InHands}
+use Rattle.stepped.specs.Events.{Memories, ran, Taken}
+use Rattle.stepped.specs.Agreement.{Kept}
 use Rattle.stepped.proofs.Both.{Both, Fitting, both-true, shown}
 use Rattle.stepped.proofs.Views.{views-related}
 use Rattle.stepped.proofs.Writing.{byte-kept}
@@ -42,10 +43,6 @@ pub record Sim (s₁ : Memories) (s : Pool) : Type 0 where
   pub some : 1 ≤ s .tasks → 1 ≤ s .regions
   pub regions : 1 ≤ s .tasks → seen (s₁ .control) Regions ≡ s .regions
   pub related : 1 ≤ s .tasks → Related (s .regions) (memoryOf (seen (s₁ .control)) (s₁ .area)) (s .mem)
-
--- each byte of a block in a user's hands before is as it was
-abbrev pub Kept : Memories → Pool → Memories → Type 0
-Kept s₁ s after = (at : ℕ) → InHands at s → getD (after .area) at 0 ≡ getD (s₁ .area) at 0
 
 -- the same answer, the relation after it, and what else is shown of the memories after it
 pub record Alike (Shown : Memories → Type 0) (x : Memories × Answer) (y : Pool × Answer) : Type 0 where

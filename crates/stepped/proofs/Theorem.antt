@@ -27,7 +27,7 @@ use Rattle.stepped.specs.Calls as Stepped
 use Rattle.stepped.specs.Memory.{memoryOf}
 use Rattle.stepped.specs.Relation.{Related}
 use Rattle.stepped.specs.Events.{Event, start, allocate, free, go, write, Memories, stepped, whole, Taken, Premise, Premises}
-use Rattle.stepped.specs.Agreement.{Agrees, Untouched, Agree, Unstarted, read}
+use Rattle.stepped.specs.Agreement.{Agrees, Kept, Untouched, Agree, Unstarted, read}
 use Rattle.stepped.proofs.Both.{Both, Fitting}
 use Rattle.stepped.proofs.Turns.{At}
 use Rattle.stepped.proofs.Simulation.{Sim, Alike, fitting, tested-alike, taken-is}
@@ -35,6 +35,7 @@ use Rattle.stepped.proofs.Starting.{start-alike, accepted-start}
 use Rattle.stepped.proofs.Begins.{when-idle, allocate-both, free-both}
 use Rattle.stepped.proofs.Stepping.{step-both}
 use Rattle.stepped.proofs.Writing.{write-related}
+use Rattle.stepped.proofs.Lent.{start-leaves}
 use Rattle.stepped.proofs.Observing.{observed}
 use Rattle.plain.proofs.Answers.{never-14}
 
@@ -80,8 +81,16 @@ good-after : {control area t : ℕ} {s : Pool} (y : Result) → Good (Plain.test
     → Good (Plain.became s y .0)
 good-after y g T = subst (λ (x : Pool × Answer). Good (x .0)) (taken-is y T) g
 
+-- what the turn of one event shows of the memories after it
+abbrev Shown : Event → Memories → Pool → Memories → Type 0
+Shown (start control area tasks) s₁ s z = Unit {0}
+Shown (allocate control area t size) s₁ s z = Kept s₁ s z
+Shown (free control area t u) s₁ s z = Kept s₁ s z
+Shown (go control area t) s₁ s z = Kept s₁ s z
+Shown (write at b) s₁ s z = Unit {0}
+
 -- one event: the same answer, in relation again, and each byte in hands as it was
-pub alike : (e : Event) (s₁ : Memories) (s : Pool) → Sim s₁ s → Premise e s → Alike (λ z. Untouched e s₁ z s) (stepped e s₁) (whole e s)
+pub alike : (e : Event) (s₁ : Memories) (s : Pool) → Sim s₁ s → Premise e s → Alike (Shown e s₁ s) (stepped e s₁) (whole e s)
 unfolding Plain.call Stepped.allocateOutcome Stepped.freeOutcome Stepped.stepOutcome
 alike (start control area tasks) s₁ s S h =
     start-alike S control area tasks (ℕ-discrete control 8192)
@@ -125,12 +134,21 @@ never (free control area t u) s = never-14 (Plain.free control area t u) s
 never (go control area t) s = never-14 (Plain.go control area t) s
 never (write at b) s = λ e. absurd (omega arith)
 
-agrees : (e : Event) (s₁ : Memories) (s : Pool) → Alike (λ z. Untouched e s₁ z s) (stepped e s₁) (whole e s) → Agrees (stepped e s₁) (whole e s)
+untouched : (e : Event) (s₁ : Memories) (s : Pool) → Shown e s₁ s (stepped e s₁ .0) → Untouched e s₁ (stepped e s₁) s
+untouched (start control area tasks) s₁ s h = start-leaves area tasks control (s₁ .control) (s₁ .area)
+untouched (allocate control area t size) s₁ s h = h
+untouched (free control area t u) s₁ s h = h
+untouched (go control area t) s₁ s h = h
+untouched (write at b) s₁ s h = tt
+
+agrees : (e : Event) (s₁ : Memories) (s : Pool) → Alike (Shown e s₁ s) (stepped e s₁) (whole e s) → Agrees (stepped e s₁) (whole e s)
 agrees e s₁ s A = record {
   says = A .says;
   never-14 = subst (λ (x : Answer). x .code ≢ 14) (sym (A .says)) (never e s);
   tasks = A .sim .tasks;
   regions = A .sim .regions;
+  control-length = A .sim .length;
+  area-length = λ h. A .sim .related h .core .length;
   same = λ h. observed (A .sim .good .small h) (A .sim .related h) (A .sim .good .inv h);
 }
 
@@ -139,7 +157,7 @@ pub agree : (es : List Event) (s₁ : Memories) (s : Pool) → Sim s₁ s → Pr
 agree [] s₁ s S p = tt
 agree (e ∷ es) s₁ s S p =
     let A = alike e s₁ s S (p .0) in
-    ((agrees e s₁ s A, A .shows), agree es (stepped e s₁ .0) (whole e s .0) (A .sim) (p .1))
+    ((agrees e s₁ s A, untouched e s₁ s (A .shows)), agree es (stepped e s₁ .0) (whole e s .0) (A .sim) (p .1))
 
 -- Demand 3, and demand 1's last sentence. For every list of calls with users' writes between them, from any control memory that
 -- is not started, under the premises: the stepped run and the whole run decide the same moves at the same calls, give the same

@@ -2,7 +2,7 @@
 -- order and each block's holder". It is read off the memories, through the links and by the counts, and off the plain pool.
 -- Assumes nothing.
 use mathlib.Core.Path.{_≡_}
-use mathlib.Core.List.{List, [], _∷_, _++_}
+use mathlib.Core.List.{List, [], _∷_}
 use Prim.Native.Nat.{ℕ, zero, suc, _+_, _-_, _≤_, _<_}
 use native.Mathlib.Decide.{ℕ-discrete, decLe}
 use lib.ListN.{getD}
@@ -17,6 +17,7 @@ use Rattle.plain.specs.State.{Mem, REGIONS}
 use Rattle.plain.specs.Calls.{opens?}
 use Rattle.plain.specs.Blocks.{blocksFrom}
 use Rattle.plain.specs.Weights.{blockWeight}
+use Rattle.plain.specs.OnePlace.{OpenBlock}
 use Rattle.stepped.specs.Memory.{Slot, Memory}
 
 -- ---- lists
@@ -27,12 +28,13 @@ listFrom next zero f = []
 listFrom next (suc n) zero = []
 listFrom next (suc n) (suc x) = x ∷ listFrom next n (next x)
 
--- the list ℓ of descriptors, and that of the spare regions
+-- The list ℓ of descriptors, and that of the spare regions: one item more is read than there are descriptors or regions, so that
+-- a list that does not end is not taken for one that does.
 abbrev pub listOf : Memory → ℕ → List ℕ
-listOf a ℓ = listFrom (a .descriptorNext) 64 (a .head ℓ .item)
+listOf a ℓ = listFrom (a .descriptorNext) 65 (a .head ℓ .item)
 
 abbrev pub spareRegions : Memory → ℕ → List ℕ
-spareRegions a regions = listFrom (a .regionNext) regions (a .head REGIONS .item)
+spareRegions a regions = listFrom (a .regionNext) (suc regions) (a .head REGIONS .item)
 
 -- ---- open regions: "a region is open while that descriptor names it back and its anchor is not EMPTY"
 
@@ -131,9 +133,14 @@ pub record Same (regions : ℕ) (a : Memory) (m : Mem) : Type 0 where
   pub spares : spareRegions a regions ≡ m .row REGIONS
   pub classes : (r : ℕ) → r < regions → classBy (a .map r) r a ≡ plainClass m r
   pub chains : (r : ℕ) → r < regions → chainBy (a .map r) r a ≡ plainChain m r
+  -- the holder of the block v of the region r, and, beyond what is asked, of every unit with regard to every region
   pub holders : (r v : ℕ) → r < regions → v < 8192 → holderIn a r v ≡ plainHolder m r v
   -- "each block of an open region is in exactly one place": counted in the memories, and in the plain pool
   pub one-place : (r c v : ℕ) → r < regions → classBy (a .map r) r a ≡ suc c → Block r c v
       → a .mark v + total 8 (λ t s. withTask a t v) (a .slot) + count v (chainBy (a .map r) r a) ≡ 1
   pub plain-one-place : (r c v : ℕ) → r < regions → plainClass m r ≡ suc c → Block r c v
       → m .hands v + total 8 (blockWeight v) (m .task) + count v (plainChain m r) ≡ 1
+  -- an open region's chain has blocks of this region and class alone, so that no block stands in another region's chain
+  pub own-blocks : (r c v : ℕ) → r < regions → plainClass m r ≡ suc c → 1 ≤ count v (plainChain m r) → Block r c v
+  -- what is in a user's hands is a block of an open region
+  pub held : (v : ℕ) → 1 ≤ m .hands v → (d : ℕ) × OpenBlock m v d
