@@ -1,7 +1,9 @@
 -- The layout of the control memory, 8,192 bytes. Each column has its first byte, its width and how many numbers it has;
 -- docs/LAYOUT.md gives each field's range and says what the gaps are kept for.
 use Prim.Native.Nat.{ℕ, _+_, _*_}
+use mathlib.Core.Path.{_≡_}
 use mathlib.Core.List.{List, [], _∷_}
+use lib.ListN.{length}
 use Rattle.fields.specs.Columns.{Column, Field, View, Write, view, written}
 
 abbrev column : ℕ → ℕ → ℕ → Column
@@ -152,3 +154,7 @@ seen = view layout
 -- a control memory after writes to its fields
 abbrev pub changed : List Write → List ℕ → List ℕ
 changed = written layout
+
+-- a control memory: every call tests its length first
+abbrev pub Control : List ℕ → Type 0
+Control b = length b ≡ 8192

@@ -1,3 +1,9 @@
-// The control memory: its layout, what a call answers, and the reasons of the list moves.
+// The control memory: its fields, what a call answers, and the reasons of the list moves.
 pub mod answer;
+pub mod caches;
+pub mod lists;
 pub mod moves;
+pub mod notes;
+pub mod regions;
+pub mod started;
+pub mod tasks;

@@ -41,3 +41,4 @@ pub mod Stepping
 pub mod Theorem
 pub mod Observing
 pub mod Lent
+pub mod Doing

@@ -12,3 +12,4 @@ pub mod Relation
 pub mod Events
 pub mod Observe
 pub mod Agreement
+pub mod Done

@@ -1,0 +1,37 @@
+// The caches: of each task and class the top block and how many there are. The callers are the steps that take a block from a
+// cache or put one on it.
+ghost use mathlib.Core.Path.{_≡_};
+ghost use mathlib.Core.List.{[], _∷_};
+ghost use Prim.Native.Nat.{_<_};
+ghost use Rattle.fields.specs.Columns.{_:=_};
+ghost use Rattle.control.specs.Layout.{Control, seen, changed, CacheTop, CacheCount};
+
+// The top block of a task's cache of a class: its unit, 8,192 for none.
+pub fn cache_top(c: &[u8], task: usize, class: usize) -> u16
+    requires { ⌜ Control (now c) × (task < 8) × (class < 16) ⌝ }
+    ensures { λ r. ⌜ r ≡ seen (now (c .entry)) (CacheTop task class) ⌝ }
+{
+    fields::load16(c, 4992 + (16 * task + class) * 2)
+}
+
+pub fn set_cache_top(c: &mut [u8], task: usize, class: usize, value: u16)
+    requires { ⌜ Control (now c) × (task < 8) × (class < 16) ⌝ }
+    ensures { λ r. ⌜ now (c .exit) ≡ changed (CacheTop task class := value ∷ []) (now (c .entry)) ⌝ }
+{
+    fields::store16(c, 4992 + (16 * task + class) * 2, value);
+}
+
+// How many blocks that cache has.
+pub fn cache_count(c: &[u8], task: usize, class: usize) -> u16
+    requires { ⌜ Control (now c) × (task < 8) × (class < 16) ⌝ }
+    ensures { λ r. ⌜ r ≡ seen (now (c .entry)) (CacheCount task class) ⌝ }
+{
+    fields::load16(c, 5248 + (16 * task + class) * 2)
+}
+
+pub fn set_cache_count(c: &mut [u8], task: usize, class: usize, value: u16)
+    requires { ⌜ Control (now c) × (task < 8) × (class < 16) ⌝ }
+    ensures { λ r. ⌜ now (c .exit) ≡ changed (CacheCount task class := value ∷ []) (now (c .entry)) ⌝ }
+{
+    fields::store16(c, 5248 + (16 * task + class) * 2, value);
+}

@@ -1,0 +1,36 @@
+-- What the functions of the steps ask and ensure.
+-- Assumes nothing.
+use mathlib.Core.Path.{_≡_}
+use mathlib.Core.List.{List, []}
+use Prim.Native.Nat.{ℕ, _*_, _≤_, _<_}
+use lib.ListN.{length}
+use Rattle.links.specs.Link.{linked}
+use Rattle.control.specs.Layout.{changed}
+use Rattle.control.specs.declared.answer.Answer.{Answer}
+use Rattle.stepped.specs.Outcome.{Outcome}
+
+-- a control memory, r started regions, and a task t whose request is of the class c; the tests of the call have shown it
+pub record Given (memory : List ℕ) (r t c : ℕ) : Type 0 where
+  pub control : length memory ≡ 8192
+  pub some : 1 ≤ r
+  pub regions : r ≤ 16
+  pub task : t < 8
+  pub class : c < 16
+
+-- the same, with an area of so many regions
+pub record Lent (memory blocks : List ℕ) (r t c : ℕ) : Type 0 where
+  pub given : Given memory r t c
+  pub area : length blocks ≡ 4096 * r
+
+-- A function that is handed the control memory alone: its answer and every byte afterwards are those of the outcome, which
+-- writes no link.
+pub record Done (o : Outcome) (before after : List ℕ) (r : Answer) : Type 0 where
+  pub answer : r ≡ o .answer
+  pub control : after ≡ changed (o .writes) before
+  pub links : o .links ≡ []
+
+-- A function that is handed both memories.
+pub record DoneIn (o : Outcome) (c a c′ a′ : List ℕ) (r : Answer) : Type 0 where
+  pub answer : r ≡ o .answer
+  pub control : c′ ≡ changed (o .writes) c
+  pub area : a′ ≡ linked (o .links) a
