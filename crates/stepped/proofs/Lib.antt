@@ -42,3 +42,11 @@ pub mod Theorem
 pub mod Observing
 pub mod Lent
 pub mod Doing
+pub mod Ways
+pub mod MoveWays
+pub mod StepWays
+pub mod Ends
+pub mod TaskHands
+pub mod TaskLists
+pub mod Unstarted
+pub mod InRange

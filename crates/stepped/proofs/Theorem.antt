@@ -27,7 +27,7 @@ use Rattle.stepped.specs.Calls as Stepped
 use Rattle.stepped.specs.Memory.{memoryOf}
 use Rattle.stepped.specs.Relation.{Related}
 use Rattle.stepped.specs.Events.{Event, start, allocate, free, go, write, Memories, stepped, whole, Taken, Premise, Premises}
-use Rattle.stepped.specs.Agreement.{Agrees, Kept, Untouched, Agree, Unstarted, read}
+use Rattle.stepped.specs.Agreement.{Agrees, Kept, Unchanged, Untouched, Agree, Unstarted, read}
 use Rattle.stepped.proofs.Both.{Both, Fitting}
 use Rattle.stepped.proofs.Turns.{At}
 use Rattle.stepped.proofs.Simulation.{Sim, Alike, fitting, tested-alike, taken-is}
@@ -35,7 +35,9 @@ use Rattle.stepped.proofs.Starting.{start-alike, accepted-start}
 use Rattle.stepped.proofs.Begins.{when-idle, allocate-both, free-both}
 use Rattle.stepped.proofs.Stepping.{step-both}
 use Rattle.stepped.proofs.Writing.{write-related}
-use Rattle.stepped.proofs.Lent.{start-leaves}
+use Rattle.stepped.proofs.Lent.{start-leaves, refused-leaves, outcome-leaves}
+use Rattle.stepped.proofs.Unstarted.{unstarted-sim}
+use Rattle.stepped.proofs.Ends.{start-ends, allocate-ends, free-ends, step-ends}
 use Rattle.stepped.proofs.Observing.{observed}
 use Rattle.plain.proofs.Answers.{never-14}
 
@@ -141,6 +143,19 @@ untouched (free control area t u) s₁ s h = h
 untouched (go control area t) s₁ s h = h
 untouched (write at b) s₁ s h = tt
 
+-- a refused call leaves both memories
+unchanged : (e : Event) (s₁ : Memories) → Unchanged s₁ (stepped e s₁)
+unchanged (start control area tasks) s₁ =
+    refused-leaves (Stepped.startIn control area tasks (s₁ .control) (s₁ .area)) s₁ (start-ends control area tasks (s₁ .control) (s₁ .area) .leaves)
+unchanged (allocate control area t size) s₁ =
+    outcome-leaves (Stepped.allocateOutcome control area (seen (s₁ .control)) t size) s₁ (allocate-ends control area (seen (s₁ .control)) t size .nothing)
+unchanged (free control area t u) s₁ =
+    outcome-leaves (Stepped.freeOutcome control area (seen (s₁ .control)) t u) s₁ (free-ends control area (seen (s₁ .control)) t u .nothing)
+unchanged (go control area t) s₁ =
+    outcome-leaves (Stepped.stepOutcome control area (seen (s₁ .control)) (link (s₁ .area)) t) s₁
+    (step-ends control area (seen (s₁ .control)) (link (s₁ .area)) t .nothing)
+unchanged (write at b) s₁ = λ h k. absurd (omega arith)
+
 agrees : (e : Event) (s₁ : Memories) (s : Pool) → Alike (Shown e s₁ s) (stepped e s₁) (whole e s) → Agrees (stepped e s₁) (whole e s)
 agrees e s₁ s A = record {
   says = A .says;
@@ -157,23 +172,14 @@ pub agree : (es : List Event) (s₁ : Memories) (s : Pool) → Sim s₁ s → Pr
 agree [] s₁ s S p = tt
 agree (e ∷ es) s₁ s S p =
     let A = alike e s₁ s S (p .0) in
-    ((agrees e s₁ s A, untouched e s₁ s (A .shows)), agree es (stepped e s₁ .0) (whole e s .0) (A .sim) (p .1))
+    ((agrees e s₁ s A, unchanged e s₁, untouched e s₁ s (A .shows)), agree es (stepped e s₁ .0) (whole e s .0) (A .sim) (p .1))
 
 -- Demand 3, and demand 1's last sentence. For every list of calls with users' writes between them, from any control memory that
 -- is not started, under the premises: the stepped run and the whole run decide the same moves at the same calls, give the same
 -- code and value, never 14, and have after every call the same lists, chains and holders; each block of an open region is in
 -- exactly one place; and no call changes a byte of a block in a user's hands.
 pub agreement : (es : List Event) (s₁ : Memories) → Unstarted s₁ → Premises es unstarted → Agree es s₁ unstarted
-unfolding unstarted
-agreement es s₁ U p = agree es s₁ unstarted (record {
-  length = U .length;
-  bytes = U .bytes;
-  tasks = U .tasks;
-  good = record { few = omega arith; small = λ h. absurd (omega arith); inv = λ h. absurd (omega arith) };
-  some = λ h. absurd (omega arith);
-  regions = λ h. absurd (omega arith);
-  related = λ h. absurd (omega arith);
-}) p
+agreement es s₁ U p = agree es s₁ unstarted (unstarted-sim U) p
 
 -- The same from an accepted start on any memories and in any pool: the control memory before it may look like a started pool, or
 -- hold anything.

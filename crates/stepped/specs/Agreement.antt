@@ -44,11 +44,16 @@ Untouched (free control area t u) s₁ x s = Kept s₁ s (x .0)
 Untouched (go control area t) s₁ x s = Kept s₁ s (x .0)
 Untouched (write at b) s₁ x s = Unit {0}
 
+-- "A refused call .. leaves both memories unchanged" (the paper): the pool's, also where it was lent others.
+abbrev pub Unchanged : Memories → Memories × Answer → Type 0
+Unchanged s₁ x = 1 ≤ x .1 .code → x .1 .code ≤ 11 → x .0 ≡ s₁
+
 -- every event of the list, in its order
 abbrev pub Agree : List Event → Memories → Pool → Type 0
 Agree [] s₁ s = Unit {0}
 Agree (e ∷ es) s₁ s =
-    (Agrees (stepped e s₁) (whole e s) × Untouched e s₁ (stepped e s₁) s) × Agree es (stepped e s₁ .0) (whole e s .0)
+    (Agrees (stepped e s₁) (whole e s) × Unchanged s₁ (stepped e s₁) × Untouched e s₁ (stepped e s₁) s)
+    × Agree es (stepped e s₁ .0) (whole e s .0)
 
 -- The memories that the runs may begin with: a control memory of 8,192 bytes that is not started, as all zeros are, whatever
 -- else it holds; and any area, for no call but a start takes one.

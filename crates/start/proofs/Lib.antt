@@ -1,0 +1,2 @@
+-- The laws of the start's image.
+pub mod Columns

@@ -1,0 +1,40 @@
+-- The caches are emptied from the last down.
+-- Assumes nothing.
+use mathlib.Core.Path.{_≡_, refl, ap, _∙_}
+use mathlib.Core.List.{List, [], _∷_}
+use Prim.Native.Nat.{ℕ, _-_, _≤_, _<_}
+use native.Mathlib.Omega.{arith}
+use lib.ListN.{length}
+use borrow.Author.Needs.{needs}
+use Rattle.fields.specs.Columns.{Field, _:=_}
+use Rattle.control.specs.Layout.{changed, Top}
+use Rattle.start.proofs.Columns.{Filling, filling-begins, filling-goes, filling-ends, top-at}
+use Rattle.start.proofs.empty_caches.Statement.{statement}
+use Rattle.start.proofs.empty_caches.Tie as tie
+
+abbrev Inv-loop : tie.InvT-loop
+Inv-loop control₀ i₀ control i = Filling Top (λ i. 8192) 128 control₀ i control
+
+abbrev μ-loop : tie.MeasureT-loop
+μ-loop control₀ i₀ control i = i
+
+loop-again : tie.Need-loop-again Inv-loop μ-loop
+loop-again c =
+    let turn = c .before .before in
+    let at-loop = turn .before .before .before in
+    filling-goes {y = 8192} (at-loop .loop .inv) (omega arith) refl
+    (turn .set-cache-top .ensures ∙ ap (λ (f : Field). changed (f := 8192 ∷ []) (at-loop .loop .control)) (top-at (at-loop .loop .i - 1)))
+
+pub empty-caches-spec : {M : Type 1} → statement M
+empty-caches-spec =
+    tie.close
+    (tie.spec
+    Inv-loop
+    μ-loop
+    (λ c. filling-begins (search needs))
+    (λ c. omega arith)
+    (λ c κs. search needs)
+    (λ c. omega arith)
+    loop-again
+    (λ c. search (needs, c .before .loop .inv))
+    (λ c. filling-ends (c .before .loop .inv) (omega arith)))

@@ -1,0 +1,2 @@
+-- What the loops of a start leave.
+pub mod Filled

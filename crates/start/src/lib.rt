@@ -1,0 +1,83 @@
+// What a start leaves in the control memory, every byte of it. Only a start loops.
+use control::caches;
+use control::lists;
+use control::started;
+use words::head::Head;
+ghost use mathlib.Core.Path.{_≡_};
+ghost use Prim.Native.Nat.{_<_, _≤_};
+ghost use lib.ListN.{length, replicate};
+ghost use Rattle.control.specs.Layout.{Control, DescriptorNext, RegionNext, Top};
+ghost use Rattle.stepped.specs.Start.{nextUp, startImage};
+ghost use Rattle.start.specs.Filled.{filled};
+
+// Every byte is zero.
+fn clear(control: &mut [u8])
+    ensures { λ r. ⌜ now (control .exit) ≡ replicate (length (now (control .entry))) 0 ⌝ }
+{
+    let mut i = 0;
+    while i < control.len() {
+        control[i] = 0;
+        i += 1;
+    }
+}
+
+// Of n items, rising from item 0 on top, the next of item i as a number plus one: none for the last.
+fn next_up(n: u8, i: u8) -> u8
+    requires { ⌜ (i < n) × (n ≤ 64) ⌝ }
+    ensures { λ r. ⌜ r ≡ nextUp n i ⌝ }
+{
+    if i + 1 == n { 0 } else { i + 2 }
+}
+
+// The list of spare descriptors, all 64.
+fn chain_descriptors(control: &mut [u8])
+    requires { ⌜ Control (now control) ⌝ }
+    ensures { λ r. ⌜ now (control .exit) ≡ filled DescriptorNext (nextUp 64) 64 (now (control .entry)) ⌝ }
+{
+    let mut i: u8 = 64;
+    while 0 < i {
+        i -= 1;
+        lists::set_descriptor_next(control, i as usize, next_up(64, i));
+    }
+}
+
+// The list of spare regions, all that the area has.
+fn chain_regions(control: &mut [u8], regions: u8)
+    requires { ⌜ Control (now control) × (regions ≤ 16) ⌝ }
+    ensures { λ r. ⌜ now (control .exit) ≡ filled RegionNext (nextUp regions) regions (now (control .entry)) ⌝ }
+{
+    let mut i: u8 = regions;
+    while 0 < i {
+        i -= 1;
+        lists::set_region_next(control, i as usize, next_up(regions, i));
+    }
+}
+
+// The top of each of the 128 caches: no block.
+fn empty_caches(control: &mut [u8])
+    requires { ⌜ Control (now control) ⌝ }
+    ensures { λ r. ⌜ now (control .exit) ≡ filled Top (λ i. 8192) 128 (now (control .entry)) ⌝ }
+{
+    let mut i: usize = 128;
+    while 0 < i {
+        i -= 1;
+        caches::set_cache_top(control, i / 16, i % 16, 8192);
+    }
+}
+
+// The control memory of a pool that has just been started.
+pub fn image(control: &mut [u8], tasks: u8, regions: u8)
+    requires { ⌜ Control (now control) × (regions ≤ 16) ⌝ }
+    ensures { λ r. ⌜ now (control .exit) ≡ startImage tasks regions ⌝ }
+{
+    clear(control);
+    started::set_tasks(control, tasks);
+    started::set_regions(control, regions);
+    let first = Head { item: 1, tag: 0 };
+    let word = first.word();
+    lists::set_head(control, 16, word);
+    lists::set_head(control, 17, word);
+    chain_descriptors(control);
+    chain_regions(control, regions);
+    empty_caches(control);
+}
