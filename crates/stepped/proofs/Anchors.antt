@@ -48,17 +48,10 @@ use Rattle.stepped.proofs.Tops.{first-of, descriptor-in-hand}
 use Rattle.stepped.proofs.Couple.{mine}
 use Rattle.stepped.proofs.Changes.{anchoring}
 use Rattle.stepped.proofs.Notes.{note-of, same-unmoved, unmoved-same, same-anchor-word, anchor-word-same}
-use Rattle.stepped.proofs.Notes.{number-open, number-max}
+use Rattle.stepped.proofs.Notes.{number-open, number-max, re-note}
 use Rattle.stepped.proofs.Both.{Both, both-true, pass, meet, miss, decide, has-top}
 use Rattle.stepped.proofs.Turns.{At, goes}
 use Rattle.stepped.proofs.Sharing.{shares}
-
--- a noted anchor, while the descriptor's region stays
-pub re-note : {m m′ : Mem} {c c′ d : ℕ} {n : Note} {b : Anchor} → m′ .descriptor d .region ≡ m .descriptor d .region → c ≡ c′
-    → NoteRelated m c d n b → NoteRelated m′ c′ d n b
-re-note {m} {m′} {c} {c′} {d} {n} {b} e f N =
-    subst (λ (z : ℕ). NoteRelated m′ z d n b) f
-    (record { state = N .state; count = N .count; avail = N .avail; first = rw e (N .first); none = N .none })
 
 module _ {regions : ℕ} {v : View} {area : List ℕ} {m : Mem} {t : ℕ} {p : Place} {k : ℕ → List ℕ}
     (w : At regions v area m t p k) where

@@ -41,9 +41,9 @@ use Rattle.stepped.proofs.Both.{Both, both-true, decide, meet, miss, pa
 use Rattle.stepped.proofs.Turns.{At, goes}
 use Rattle.stepped.proofs.Following.{five}
 use Rattle.stepped.proofs.Writes.{Writes, anchor-exchanged}
-use Rattle.stepped.proofs.Notes.{SameAnchor, anchor-word-same, number-max, same-anchor-word}
+use Rattle.stepped.proofs.Notes.{SameAnchor, anchor-word-same, number-max, same-anchor-word, re-note}
 use Rattle.stepped.proofs.Notes.{same-unmoved, unmoved-same}
-use Rattle.stepped.proofs.Noting.{note-anchor, note-room, re-note}
+use Rattle.stepped.proofs.Noting.{note-anchor, note-room}
 use Rattle.stepped.proofs.Groups.{first-below, same-group}
 
 module _ {regions : ℕ} {v : View} {area : List ℕ} {m : Mem} {t : ℕ} {k : ℕ → List ℕ} {y : ℕ} {g : List ℕ} {n : Note}

@@ -103,3 +103,10 @@ pub number-max : (z : State) → numberOf z ≤ 2
 number-max EMPTY = omega arith
 number-max PARTIAL = omega arith
 number-max FULL = omega arith
+
+-- a note goes over to another memory, where the descriptor's region is the same, and to an equal class
+pub re-note : {m m′ : Mem} {c c′ d : ℕ} {n : Note} {b : Anchor}
+    → m′ .descriptor d .region ≡ m .descriptor d .region → c ≡ c′ → NoteRelated m c d n b → NoteRelated m′ c′ d n b
+re-note e f N =
+    rw (← f)
+    (record { state = N .state; count = N .count; avail = N .avail; first = rw e (N .first); none = N .none })

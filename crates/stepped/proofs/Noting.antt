@@ -21,13 +21,6 @@ either-true : (p : Bool) {q : Bool} → q ≡ true → (p || q) ≡ true
 either-true true e = refl
 either-true false e = e
 
--- a note goes over to another memory, where the descriptor's region is the same, and to an equal class
-pub re-note : {m m′ : Mem} {c c′ d : ℕ} {n : Note} {b : Anchor}
-    → m′ .descriptor d .region ≡ m .descriptor d .region → c ≡ c′ → NoteRelated m c d n b → NoteRelated m′ c′ d n b
-re-note e f N =
-    rw (← f)
-    (record { state = N .state; count = N .count; avail = N .avail; first = rw e (N .first); none = N .none })
-
 -- a noted avail is at most n, as is every index or none
 pub note-max : {m : Mem} {c d : ℕ} {n : Note} {b : Anchor} → NoteRelated m c d n b → b .avail ≤ 512
 note-max {m} {c} {d} {n} N =

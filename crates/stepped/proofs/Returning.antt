@@ -35,8 +35,8 @@ use Rattle.stepped.proofs.Blocks.{cache-agrees, mine-apart, mine-under,
 use Rattle.stepped.proofs.Both.{Both, both-true, pass}
 use Rattle.stepped.proofs.Turns.{At, goes}
 use Rattle.stepped.proofs.Writes.{link-written}
-use Rattle.stepped.proofs.Notes.{note-of}
-use Rattle.stepped.proofs.Noting.{note-anchor, note-first, note-max, note-room, re-note}
+use Rattle.stepped.proofs.Notes.{note-of, re-note}
+use Rattle.stepped.proofs.Noting.{note-anchor, note-first, note-max, note-room}
 use Rattle.stepped.proofs.Groups.{same-group, last-at, last-below, last-under, front-out, front-sub}
 use Rattle.stepped.proofs.Groups.{region-below}
 
