@@ -1,5 +1,7 @@
 -- The layout of the control memory, 8,192 bytes. Each column has its first byte, its width and how many numbers it has;
--- docs/LAYOUT.md gives each field's range and says what the gaps are kept for.
+-- docs/LAYOUT.md gives each field's range and says what the gaps are kept for. The columns are numbered from 0, in the order of
+-- the names below: Head, Anchor, Marks and so on.
+-- Assumes nothing.
 use Prim.Native.Nat.{ℕ, _+_, _*_}
 use mathlib.Core.Path.{_≡_}
 use mathlib.Core.List.{List, [], _∷_}
@@ -98,7 +100,7 @@ GroupLast = field 11
 abbrev pub GroupCount : ℕ → Field
 GroupCount = field 12
 
--- a task's place in the step list; 0 is idle
+-- a task's place in the step list: 0 is idle, 1 to 33 are numbered in docs/LAYOUT.md, and `steps` of the stepped pool is their list
 abbrev pub TaskPlace : ℕ → Field
 TaskPlace = field 13
 
@@ -110,7 +112,7 @@ TaskClass = field 14
 abbrev pub TaskNext : ℕ → Field
 TaskNext = field 15
 
--- the descriptor and the region that a task has in hand
+-- the descriptor and the region that a task has in hand; in a free, the group's
 abbrev pub TaskDescriptor : ℕ → Field
 TaskDescriptor = field 16
 
@@ -125,7 +127,7 @@ TaskState = field 18
 abbrev pub DescriptorNext : ℕ → Field
 DescriptorNext = field 19
 
--- the next of a spare region
+-- the next of a spare region: a number plus one, 0 for none
 abbrev pub RegionNext : ℕ → Field
 RegionNext = field 20
 

@@ -72,8 +72,9 @@ pub record Taken (control area t : ℕ) (s : Pool) : Type 0 where
   pub area-is : area ≡ 4096 * s .regions
   pub below : t < s .tasks
 
--- "no head changes 2^32 times or more between a task's read and its exchange": asked of a head exchange alone. `won` is the
--- list's number of won exchanges, and n the one that the task noted.
+-- "no head changes 2^32 times or more between a task's read and its exchange" (the demands): asked of a head exchange alone.
+-- `won` is the list's number of won exchanges, and n the one that the task noted; they are the plain pool's, for the memories
+-- have only the tag, which wraps.
 abbrev pub Recent : ℕ → Phase → Type 0
 Recent won read = Unit {0}
 Recent won (next n) = Unit {0}
@@ -100,7 +101,8 @@ Near m (f4-clear c u d w r) = Unit {0}
 abbrev pub classThere : ℕ → Pool → ℕ
 classThere u s = s .mem .descriptor (pred (s .mem .map (regionOf u))) .class
 
--- "users write only in blocks they hold": the place `at` lies in the block `unit`, which is in a user's hands
+-- "users write only in blocks they hold" (the demands): the place `at` lies in the block `unit`, which is in a user's hands; in
+-- whose, is not asked. The pool is then started, for nothing is in hands before; it is said so that proofs have it at once.
 pub record InHands (at : ℕ) (s : Pool) : Type 0 where
   pub started : 1 ≤ s .tasks
   pub unit : ℕ

@@ -1,5 +1,5 @@
--- The pops and pushes of the step list, each in three steps: "read head; read the item's next; exchange", and "read head;
--- write the item's next; exchange. A lost exchange goes back to the head read."
+-- The pops and pushes of the step list, each in three steps. "Pop of a list: read head (this finds an empty list); read the
+-- item's next; exchange. Push: read head; write the item's next; exchange. A lost exchange goes back to the head read."
 -- Assumes nothing.
 use Prim.Native.Nat.{ℕ, _+_, _-_}
 use mathlib.Core.Bool.{Bool, cond, _&&_}
@@ -75,7 +75,7 @@ itemField Back = TaskDescriptor
 itemField Release = TaskRegion
 itemField Offer = TaskDescriptor
 
--- v: what stands in the fields; t: the task, whose request is of the class c
+-- v: what stands in the fields; regions: the started number of them; t: the task, whose request is of the class c
 module _ (v : View) (regions t c : ℕ) where
   -- free, step 6: "Cache not empty: 2. Else 1.", after the writes ws of the move e
   unfoldable pub f6 : Decided → List Write → Outcome
@@ -153,7 +153,7 @@ module _ (v : View) (regions t c : ℕ) where
       (accept nothing (TaskPlace t := (pushPlace p + 1) ∷ TaskHead t := word ∷ []) [])
       bad
 
-  -- "write the item's next": the item of the noted head
+  -- "write the item's next": what is below the item will be what is on top now, the noted head's item
   unfoldable pub pushNext : Push → Outcome
   pushNext p =
       let x = v (itemField p t) in

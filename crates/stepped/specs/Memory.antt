@@ -1,12 +1,10 @@
 -- The two memories, column by column: what each field and each link says.
 -- Assumes nothing.
-use Prim.Native.Nat.{ℕ, _+_, _*_, _/_, _%_, _<_}
+use Prim.Native.Nat.{ℕ, _+_, _*_, _/_, _%_}
 use native.Mathlib.Decide.{decLt}
 use mathlib.Core.List.{List}
 use Rattle.rows.specs.Branch.{if}
-use Rattle.rows.specs.Update.{update}
-use Rattle.fields.specs.Columns.{View, Field}
-use Rattle.links.specs.Link.{withLink}
+use Rattle.fields.specs.Columns.{View}
 use Rattle.words.specs.Head.{headOf}
 use Rattle.words.specs.Anchor.{anchorOf}
 use Rattle.words.specs.Mark.{bitAt}
@@ -67,8 +65,8 @@ slotOf v t = record {
   last = v (Layout.GroupLast t);
   grouped = v (Layout.GroupCount t);
   state = v (Layout.TaskState t);
-  top = byClass (λ i. v (record { column = 5; index = i })) t;
-  count = byClass (λ i. v (record { column = 6; index = i })) t;
+  top = byClass (λ i. v (Layout.Top i)) t;
+  count = byClass (λ i. v (Layout.Count i)) t;
 }
 
 -- "One mark per unit": that of the unit u is a bit of its word

@@ -78,19 +78,25 @@ abbrev pub underWayAt : Slot → Memory → List (List ℕ)
 underWayAt s a =
     let freed = s .unit ∷ [] in
     let grouped = s .unit ∷ groupOf s a in
+    -- 0, idle; 1, the cache; 2 to 10, the pops; 11 to 16, the pushes of a spare descriptor
     [] ∷ [] ∷ [] ∷ [] ∷ [] ∷ [] ∷ [] ∷ [] ∷ [] ∷ [] ∷ [] ∷ [] ∷ [] ∷ [] ∷ [] ∷ [] ∷ []
     -- 17 to 22: the release of a region, the offer of a descriptor
     ∷ freed ∷ freed ∷ freed ∷ freed ∷ freed ∷ freed
+    -- 23 and 24: the anchor is read and exchanged
     ∷ [] ∷ []
     -- 25: the rest of the chain that was taken
     ∷ walk (link (a .area)) (unitOf (s .region) (s .class)) (s .index) (s .left)
+    -- 26: the descriptor and the map are written
     ∷ []
     -- 27: the blocks still to be carved
     ∷ blocksFrom (s .region) (s .class) (s .index) (perRegion (s .class) - s .index)
+    -- 28: the block that is freed
     ∷ freed
     -- 29 to 32: the group
     ∷ grouped ∷ grouped ∷ grouped ∷ grouped
+    -- 33: the map entry is cleared
     ∷ freed
+    -- the end of the list
     ∷ []
 
 -- how often a cache of n blocks with the top u has the block v
