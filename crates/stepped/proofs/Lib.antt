@@ -50,3 +50,6 @@ pub mod TaskHands
 pub mod TaskLists
 pub mod Unstarted
 pub mod InRange
+pub mod Runs
+pub mod Example
+pub mod Bench
