@@ -13,7 +13,7 @@ use Rattle.rows.specs.Update.{update}
 use Rattle.classes.specs.Classes.{units, perRegion}
 use Rattle.classes.specs.Sizes.{classOf}
 use Rattle.plain.specs.State.{EMPTY, FULL, exchange, spare, popping, SPARES, REGIONS}
-use Rattle.plain.specs.Moves.{Decided, nothing, found-empty, popped, pushed, lost, anchor-empty, took, gave, anchor-lost, Answer, going, finished, ended}
+use Rattle.plain.specs.Moves.{Decided, nothing, found-empty, popped, pushed, lost, anchor-empty, took, gave, anchor-lost, Answer, going, finished, ended, refused}
 use Rattle.plain.specs.Steps.{step}
 use Rattle.plain.specs.Calls.{Pool, startMem, rising, unstarted, call}
 use Rattle.plain.specs.Calls as Plain
@@ -25,21 +25,21 @@ use Rattle.stepped.proofs.Theorem.{agreement}
 
 -- ---- the lines of the schedule: two regions, three tasks
 
-abbrev allocates : ℕ → ℕ → List Event
+abbrev pub allocates : ℕ → ℕ → List Event
 allocates t size = allocate 8192 8192 t size ∷ []
 
-abbrev frees : ℕ → ℕ → List Event
+abbrev pub frees : ℕ → ℕ → List Event
 frees t u = free 8192 8192 t u ∷ []
 
 -- n steps of the task t
-abbrev steps : ℕ → ℕ → List Event
+abbrev pub steps : ℕ → ℕ → List Event
 steps t n = replicate n (go 8192 8192 t)
 
-abbrev writes : ℕ → ℕ → List Event
+abbrev pub writes : ℕ → ℕ → List Event
 writes at b = write at b ∷ []
 
 -- a line, and what its calls answer beside code 0 with nothing decided
-abbrev Line : Type 0
+abbrev pub Line : Type 0
 Line = List Event × List Answer
 
 -- Lists 0 to 15 are the partial descriptors of the classes, 16 the spare descriptors, 17 the spare regions. Blocks of 256
@@ -68,6 +68,8 @@ contention =
     -- Two of these blocks, one of each region, fill task 1's cache; the third finds it full.
     ∷ (frees 1 480, [])
     ∷ (steps 1 1, finished 0 ∷ [])
+    -- Block 480 is not freed twice: its mark is clear.
+    ∷ (frees 1 480, refused 11 ∷ [])
     ∷ (frees 1 960, [])
     ∷ (steps 1 1, finished 0 ∷ [])
     ∷ (frees 1 448, [])
@@ -138,18 +140,18 @@ schedule = contention ++ (closing ++ (reopening ++ (meanwhile ++ ending)))
 
 -- ---- its events and its answers
 
-abbrev joined : {A : Type 0} → List (List A) → List A
+abbrev pub joined : {A : Type 0} → List (List A) → List A
 joined [] = []
 joined (q ∷ qs) = q ++ joined qs
 
-abbrev events : List Line → List Event
+abbrev pub events : List Line → List Event
 events ls = joined (map (λ (l : Line). l .0) ls)
 
-abbrev answers : List Line → List Answer
+abbrev pub answers : List Line → List Answer
 answers ls = joined (map (λ (l : Line). l .1) ls)
 
 -- without code 0 with nothing decided
-abbrev toldBy : ℕ → Decided → Answer → List Answer → List Answer
+abbrev pub toldBy : ℕ → Decided → Answer → List Answer → List Answer
 toldBy zero nothing a q = q
 toldBy zero (found-empty ℓ) a q = a ∷ q
 toldBy zero (popped ℓ x) a q = a ∷ q
@@ -215,7 +217,7 @@ writes-held : Writes (events schedule) started
 unfolding call step startMem rising units perRegion update ℕ-discrete decLt decLe both unstarted classOf writes?
 writes-held = found (writes? (events schedule) started) tt
 
-few : length (events schedule) ≡ 238
+few : length (events schedule) ≡ 239
 few = refl
 
 pub premises : (area : List ℕ) → length area ≡ 8192 → Premises (scheduleOn area) unstarted

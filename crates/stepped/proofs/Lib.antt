@@ -53,3 +53,4 @@ pub mod InRange
 pub mod Runs
 pub mod Example
 pub mod Bench
+pub mod Computed

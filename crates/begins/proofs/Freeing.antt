@@ -1,0 +1,118 @@
+-- The beginning of a free, one law for each way out. Assumes nothing.
+use mathlib.Core.Path.{_≡_, refl, sym, ap, subst, _∙_}
+use mathlib.Core.Logic.{_≢_}
+use mathlib.Core.Bool.{Bool, true, false, cond}
+use mathlib.Core.List.{List, [], _∷_}
+use Prim.Native.Nat.{ℕ, _-_, _/_, _%_, _≤_, _<_}
+use native.Mathlib.Omega.{arith}
+use borrow.Author.Tests.{eq-eqb, ne-eqb, lt-ltb, le-ltb, le-leb, lt-leb}
+use Rattle.fields.specs.Columns.{View, _:=_}
+use Rattle.words.specs.Anchor.{EMPTY, anchorOf}
+use Rattle.words.specs.Mark.{isSet, withClear}
+use Rattle.classes.specs.Places.{regionOf, isFirst}
+use Rattle.plain.specs.Moves.{nothing}
+use Rattle.control.specs.Layout.{changed, Anchor, Marks, TaskUnit, TaskPlace, TaskClass, DescriptorRegion, DescriptorClass, Map}
+use Rattle.control.specs.declared.answer.Answer.the-variants.{Accepted}
+use Rattle.stepped.specs.Outcome.{Outcome, refuse, bad, accept}
+use Rattle.stepped.specs.Ranges.{isAnchor}
+use Rattle.stepped.specs.Calls.{whenIdle, beginFree, freeEntry, freeBy, freeOpen, freeMarked}
+use Rattle.stepped.specs.Done.{Done}
+use Rattle.stepped.proofs.Doing.{done}
+use Rattle.begins.proofs.Beginning.{idle-is}
+
+module _ (v : View) (t u c : ℕ) where
+  -- the request begins, and the unit's word of marks becomes x
+  abbrev begun : ℕ → Outcome
+  begun x = accept nothing (TaskPlace t := 28 ∷ TaskClass t := c ∷ TaskUnit t := u ∷ Marks (u / 64) := x ∷ []) []
+
+  pub mark-clear : (w : ℕ) → w ≡ v (Marks (u / 64)) → isSet w (u % 64) ≡ false → freeMarked v t u c ≡ refuse 11
+  unfolding freeMarked
+  mark-clear w e h = rw (subst (λ (x : ℕ). isSet x (u % 64) ≡ false) e h)
+
+  mark-set : (w cleared : ℕ) → w ≡ v (Marks (u / 64)) → isSet w (u % 64) ≡ true → cleared ≡ withClear w (u % 64)
+      → freeMarked v t u c ≡ begun cleared
+  unfolding freeMarked
+  mark-set w cleared e h k =
+      ap (λ (b : Bool). cond b (begun (withClear (v (Marks (u / 64))) (u % 64))) (refuse 11)) (subst (λ (x : ℕ). isSet x (u % 64) ≡ true) e h)
+      ∙ ap begun (sym (k ∙ ap (λ (x : ℕ). withClear x (u % 64)) e))
+
+  -- the four stores of an accepted beginning
+  pub stored : (w cleared : ℕ) → w ≡ v (Marks (u / 64)) → isSet w (u % 64) ≡ true → cleared ≡ withClear w (u % 64)
+      → (before : List ℕ) {b₁ b₂ b₃ b₄ : List ℕ} → b₁ ≡ changed (TaskPlace t := 28 ∷ []) before
+      → b₂ ≡ changed (TaskClass t := c ∷ []) b₁
+      → b₃ ≡ changed (TaskUnit t := u ∷ []) b₂
+      → b₄ ≡ changed (Marks (u / 64) := cleared ∷ []) b₃ → Done (freeMarked v t u c) before b₄ Accepted
+  stored w cleared e h k before h₁ h₂ h₃ h₄ =
+      done (mark-set w cleared e h k) refl
+      (h₄ ∙ ap (changed (Marks (u / 64) := cleared ∷ [])) (h₃ ∙ ap (changed (TaskUnit t := u ∷ [])) (h₂ ∙ ap (changed (TaskClass t := c ∷ [])) h₁)))
+      refl
+
+module _ (v : View) (t u d : ℕ) where
+  pub no-class : 15 < v (DescriptorClass d) → freeOpen v t u d ≡ bad
+  unfolding freeOpen
+  no-class h = rw (le-ltb (v (DescriptorClass d)) 16 (omega arith))
+
+  pub no-first : (c : ℕ) → c ≡ v (DescriptorClass d) → c ≤ 15 → isFirst c u ≡ false → freeOpen v t u d ≡ refuse 10
+  unfolding freeOpen
+  no-first c e h k = rw (← e, lt-ltb c 16 (omega arith), k)
+
+  pub is-first : (c : ℕ) → c ≡ v (DescriptorClass d) → c ≤ 15 → isFirst c u ≡ true → freeOpen v t u d ≡ freeMarked v t u c
+  unfolding freeOpen
+  is-first c e h k = rw (← e, lt-ltb c 16 (omega arith), k)
+
+module _ (v : View) (regions t u d : ℕ) where
+  pub outside : regions ≤ v (DescriptorRegion d) → freeBy v regions t u d ≡ bad
+  unfolding freeBy
+  outside h = rw (le-ltb (v (DescriptorRegion d)) regions h)
+
+  pub other-region : v (DescriptorRegion d) < regions → v (DescriptorRegion d) ≢ regionOf u → freeBy v regions t u d ≡ refuse 10
+  unfolding freeBy
+  other-region h e = rw (lt-ltb (v (DescriptorRegion d)) regions h, ne-eqb (v (DescriptorRegion d)) (regionOf u) e)
+
+  module _ (h : v (DescriptorRegion d) < regions) (e : v (DescriptorRegion d) ≡ regionOf u) where
+    pub no-anchor : (w : ℕ) → w ≡ v (Anchor d) → isAnchor w ≡ false → freeBy v regions t u d ≡ bad
+    unfolding freeBy
+    no-anchor w i a = rw (lt-ltb (v (DescriptorRegion d)) regions h, eq-eqb (v (DescriptorRegion d)) (regionOf u) e, subst (λ (x : ℕ). isAnchor x ≡ false) i a)
+
+    pub is-empty : (w : ℕ) → w ≡ v (Anchor d) → isAnchor w ≡ true → anchorOf w .state ≡ EMPTY → freeBy v regions t u d ≡ refuse 10
+    unfolding freeBy
+    is-empty w i a s =
+        rw (
+          lt-ltb (v (DescriptorRegion d)) regions h,
+          eq-eqb (v (DescriptorRegion d)) (regionOf u) e,
+          subst (λ (x : ℕ). isAnchor x ≡ true) i a,
+          eq-eqb (anchorOf (v (Anchor d)) .state) EMPTY (subst (λ (x : ℕ). anchorOf x .state ≡ EMPTY) i s),
+        )
+
+    pub is-open : (w : ℕ) → w ≡ v (Anchor d) → isAnchor w ≡ true → anchorOf w .state ≢ EMPTY → freeBy v regions t u d ≡ freeOpen v t u d
+    unfolding freeBy
+    is-open w i a s =
+        rw (
+          lt-ltb (v (DescriptorRegion d)) regions h,
+          eq-eqb (v (DescriptorRegion d)) (regionOf u) e,
+          subst (λ (x : ℕ). isAnchor x ≡ true) i a,
+          ne-eqb (anchorOf (v (Anchor d)) .state) EMPTY (subst (λ (x : ℕ). anchorOf x .state ≢ EMPTY) i s),
+        )
+
+module _ (v : View) (regions t u entry : ℕ) where
+  pub no-entry : entry ≡ 0 → freeEntry v regions t u entry ≡ refuse 10
+  unfolding freeEntry
+  no-entry e = rw (eq-eqb entry 0 e)
+
+  pub bad-entry : 64 < entry → freeEntry v regions t u entry ≡ bad
+  unfolding freeEntry
+  bad-entry h = rw (ne-eqb entry 0 (λ e. omega arith), lt-leb entry 64 h)
+
+  pub by-entry : entry ≢ 0 → entry ≤ 64 → freeEntry v regions t u entry ≡ freeBy v regions t u (entry - 1)
+  unfolding freeEntry
+  by-entry e h = rw (ne-eqb entry 0 e, le-leb entry 64 h)
+
+module _ (v : View) (regions t u : ℕ) (idle : v (TaskPlace t) ≡ 0) where
+  pub no-unit : regions ≤ regionOf u → whenIdle v t (beginFree v regions t u) ≡ refuse 10
+  unfolding beginFree
+  no-unit h = idle-is v t _ idle ∙ rw (le-ltb (regionOf u) regions h)
+
+  pub in-area : (r entry : ℕ) → r ≡ regionOf u → r < regions → entry ≡ v (Map r)
+      → whenIdle v t (beginFree v regions t u) ≡ freeEntry v regions t u entry
+  unfolding beginFree
+  in-area r entry e h k = idle-is v t _ idle ∙ rw (lt-ltb (regionOf u) regions (omega arith), k ∙ ap (λ (x : ℕ). v (Map x)) e)

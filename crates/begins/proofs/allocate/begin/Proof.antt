@@ -1,0 +1,41 @@
+-- One law for each way out. Assumes nothing.
+use mathlib.Core.Path.{refl}
+use native.Mathlib.Omega.{arith}
+use Rattle.stepped.proofs.Doing.{done}
+use Rattle.begins.proofs.Beginning.{no-place, in-hand, size-refused, served}
+use borrow.Author.Needs.{needs}
+use Rattle.begins.proofs.allocate.begin.Statement.{statement}
+use Rattle.begins.proofs.allocate.begin.Tie as tie
+
+returns : tie.Need-returns
+returns c = done (no-place _ _ _ (omega arith)) refl (cc) refl
+
+returns-2 : tie.Need-returns-2
+returns-2 c = done (in-hand _ _ _ (omega arith) (λ e. omega arith)) refl (cc) refl
+
+returns-3 : tie.Need-returns-3
+returns-3 c = done (size-refused _ _ _ (omega arith) _ (cc)) refl (cc) refl
+
+returns-4 : tie.Need-returns-4
+returns-4 c =
+    let stored = c .before .before in
+    served _ _ _ (omega arith) _ _ (stored .before .before .before .before .set-task-place .ensures) (stored .set-task-class .ensures) (cc)
+
+pub begin-spec : {M : Type 1} → statement M
+begin-spec =
+    tie.close
+    (tie.spec
+    (λ c κs. search needs)
+    (λ c. search needs)
+    returns
+    (λ c. search needs)
+    returns-2
+    (λ c κs. search needs)
+    (λ c. search needs)
+    (λ c. search needs)
+    (λ c κs. search needs)
+    (λ c κs. search needs)
+    (λ c. search needs)
+    returns-3
+    (λ c. search needs)
+    returns-4)

@@ -1,0 +1,2 @@
+-- What the tests of a call tell.
+pub mod Tests

@@ -1,0 +1,68 @@
+-- From the tests, and what follows them, to what an exported call ensures. Assumes nothing.
+use mathlib.Core.Path.{_≡_, refl, sym, ap, subst, _∙_}
+use mathlib.Core.Logic.{_≢_}
+use mathlib.Core.Bool.{Bool, cond}
+use mathlib.Core.List.{List, []}
+use Prim.Native.Nat.{ℕ, _≤_, _<_}
+use native.Mathlib.Omega.{arith}
+use borrow.Author.Tests.{eq-eqb, ne-eqb}
+use lib.ListN.{length}
+use Rattle.fields.specs.Columns.{View}
+use Rattle.links.specs.Link.{LinkWrite, linked}
+use Rattle.control.specs.Layout.{Regions, seen}
+use Rattle.control.specs.Answers.{numberOf}
+use Rattle.control.specs.declared.answer.Answer.{Answer}
+use Rattle.stepped.specs.Outcome.{Outcome, refuse, effect}
+use Rattle.stepped.specs.Calls.{tested, whenIdle, beginAllocate, beginFree, allocateOutcome, freeOutcome, allocate, free}
+use Rattle.stepped.specs.Ends.{Tested}
+use Rattle.stepped.specs.Done.{Done, DoneIn}
+use Rattle.stepped.proofs.Doing.{lends}
+use Rattle.begins.specs.Tests.{unlessRefused, TestsAre}
+use Rattle.pool.specs.Call.{CallIs}
+
+-- a call that the number r refuses
+pub refused-is : {o : Outcome} (c a : List ℕ) {r : ℕ} → o ≡ refuse r → CallIs (effect o c a) c a r
+refused-is c a {r} e = subst (λ (x : Outcome). CallIs (effect x c a) c a r) (sym e) (record { number = refl; control-is = refl; area-is = refl })
+
+-- a call that does the outcome x
+pub does-is : {o x : Outcome} {c a c′ a′ : List ℕ} {s : Answer} {r : ℕ} → o ≡ x → DoneIn x c a c′ a′ s → r ≡ numberOf s → CallIs (effect o c a) c′ a′ r
+does-is {c = c} {a = a} {c′ = c′} {a′ = a′} {r = r} e d n =
+    subst (λ (z : Outcome). CallIs (effect z c a) c′ a′ r) (sym e)
+    (record { number = n ∙ ap numberOf (d .answer); control-is = d .control; area-is = d .area })
+
+module _ (c a : List ℕ) (t r : ℕ) (T : TestsAre (length c) (length a) (seen c) t r) where
+  refuses : r ≢ 0 → (x : Outcome) → tested (length c) (length a) (seen c) t x ≡ refuse r
+  refuses h x = T .is x ∙ ap (λ (b : Bool). cond b x (refuse r)) (ne-eqb r 0 h)
+
+  passes : r ≡ 0 → (x : Outcome) → tested (length c) (length a) (seen c) t x ≡ x
+  passes h x = T .is x ∙ ap (λ (b : Bool). cond b x (refuse r)) (eq-eqb r 0 h)
+
+  pub allocate-refused : (size : ℕ) → r ≢ 0 → CallIs (allocate c a t size) c a r
+  unfolding allocate allocateOutcome
+  allocate-refused size h = refused-is c a (refuses h _)
+
+  pub allocate-does : (size : ℕ) → r ≡ 0 → {c′ : List ℕ} {s : Answer} {n : ℕ}
+      → Done (whenIdle (seen c) t (beginAllocate t size)) c c′ s → n ≡ numberOf s → CallIs (allocate c a t size) c′ a n
+  unfolding allocate allocateOutcome
+  allocate-does size h d n = does-is (passes h _) (lends d) n
+
+  pub free-refused : (u : ℕ) → r ≢ 0 → CallIs (free c a t u) c a r
+  unfolding free freeOutcome
+  free-refused u h = refused-is c a (refuses h _)
+
+  pub free-does : (u regions : ℕ) → r ≡ 0 → regions ≡ seen c Regions → {c′ : List ℕ} {s : Answer} {n : ℕ}
+      → Done (whenIdle (seen c) t (beginFree (seen c) regions t u)) c c′ s → n ≡ numberOf s → CallIs (free c a t u) c′ a n
+  unfolding free freeOutcome
+  free-does u regions h e {c′} {s} d n =
+      does-is (passes h _) (lends (subst (λ (k : ℕ). Done (whenIdle (seen c) t (beginFree (seen c) k t u)) c c′ s) e d)) n
+
+-- what the tests tell
+module _ (control area : ℕ) (v : View) (t r : ℕ) (T : TestsAre control area v t r) (h : r ≡ 0) where
+  pub control-is : control ≡ 8192
+  control-is = T .passed h .control-is
+
+  pub task-is : t < 8
+  task-is = omega (arith, T .passed h .below, T .passed h .tasks)
+
+  pub regions-are : (k : ℕ) → k ≡ v Regions → k ≤ 16
+  regions-are k e = omega (arith, T .passed h .regions)

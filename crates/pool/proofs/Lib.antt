@@ -1,0 +1,3 @@
+-- The laws of the exported calls.
+pub mod Calling
+pub mod Started

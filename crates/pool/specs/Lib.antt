@@ -1,0 +1,2 @@
+-- What an exported call ensures.
+pub mod Call

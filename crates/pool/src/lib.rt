@@ -1,0 +1,62 @@
+// The functions that firmware calls. Each takes the two memories as byte slices, and answers one number: the code, and
+// 256 times the value. No call asks anything of its caller: any bytes and any numbers are answered.
+use begins::allocate;
+use begins::free;
+use begins::tests;
+use control::answer;
+use control::started;
+ghost use Rattle.stepped.specs.Calls.{start, allocate as allocated, free as freed};
+ghost use Rattle.pool.specs.Call.{CallIs};
+
+// Begins a new run with so many tasks, on any bytes: it fills the control memory, and leaves the area as it is.
+#[no_mangle]
+pub extern "C" fn pool_start(control: &mut [u8], area: &[u8], tasks: u64) -> u64
+    ensures { λ r. ⌜ CallIs (start (now (control .entry)) (now (area .entry)) tasks) (now (control .exit)) (now (area .entry)) r ⌝ }
+{
+    if control.len() != 8192 {
+        return 1;
+    }
+    let bytes = area.len();
+    if bytes % 4096 != 0 {
+        return 2;
+    }
+    if bytes < 1 {
+        return 2;
+    }
+    if 65536 < bytes {
+        return 2;
+    }
+    if tasks < 1 {
+        return 3;
+    }
+    if 8 < tasks {
+        return 3;
+    }
+    start::image(control, tasks as u8, (bytes / 4096) as u8);
+    0
+}
+
+// Begins an allocation of so many bytes for a task. It does no step.
+#[no_mangle]
+pub extern "C" fn pool_begin_allocate(control: &mut [u8], area: &[u8], task: u64, size: u64) -> u64
+    ensures { λ r. ⌜ CallIs (allocated (now (control .entry)) (now (area .entry)) task size) (now (control .exit)) (now (area .entry)) r ⌝ }
+{
+    let refused = tests::tests(control, area.len(), task);
+    if refused != 0 {
+        return refused as u64;
+    }
+    answer::number(allocate::begin(control, task as usize, size))
+}
+
+// Begins the free of the block at this unit, by any task: its mark is cleared. It does no step.
+#[no_mangle]
+pub extern "C" fn pool_begin_free(control: &mut [u8], area: &[u8], task: u64, unit: u64) -> u64
+    ensures { λ r. ⌜ CallIs (freed (now (control .entry)) (now (area .entry)) task unit) (now (control .exit)) (now (area .entry)) r ⌝ }
+{
+    let refused = tests::tests(control, area.len(), task);
+    if refused != 0 {
+        return refused as u64;
+    }
+    let regions = started::regions(control) as usize;
+    answer::number(free::begin(control, regions, task as usize, unit))
+}

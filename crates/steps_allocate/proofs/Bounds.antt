@@ -1,0 +1,38 @@
+-- What the tests of a step say of the numbers that it then uses. Assumes nothing.
+use mathlib.Core.Path.{_≡_}
+use mathlib.Core.Bool.{Bool, true, false, not}
+use mathlib.Core.List.{List}
+use mathlib.Core.Logic.{_⊎_, inl, inr}
+use Prim.Native.Nat.{ℕ, _+_, _*_, _≤_, _<_}
+use native.Mathlib.Omega.{arith}
+use lib.ListN.{length}
+use Rattle.words.specs.Anchor.{anchorOf}
+use Rattle.words.specs.declared.anchor.Anchor.{Anchor}
+use Rattle.stepped.specs.Done.{Given, Lent}
+use Rattle.stepped.specs.Ranges.{isBlock, isTop, isAnchor}
+use Rattle.ranges.proofs.Ranges.{parts}
+use Rattle.ranges.proofs.Passed.{passed, block-passed, top-passed, anchor-passed}
+
+-- a block's link lies in the area
+pub block-link : (regions c u : ℕ) {m a : List ℕ} {t : ℕ} → Lent m a regions t c → isBlock regions c u ≡ true
+    → 8 * u + 8 ≤ length a
+block-link regions c u l e = omega (arith, block-passed regions c u e, l .area)
+
+-- its unit has a mark
+pub block-unit : (regions c u : ℕ) {m a : List ℕ} {t : ℕ} → Lent m a regions t c → isBlock regions c u ≡ true → u < 8192
+block-unit regions c u l e = omega (arith, block-passed regions c u e, l .given)
+
+-- a cache's top fits two bytes
+pub top-fits : (regions c k u : ℕ) {m : List ℕ} {t : ℕ} {b : Bool} → Given m regions t c → b ≡ isTop regions c k u
+    → not b ≡ false → u < 65536
+top-fits regions c k u g e h = elim (top-passed regions c k u (passed e h)) [
+  | inl z ↦ omega arith
+  | inr z ↦ omega (arith, z, g)
+]
+
+-- the index and the count of an anchor fit two bytes
+pub avail-fits : (a : Anchor) (w : ℕ) → a ≡ anchorOf w → isAnchor w ≡ true → a .avail < 65536
+avail-fits a w e h = omega (arith, parts e, anchor-passed w h)
+
+pub count-fits : (a : Anchor) (w : ℕ) → a ≡ anchorOf w → isAnchor w ≡ true → a .count < 65536
+count-fits a w e h = omega (arith, parts e, anchor-passed w h)

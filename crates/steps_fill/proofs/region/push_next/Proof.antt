@@ -1,0 +1,18 @@
+-- The stores are the writes, in their order.
+use borrow.Author.Needs.{needs}
+use Rattle.steps_fill.proofs.region.push_next.Statement.{statement}
+use Rattle.steps_fill.proofs.region.push_next.Tie as tie
+
+returns : tie.Need-returns
+returns c = cc
+
+pub push-next-spec : {M : Type 1} → statement M
+push-next-spec =
+    tie.close
+    (tie.spec
+    (λ c κs. search needs)
+    (λ c κs. search needs)
+    (λ c. search needs)
+    (λ c κs. search needs)
+    (λ c. search needs)
+    returns)

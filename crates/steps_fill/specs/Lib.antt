@@ -1,0 +1,2 @@
+-- Definitions of the steps of an allocation that fill the cache.
+pub mod Chains

@@ -1,0 +1,154 @@
+// Step 4: "Move the taken chain to the cache, one block a step in chain order; after the last, 1."
+use crate::cache;
+use crate::place;
+use control::answer::Answer;
+use control::caches;
+use control::notes;
+use control::tasks;
+ghost use mathlib.Core.Path.{_≡_};
+ghost use mathlib.Core.List.{[], _∷_};
+ghost use Prim.Native.Nat.{ℕ, _+_, _*_, _≤_, _<_};
+ghost use lib.ListN.{length};
+ghost use Rattle.fields.specs.Columns.{_:=_};
+ghost use Rattle.links.specs.Link.{link, _⇒_};
+ghost use Rattle.plain.specs.Moves.{nothing};
+ghost use Rattle.control.specs.Layout.{Control, seen, changed, CacheTop, CacheCount, TaskIndex, TaskLeft};
+ghost use Rattle.stepped.specs.Outcome.{accept};
+ghost use Rattle.stepped.specs.Done.{Lent, DoneIn};
+ghost use Rattle.steps_fill.specs.Chains.{Moving};
+ghost use Rattle.stepped.specs.Allocate.{a4, a4Move};
+
+// Puts the block at `unit` on top of a cache of `count` blocks and goes on with the chain: `left` blocks are left to move, the first
+// of them `next`. Caller: `move_on`.
+fn push_next(
+    control: &mut [u8],
+    task: usize,
+    class: usize,
+    unit: u16,
+    next: u16,
+    left: u16,
+    count: u16,
+)
+    requires { ⌜ Control (now control) × (task < 8) × (class < 16) × (count < 512) ⌝ }
+    ensures { λ r. ⌜ now (control .exit) ≡ changed (TaskIndex task := next ∷ TaskLeft task := left ∷ CacheTop task class := unit ∷ CacheCount task class := (count + 1) ∷ []) (now (control .entry)) ⌝ }
+{
+    notes::set_task_index(control, task, next);
+    notes::set_task_left(control, task, left);
+    caches::set_cache_top(control, task, class, unit);
+    caches::set_cache_count(control, task, class, count + 1);
+}
+
+// The same, and writes the block's link, the cache's top so far. Caller: `move_block`.
+fn move_on(
+    control: &mut [u8],
+    area: &mut [u8],
+    task: usize,
+    class: usize,
+    unit: u16,
+    next: u16,
+    left: u16,
+    count: u16,
+    top: u16,
+) -> Answer
+    requires { ⌜ Control (now control) × (task < 8) × (class < 16) × (8 * unit + 8 ≤ length (now area)) × (count < 512) ⌝ }
+    ensures { λ r. ⌜ DoneIn (accept nothing (TaskIndex task := next ∷ TaskLeft task := left ∷ CacheTop task class := unit ∷ CacheCount task class := (count + 1) ∷ []) (unit ⇒ top ∷ [])) (now (control .entry)) (now (area .entry)) (now (control .exit)) (now (area .exit)) r ⌝ }
+{
+    push_next(control, task, class, unit, next, left, count);
+    links::write(area, unit as usize, top as u32);
+    Answer::Accepted
+}
+
+// Moves the block at `unit` to the top of a cache of `count` blocks whose top is `top`; `left` blocks of the chain, with this one,
+// were still to move. The block's own link, the next index of the chain, is read before it is overwritten. Caller: `move_at`, which
+// has tested these numbers.
+fn move_block(
+    control: &mut [u8],
+    area: &mut [u8],
+    task: usize,
+    class: usize,
+    unit: u16,
+    left: u16,
+    count: u16,
+    top: u16,
+) -> Answer
+    requires { ⌜ Control (now control) × (task < 8) × (class < 16) × (8 * unit + 8 ≤ length (now area)) × (1 ≤ left) × (count < 512) ⌝ }
+    ensures { λ r. ⌜ ((regions : ℕ) → DoneIn (a4Move (seen (now (control .entry))) (link (now (area .entry))) regions task class unit left count top) (now (control .entry)) (now (area .entry)) (now (control .exit)) (now (area .exit)) r) ⌝ }
+{
+    let at = unit as usize;
+    if left == 1 {
+        cache::push_last(control, task, class, unit, count);
+        links::write(area, at, top as u32);
+        return Answer::Accepted;
+    }
+    let next = links::read(area, at);
+    if place::blocks(class) as u32 <= next {
+        return Answer::Refused(14);
+    }
+    move_on(
+        control,
+        area,
+        task,
+        class,
+        unit,
+        next as u16,
+        left - 1,
+        count,
+        top,
+    )
+}
+
+// Moves the block at `unit`, by the task's region and index, with `left` blocks still to move. Caller: `step`, which has read and
+// tested them.
+fn move_at(
+    control: &mut [u8],
+    area: &mut [u8],
+    regions: usize,
+    task: usize,
+    class: usize,
+    unit: u16,
+    left: u16,
+) -> Answer
+    requires { ⌜ Lent (now control) (now area) regions task class × Moving (seen (now control)) regions task class unit left × (8 * unit + 8 ≤ length (now area)) ⌝ }
+    ensures { λ r. ⌜ DoneIn (a4 (seen (now (control .entry))) (link (now (area .entry))) regions task class) (now (control .entry)) (now (area .entry)) (now (control .exit)) (now (area .exit)) r ⌝ }
+{
+    let count = caches::cache_count(control, task, class);
+    if place::blocks(class) <= count {
+        return Answer::Refused(14);
+    }
+    let top = caches::cache_top(control, task, class);
+    if !ranges::is_top(regions, class, count as usize, top as usize) {
+        return Answer::Refused(14);
+    }
+    move_block(control, area, task, class, unit, left, count, top)
+}
+
+// The step. Caller: the step of a task whose place is 25.
+pub fn step(
+    control: &mut [u8],
+    area: &mut [u8],
+    regions: usize,
+    task: usize,
+    class: usize,
+) -> Answer
+    requires { ⌜ Lent (now control) (now area) regions task class ⌝ }
+    ensures { λ r. ⌜ DoneIn (a4 (seen (now (control .entry))) (link (now (area .entry))) regions task class) (now (control .entry)) (now (area .entry)) (now (control .exit)) (now (area .exit)) r ⌝ }
+{
+    let n = place::blocks(class);
+    let region = tasks::task_region(control, task) as usize;
+    if regions <= region {
+        return Answer::Refused(14);
+    }
+    let index = notes::task_index(control, task);
+    if n <= index {
+        return Answer::Refused(14);
+    }
+    let left = notes::task_left(control, task);
+    if left < 1 {
+        return Answer::Refused(14);
+    }
+    if n < left {
+        return Answer::Refused(14);
+    }
+    let unit = place::unit(region, class, index);
+    move_at(control, area, regions, task, class, unit, left)
+}

@@ -1,0 +1,5 @@
+pub mod Putting
+pub mod Grouping
+pub mod Returning
+pub mod Clearing
+pub mod Fitting

@@ -1,0 +1,10 @@
+-- The two stores are the two writes, in their order.
+use borrow.Author.Needs.{needs}
+use Rattle.steps_free.proofs.exchange.store.Statement.{statement}
+use Rattle.steps_free.proofs.exchange.store.Tie as tie
+
+returns : tie.Need-returns
+returns c = cc
+
+pub store-spec : {M : Type 1} → statement M
+store-spec = tie.close (tie.spec (λ c κs. search needs) (λ c κs. search needs) (λ c. search needs) returns)

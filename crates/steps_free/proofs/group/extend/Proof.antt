@@ -1,0 +1,11 @@
+-- The stores are the writes, in their order.
+use borrow.Author.Needs.{needs}
+use Rattle.steps_free.proofs.group.extend.Statement.{statement}
+use Rattle.steps_free.proofs.group.extend.Tie as tie
+
+returns : tie.Need-returns
+returns c = cc
+
+pub extend-spec : {M : Type 1} → statement M
+extend-spec =
+    tie.close (tie.spec (λ c κs. search needs) (λ c κs. search needs) (λ c. search needs) returns)

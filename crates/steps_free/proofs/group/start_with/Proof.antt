@@ -1,0 +1,18 @@
+-- The stores are the writes, in their order.
+use borrow.Author.Needs.{needs}
+use Rattle.steps_free.proofs.group.start_with.Statement.{statement}
+use Rattle.steps_free.proofs.group.start_with.Tie as tie
+
+returns : tie.Need-returns
+returns c = cc
+
+pub start-with-spec : {M : Type 1} → statement M
+start-with-spec =
+    tie.close
+    (tie.spec
+    (λ c κs. search needs)
+    (λ c κs. search needs)
+    (λ c κs. search needs)
+    (λ c κs. search needs)
+    (λ c. search needs)
+    returns)

@@ -1,0 +1,66 @@
+// Step 1: the block goes on the cache, unless the cache is full.
+use crate::group;
+use control::answer::Answer;
+ghost use mathlib.Core.Path.{_≡_};
+ghost use mathlib.Core.List.{[], _∷_};
+ghost use Prim.Native.Nat.{_<_};
+ghost use Rattle.fields.specs.Columns.{_:=_};
+ghost use Rattle.links.specs.Link.{link};
+ghost use Rattle.classes.specs.Classes.{perRegion};
+ghost use Rattle.control.specs.Layout.{Control, seen, changed, CacheTop, CacheCount};
+ghost use Rattle.stepped.specs.Done.{Lent, DoneIn};
+ghost use Rattle.stepped.specs.Free.{f1, f1Put};
+
+// A cache's top and count. Callers: `put_block`, and the steps that take a block into a group.
+pub fn set(control: &mut [u8], task: usize, class: usize, top: u16, count: u16)
+    requires { ⌜ Control (now control) × (task < 8) × (class < 16) ⌝ }
+    ensures { λ r. ⌜ now (control .exit) ≡ changed (CacheTop task class := top ∷ CacheCount task class := count ∷ []) (now (control .entry)) ⌝ }
+{
+    control::caches::set_cache_top(control, task, class, top);
+    control::caches::set_cache_count(control, task, class, count);
+}
+
+// The block goes on top of a cache of `count` blocks. Caller: `put`, which has found the cache not full.
+fn put_block(
+    control: &mut [u8],
+    area: &mut [u8],
+    regions: usize,
+    task: usize,
+    class: usize,
+    unit: u16,
+    count: u16,
+    top: u16,
+) -> Answer
+    requires { ⌜ Lent (now control) (now area) regions task class × (count < perRegion class) ⌝ }
+    ensures { λ r. ⌜ DoneIn (f1Put (seen (now (control .entry))) (link (now (area .entry))) regions task class unit count top) (now (control .entry)) (now (area .entry)) (now (control .exit)) (now (area .exit)) r ⌝ }
+{
+    if !ranges::is_block(regions, class, unit as usize) {
+        return Answer::Refused(14);
+    }
+    if !ranges::is_top(regions, class, count as usize, top as usize) {
+        return Answer::Refused(14);
+    }
+    links::write(area, unit as usize, top as u32);
+    control::tasks::set_task_place(control, task, 0);
+    set(control, task, class, unit, count + 1);
+    Answer::Freed
+}
+
+// Step 1.
+pub fn put(control: &mut [u8], area: &mut [u8], regions: usize, task: usize, class: usize) -> Answer
+    requires { ⌜ Lent (now control) (now area) regions task class ⌝ }
+    ensures { λ r. ⌜ DoneIn (f1 (seen (now (control .entry))) (link (now (area .entry))) regions task class) (now (control .entry)) (now (area .entry)) (now (control .exit)) (now (area .exit)) r ⌝ }
+{
+    let n = classes::table::per_region(class);
+    let count = control::caches::cache_count(control, task, class);
+    if n < (count as usize) {
+        return Answer::Refused(14);
+    }
+    if n <= (count as usize) {
+        group::begin(control, task);
+        return Answer::Accepted;
+    }
+    let unit = control::notes::task_unit(control, task);
+    let top = control::caches::cache_top(control, task, class);
+    put_block(control, area, regions, task, class, unit, count, top)
+}

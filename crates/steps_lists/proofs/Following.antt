@@ -1,0 +1,65 @@
+-- Steps 5 and 6 of a free have the outcome of the place that they go on to. Assumes nothing.
+use Prim.Native.Nat.{ℕ, _≤_, _<_}
+use mathlib.Core.Path.{_≡_, refl}
+use mathlib.Core.Logic.{_≢_}
+use mathlib.Core.Bool.{Bool, true, false, cond}
+use mathlib.Core.List.{List}
+use borrow.Author.Tests.{le-leb, lt-leb, eq-eqb, ne-eqb}
+use lib.Dec.{leb, eqb}
+use Rattle.fields.specs.Columns.{View, Write}
+use Rattle.words.specs.Anchor.{FULL}
+use Rattle.classes.specs.Classes.{perRegion}
+use Rattle.plain.specs.Moves.{Decided}
+use Rattle.control.specs.Layout.{CacheCount}
+use Rattle.stepped.specs.Lists.{f5, f6}
+use Rattle.steps_lists.specs.declared.follow.Follow.{Follow}
+use Rattle.steps_lists.specs.declared.follow.Follow.the-variants.{One, Two, Offer, Bad}
+use Rattle.steps_lists.specs.Following.{sixth, fifth, following}
+
+-- ---- the ways of the code
+
+module _ (v : View) (t c : ℕ) where
+  pub sixth-bad : perRegion c < v (CacheCount t c) → Bad ≡ sixth v t c
+  unfolding sixth
+  sixth-bad h = rw (lt-leb _ _ h)
+
+  pub sixth-one : v (CacheCount t c) ≤ perRegion c → v (CacheCount t c) ≡ 0 → One ≡ sixth v t c
+  unfolding sixth
+  sixth-one h k = rw (le-leb _ _ h, eq-eqb _ _ k)
+
+  pub sixth-two : v (CacheCount t c) ≤ perRegion c → v (CacheCount t c) ≢ 0 → Two ≡ sixth v t c
+  unfolding sixth
+  sixth-two h k = rw (le-leb _ _ h, ne-eqb _ _ k)
+
+  pub fifth-offer : (was : ℕ) → was ≡ FULL → Offer ≡ fifth v t c was
+  unfolding fifth
+  fifth-offer was h = rw (eq-eqb _ _ h)
+
+  pub fifth-six : (was : ℕ) → was ≢ FULL → sixth v t c ≡ fifth v t c was
+  unfolding fifth
+  fifth-six was h = rw (ne-eqb _ _ h)
+
+-- ---- the outcome, by the place
+
+-- a choice of places is a choice of outcomes
+chosen : (b : Bool) (x y : Follow) (t : ℕ) (e : Decided) (ws : List Write)
+    → following (cond b x y) t e ws ≡ cond b (following x t e ws) (following y t e ws)
+chosen true x y t e ws = refl
+chosen false x y t e ws = refl
+
+module _ (v : View) (regions t c : ℕ) (e : Decided) (ws : List Write) where
+  pub f6-follows : f6 v regions t c e ws ≡ following (sixth v t c) t e ws
+  unfolding f6 sixth
+  f6-follows =
+      rw (chosen (leb (v (CacheCount t c)) (perRegion c)), chosen (eqb (v (CacheCount t c)) 0))
+
+  pub f5-follows : (was : ℕ) → f5 v regions t c was e ws ≡ following (fifth v t c was) t e ws
+  unfolding f5 fifth
+  f5-follows was = rw (chosen (eqb was FULL), f6-follows)
+
+  -- the same for a place that is known to be the one: after a match on it the outcome is that of its case
+  pub f6-at : (r : Follow) → r ≡ sixth v t c → f6 v regions t c e ws ≡ following r t e ws
+  f6-at r h = rw (f6-follows, ← h)
+
+  pub f5-at : (was : ℕ) (r : Follow) → r ≡ fifth v t c was → f5 v regions t c was e ws ≡ following r t e ws
+  f5-at was r h = rw (f5-follows was, ← h)

@@ -1,0 +1,5 @@
+-- The steps' ways out.
+pub mod Reasons
+pub mod Following
+pub mod Popping
+pub mod Pushing

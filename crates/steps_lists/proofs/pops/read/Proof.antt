@@ -1,0 +1,38 @@
+-- The code's tests are those of the definition, and its stores the writes of the outcome that they lead to.
+use borrow.Author.Needs.{needs}
+use native.Mathlib.Omega.{arith}
+use mathlib.Core.Path.{refl}
+use Rattle.stepped.proofs.Doing.{done}
+use Rattle.steps_lists.proofs.Popping.{read-empty, read-bad, read-noted}
+use Rattle.steps_lists.proofs.pops.read.Statement.{statement}
+use Rattle.steps_lists.proofs.pops.read.Tie as tie
+
+returns : tie.Need-returns
+returns c = done (read-empty _ _ _ _ _ (omega arith)) (cc) (cc) refl
+
+returns-2 : tie.Need-returns-2
+returns-2 c = done (read-bad _ _ _ _ _ (λ e. omega arith) (omega arith)) refl (cc) refl
+
+returns-3 : tie.Need-returns-3
+returns-3 c = done (read-noted _ _ _ _ _ (λ e. omega arith) (omega arith)) refl (cc) refl
+
+pub read-spec : {M : Type 1} → statement M
+read-spec =
+    tie.close
+    (tie.spec
+    (λ c κs. search needs)
+    (λ c κs. search needs)
+    (λ c κs. search needs)
+    (λ c κs. search needs)
+    (λ c κs. search needs)
+    (λ c. search needs)
+    returns
+    (λ c κs. search needs)
+    (λ c. search needs)
+    returns-2
+    (λ c κs. search needs)
+    (λ c. search needs)
+    (λ c κs. search needs)
+    (λ c κs. search needs)
+    (λ c. search needs)
+    returns-3)

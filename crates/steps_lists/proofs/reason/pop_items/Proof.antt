@@ -1,0 +1,17 @@
+-- In each case the number is the one that the code gives, and at most that with sixteen regions.
+use borrow.Author.Needs.{needs}
+use native.Mathlib.Omega.{arith}
+use mathlib.Core.Path.{refl}
+use Rattle.steps_lists.proofs.reason.pop_items.Statement.{statement}
+use Rattle.steps_lists.proofs.reason.pop_items.Tie as tie
+
+pub pop-items-spec : {M : Type 1} → statement M
+pop-items-spec =
+    tie.close
+    (tie.spec
+    (λ c. search needs)
+    (λ c. search needs)
+    (λ c. search needs)
+    (λ c. rw (c .enum-told .given .1) (refl, omega arith, omega arith))
+    (λ c. rw (c .enum-told2 .given .1) (refl, omega arith, omega arith))
+    (λ c. rw (c .enum-told3 .given .1) (refl, omega arith, omega arith)))

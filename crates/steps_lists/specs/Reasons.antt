@@ -1,0 +1,40 @@
+-- Where a pop leads, by its reason.
+-- Assumes nothing.
+use Prim.Native.Nat.{ℕ}
+use mathlib.Core.List.{List, [], _∷_}
+use Rattle.fields.specs.Columns.{Field, Write, _:=_}
+use Rattle.control.specs.Layout.{Head, TaskPlace, TaskDescriptor, TaskRegion}
+use Rattle.control.specs.declared.answer.Answer.{Answer}
+use Rattle.control.specs.declared.answer.Answer.the-variants.{Accepted, NoDescriptor}
+use Rattle.control.specs.declared.moves.Pop.{Pop}
+use Rattle.control.specs.declared.moves.Pop.the-variants.{Partial, Spare, Region}
+use Rattle.control.specs.declared.moves.Push.the-variants.{Back}
+use Rattle.stepped.specs.Lists.{popPlace, popList, pushPlace}
+
+-- allocate, step 2 "Empty: go to 5", step 5 "Empty: end with 12", step 6 "Empty: push the descriptor back"
+abbrev pub emptyPlace : Pop → ℕ
+emptyPlace Partial = popPlace Spare
+emptyPlace Spare = 0
+emptyPlace Region = pushPlace Back
+
+abbrev pub emptyAnswer : Pop → Answer
+emptyAnswer Partial = Accepted
+emptyAnswer Spare = NoDescriptor
+emptyAnswer Region = Accepted
+
+-- a won pop leads from step 2 to 3, from step 5 to 6, from step 6 to 7
+abbrev pub poppedPlace : Pop → ℕ
+poppedPlace Partial = 23
+poppedPlace Spare = popPlace Region
+poppedPlace Region = 26
+
+-- where the popped item is noted: what the task t has in hand
+abbrev pub heldField : Pop → ℕ → Field
+heldField Partial = TaskDescriptor
+heldField Spare = TaskDescriptor
+heldField Region = TaskRegion
+
+-- the writes of a won pop, which leaves the task t with the item x in hand and the list with the head `word`
+abbrev pub taken : ℕ → ℕ → Pop → ℕ → ℕ → List Write
+taken t c p x word =
+    TaskPlace t := poppedPlace p ∷ heldField p t := x ∷ Head (popList p c) := word ∷ []
