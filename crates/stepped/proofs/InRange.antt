@@ -22,6 +22,7 @@ use Rattle.plain.specs.States.{IsOpen}
 use Rattle.plain.specs.Invariant.{Invariant, ChainLength}
 use Rattle.plain.specs.Steps.{top}
 use Rattle.plain.specs.Calls.{Pool, unstarted}
+use Rattle.plain.specs.Calls as Calls
 use Rattle.plain.proofs.States.{open-holds}
 use Rattle.plain.proofs.Turn.{taskHolds}
 use Rattle.control.specs.Layout.{Anchor, CacheTop, CacheCount, TaskUnit, TaskPlace, TaskClass, TaskDescriptor, TaskState, DescriptorClass, Regions, seen}
@@ -30,7 +31,7 @@ use Rattle.stepped.specs.Memory.{slotOf, memoryOf}
 use Rattle.stepped.specs.Relation.{PlaceRelated, Related}
 use Rattle.stepped.specs.Relation.{r-idle, r-a1, r-partial, r-spare, r-region, r-retire, r-back, r-release, r-offer, r-a3-read, r-a3-exchange}
 use Rattle.stepped.specs.Relation.{r-a4, r-a7, r-a8, r-f1, r-f2, r-f2-more, r-f3-read, r-f3-link, r-f3-exchange, r-f4-clear}
-use Rattle.stepped.specs.Events.{Event, Memories, stepped, whole, Premises}
+use Rattle.stepped.specs.Events.{Event, start, Memories, stepped, whole, Premises}
 use Rattle.stepped.specs.Agreement.{Unstarted}
 use Rattle.stepped.specs.InRange.{TaskInRange, Ranged, RangedAlong}
 use Rattle.stepped.proofs.Tops.{top-le, listed, listed-region, descriptor-in-hand}
@@ -39,6 +40,7 @@ use Rattle.stepped.proofs.Couple.{Pair, mine}
 use Rattle.stepped.proofs.Blocks.{under-unit, below-tested, top-max}
 use Rattle.stepped.proofs.Simulation.{Sim, fitting}
 use Rattle.stepped.proofs.Unstarted.{unstarted-sim}
+use Rattle.stepped.proofs.Starting.{accepted-start}
 use Rattle.stepped.proofs.Theorem.{alike}
 use Rattle.stepped.proofs.TaskHands.{pop-span, push-span, hands-at}
 use Rattle.stepped.proofs.TaskLists.{noted-at}
@@ -219,3 +221,12 @@ along (e ∷ es) s₁ s S p =
 -- stores is in its range.
 pub ranges : (es : List Event) (s₁ : Memories) → Unstarted s₁ → Premises es unstarted → RangedAlong es s₁
 ranges es s₁ U p = along es s₁ unstarted (unstarted-sim U) p
+
+-- The same from an accepted start on any memories and in any pool: right after it, and along every list of events behind it.
+pub ranges-from-start : (es : List Event) (s₁ : Memories) (s : Pool) (area : List ℕ) (tasks : ℕ) → Calls.Area (length area)
+    → Calls.Tasks tasks → Premises es (whole (start 8192 area tasks) s .0)
+    → Ranged (stepped (start 8192 area tasks) s₁ .0) × RangedAlong es (stepped (start 8192 area tasks) s₁ .0)
+unfolding Calls.call
+ranges-from-start es s₁ s area tasks a t p =
+    let A = accepted-start s₁ s area tasks a t in
+    (in-range (A .sim), along es (stepped (start 8192 area tasks) s₁ .0) (whole (start 8192 area tasks) s .0) (A .sim) p)
