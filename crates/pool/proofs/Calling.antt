@@ -3,17 +3,18 @@ use mathlib.Core.Path.{_≡_, refl, sym, ap, subst, _∙_}
 use mathlib.Core.Logic.{_≢_}
 use mathlib.Core.Bool.{Bool, cond}
 use mathlib.Core.List.{List, []}
-use Prim.Native.Nat.{ℕ, _≤_, _<_}
+use Prim.Native.Nat.{ℕ, _*_, _≤_, _<_}
 use native.Mathlib.Omega.{arith}
 use borrow.Author.Tests.{eq-eqb, ne-eqb}
 use lib.ListN.{length}
 use Rattle.fields.specs.Columns.{View}
-use Rattle.links.specs.Link.{LinkWrite, linked}
+use Rattle.links.specs.Link.{link, LinkWrite, linked}
 use Rattle.control.specs.Layout.{Regions, seen}
 use Rattle.control.specs.Answers.{numberOf}
 use Rattle.control.specs.declared.answer.Answer.{Answer}
 use Rattle.stepped.specs.Outcome.{Outcome, refuse, effect}
-use Rattle.stepped.specs.Calls.{tested, whenIdle, beginAllocate, beginFree, allocateOutcome, freeOutcome, allocate, free}
+use Rattle.stepped.specs.Steps.{step}
+use Rattle.stepped.specs.Calls.{tested, whenIdle, beginAllocate, beginFree, allocateOutcome, freeOutcome, stepOutcome, allocate, free, go}
 use Rattle.stepped.specs.Ends.{Tested}
 use Rattle.stepped.specs.Done.{Done, DoneIn}
 use Rattle.stepped.proofs.Doing.{lends}
@@ -56,6 +57,16 @@ module _ (c a : List ℕ) (t r : ℕ) (T : TestsAre (length c) (length a) (seen 
   free-does u regions h e {c′} {s} d n =
       does-is (passes h _) (lends (subst (λ (k : ℕ). Done (whenIdle (seen c) t (beginFree (seen c) k t u)) c c′ s) e d)) n
 
+  pub step-refused : r ≢ 0 → CallIs (go c a t) c a r
+  unfolding go stepOutcome
+  step-refused h = refused-is c a (refuses h _)
+
+  pub step-does : (regions : ℕ) → r ≡ 0 → regions ≡ seen c Regions → {c′ a′ : List ℕ} {s : Answer} {n : ℕ}
+      → DoneIn (step (seen c) (link a) regions t) c a c′ a′ s → n ≡ numberOf s → CallIs (go c a t) c′ a′ n
+  unfolding go stepOutcome
+  step-does regions h e {c′} {a′} {s} d n =
+      does-is (passes h _) (subst (λ (k : ℕ). DoneIn (step (seen c) (link a) k t) c a c′ a′ s) e d) n
+
 -- what the tests tell
 module _ (control area : ℕ) (v : View) (t r : ℕ) (T : TestsAre control area v t r) (h : r ≡ 0) where
   pub control-is : control ≡ 8192
@@ -66,3 +77,9 @@ module _ (control area : ℕ) (v : View) (t r : ℕ) (T : TestsAre control area 
 
   pub regions-are : (k : ℕ) → k ≡ v Regions → k ≤ 16
   regions-are k e = omega (arith, T .passed h .regions)
+
+  pub regions-some : (k : ℕ) → k ≡ v Regions → 1 ≤ k
+  regions-some k e = omega (arith, T .passed h .some)
+
+  pub area-is : (k : ℕ) → k ≡ v Regions → area ≡ 4096 * k
+  area-is k e = T .passed h .area-is ∙ ap (λ (n : ℕ). 4096 * n) (sym e)

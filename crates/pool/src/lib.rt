@@ -5,7 +5,8 @@ use begins::free;
 use begins::tests;
 use control::answer;
 use control::started;
-ghost use Rattle.stepped.specs.Calls.{start, allocate as allocated, free as freed};
+use steps::step;
+ghost use Rattle.stepped.specs.Calls.{start, allocate as allocated, free as freed, go};
 ghost use Rattle.pool.specs.Call.{CallIs};
 
 // Begins a new run with so many tasks, on any bytes: it fills the control memory, and leaves the area as it is.
@@ -59,4 +60,17 @@ pub extern "C" fn pool_begin_free(control: &mut [u8], area: &[u8], task: u64, un
     }
     let regions = started::regions(control) as usize;
     answer::number(free::begin(control, regions, task as usize, unit))
+}
+
+// One step of the request that a task has in hand.
+#[no_mangle]
+pub extern "C" fn pool_step(control: &mut [u8], area: &mut [u8], task: u64) -> u64
+    ensures { λ r. ⌜ CallIs (go (now (control .entry)) (now (area .entry)) task) (now (control .exit)) (now (area .exit)) r ⌝ }
+{
+    let refused = tests::tests(control, area.len(), task);
+    if refused != 0 {
+        return refused as u64;
+    }
+    let regions = started::regions(control) as usize;
+    answer::number(step::step(control, area, regions, task as usize))
 }

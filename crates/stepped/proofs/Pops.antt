@@ -241,7 +241,7 @@ module _ {regions : ℕ} {v : View} {area : List ℕ} {m : Mem} {t : ℕ} {k : �
 -- ---- the step list
 
 -- the step at each of the three places of a pop
-pop-steps : (v : View) (link : ℕ → ℕ) (regions t c : ℕ) (P : Pop)
+pub pop-steps : (v : View) (link : ℕ → ℕ) (regions t c : ℕ) (P : Pop)
     → (Stepped.stepAt v link regions t c (Lists.popPlace P) ≡ Lists.popRead v regions t c P)
     × (Stepped.stepAt v link regions t c (Lists.popPlace P + 1) ≡ Lists.popNext v regions t c P)
     × (Stepped.stepAt v link regions t c (Lists.popPlace P + 2) ≡ Lists.popExchange v regions t c P)

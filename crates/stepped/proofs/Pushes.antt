@@ -241,7 +241,7 @@ module _ {regions : ℕ} {v : View} {area : List ℕ} {m : Mem} {t : ℕ} {k : �
 -- ---- the step list
 
 -- the step at each of the three places of a push
-push-steps : (v : View) (link : ℕ → ℕ) (regions t c : ℕ) (P : Push)
+pub push-steps : (v : View) (link : ℕ → ℕ) (regions t c : ℕ) (P : Push)
     → (Stepped.stepAt v link regions t c (Lists.pushPlace P) ≡ Lists.pushRead v regions t c P)
     × (Stepped.stepAt v link regions t c (Lists.pushPlace P + 1) ≡ Lists.pushNext v regions t c P)
     × (Stepped.stepAt v link regions t c (Lists.pushPlace P + 2) ≡ Lists.pushExchange v regions t c P)

@@ -1,0 +1,2 @@
+-- Laws of the step list by place.
+pub mod Places

@@ -1,0 +1,37 @@
+// The steps of an allocation that are no list moves, but for the first, by place.
+use control::answer::Answer;
+use steps_allocate::anchor;
+use steps_fill::chain;
+use steps_fill::region;
+ghost use Prim.Native.Nat.{_≤_, _<_};
+ghost use Rattle.links.specs.Link.{link};
+ghost use Rattle.control.specs.Layout.{seen};
+ghost use Rattle.stepped.specs.Done.{Lent, DoneIn};
+ghost use Rattle.stepped.specs.Steps.{stepAt};
+
+// The steps at the places 23 to 27. Caller: the step of a task at one of them.
+pub fn fill(
+    control: &mut [u8],
+    area: &mut [u8],
+    regions: usize,
+    task: usize,
+    class: usize,
+    place: u8,
+) -> Answer
+    requires { ⌜ Lent (now control) (now area) regions task class × (23 ≤ place) × (place < 28) ⌝ }
+    ensures { λ r. ⌜ DoneIn (stepAt (seen (now (control .entry))) (link (now (area .entry))) regions task class place) (now (control .entry)) (now (area .entry)) (now (control .exit)) (now (area .exit)) r ⌝ }
+{
+    if place == 27 {
+        return region::carve(control, area, regions, task, class);
+    }
+    if place == 25 {
+        return chain::step(control, area, regions, task, class);
+    }
+    if place == 23 {
+        return anchor::read(control, task, class);
+    }
+    if place == 24 {
+        return anchor::exchange(control, regions, task, class);
+    }
+    region::open(control, regions, task, class)
+}

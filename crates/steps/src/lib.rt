@@ -1,0 +1,5 @@
+// One step of a task: the step list by place.
+mod allocate;
+mod free;
+mod moves;
+pub mod step;

@@ -1,0 +1,84 @@
+// The steps of the list moves, by place: each pop and each push has three places in a row, from its first.
+use control::answer::Answer;
+use control::moves::Pop;
+use control::moves::Push;
+use steps_lists::pops;
+use steps_lists::pushes;
+ghost use Prim.Native.Nat.{ℕ, _+_, _≤_, _<_};
+ghost use Rattle.control.specs.Layout.{seen};
+ghost use Rattle.stepped.specs.Done.{Given, Done};
+ghost use Rattle.stepped.specs.Lists.{popPlace, pushPlace};
+ghost use Rattle.stepped.specs.Steps.{stepAt};
+
+// A pop: the head is read, then the item's next, then the head is exchanged. Caller: `pop`, by its place.
+fn pop_step(
+    control: &mut [u8],
+    regions: usize,
+    task: usize,
+    class: usize,
+    pop: Pop,
+    after: u8,
+) -> Answer
+    requires { ⌜ Given (now control) regions task class × (after < 3) ⌝ }
+    ensures { λ r. ⌜ ((link : ℕ → ℕ) → Done (stepAt (seen (now (control .entry))) link regions task class (popPlace pop + after)) (now (control .entry)) (now (control .exit)) r) ⌝ }
+{
+    if after == 0 {
+        return pops::read(control, regions, task, class, pop);
+    }
+    if after == 1 {
+        return pops::next(control, regions, task, pop);
+    }
+    pops::exchange(control, regions, task, class, pop)
+}
+
+// The steps at the places 2 to 10. Caller: the step of a task at one of them.
+pub fn pop(control: &mut [u8], regions: usize, task: usize, class: usize, place: u8) -> Answer
+    requires { ⌜ Given (now control) regions task class × (2 ≤ place) × (place < 11) ⌝ }
+    ensures { λ r. ⌜ ((link : ℕ → ℕ) → Done (stepAt (seen (now (control .entry))) link regions task class place) (now (control .entry)) (now (control .exit)) r) ⌝ }
+{
+    if place < 5 {
+        return pop_step(control, regions, task, class, Pop::Partial, place - 2);
+    }
+    if place < 8 {
+        return pop_step(control, regions, task, class, Pop::Spare, place - 5);
+    }
+    pop_step(control, regions, task, class, Pop::Region, place - 8)
+}
+
+// A push: the head is read, then the item's next is written, then the head is exchanged. Caller: `push`, by its place.
+fn push_step(
+    control: &mut [u8],
+    regions: usize,
+    task: usize,
+    class: usize,
+    push: Push,
+    after: u8,
+) -> Answer
+    requires { ⌜ Given (now control) regions task class × (after < 3) ⌝ }
+    ensures { λ r. ⌜ ((link : ℕ → ℕ) → Done (stepAt (seen (now (control .entry))) link regions task class (pushPlace push + after)) (now (control .entry)) (now (control .exit)) r) ⌝ }
+{
+    if after == 0 {
+        return pushes::read(control, regions, task, class, push);
+    }
+    if after == 1 {
+        return pushes::next(control, regions, task, push);
+    }
+    pushes::exchange(control, regions, task, class, push)
+}
+
+// The steps at the places 11 to 22. Caller: the step of a task at one of them.
+pub fn push(control: &mut [u8], regions: usize, task: usize, class: usize, place: u8) -> Answer
+    requires { ⌜ Given (now control) regions task class × (11 ≤ place) × (place < 23) ⌝ }
+    ensures { λ r. ⌜ ((link : ℕ → ℕ) → Done (stepAt (seen (now (control .entry))) link regions task class place) (now (control .entry)) (now (control .exit)) r) ⌝ }
+{
+    if place < 14 {
+        return push_step(control, regions, task, class, Push::Retire, place - 11);
+    }
+    if place < 17 {
+        return push_step(control, regions, task, class, Push::Back, place - 14);
+    }
+    if place < 20 {
+        return push_step(control, regions, task, class, Push::Release, place - 17);
+    }
+    push_step(control, regions, task, class, Push::Offer, place - 20)
+}
