@@ -6,13 +6,12 @@ use begins::tests;
 use control::answer;
 use control::started;
 use steps::step;
-ghost use Rattle.stepped.specs.Calls.{start, allocate as allocated, free as freed, go};
-ghost use Rattle.pool.specs.Call.{CallIs};
+ghost use Rattle.pool.specs.Call.{Ensures, start, allocate as allocated, free as freed, step as stepped};
 
 // Begins a new run with so many tasks, on any bytes: it fills the control memory, and leaves the area as it is.
 #[no_mangle]
 pub extern "C" fn pool_start(control: &mut [u8], area: &[u8], tasks: u64) -> u64
-    ensures { λ r. ⌜ CallIs (start (now (control .entry)) (now (area .entry)) tasks) (now (control .exit)) (now (area .entry)) r ⌝ }
+    ensures { λ r. ⌜ Ensures (start tasks) (now (control .entry)) (now (area .entry)) (now (control .exit)) (now (area .entry)) r ⌝ }
 {
     if control.len() != 8192 {
         return 1;
@@ -40,7 +39,7 @@ pub extern "C" fn pool_start(control: &mut [u8], area: &[u8], tasks: u64) -> u64
 // Begins an allocation of so many bytes for a task. It does no step.
 #[no_mangle]
 pub extern "C" fn pool_begin_allocate(control: &mut [u8], area: &[u8], task: u64, size: u64) -> u64
-    ensures { λ r. ⌜ CallIs (allocated (now (control .entry)) (now (area .entry)) task size) (now (control .exit)) (now (area .entry)) r ⌝ }
+    ensures { λ r. ⌜ Ensures (allocated task size) (now (control .entry)) (now (area .entry)) (now (control .exit)) (now (area .entry)) r ⌝ }
 {
     let refused = tests::tests(control, area.len(), task);
     if refused != 0 {
@@ -52,7 +51,7 @@ pub extern "C" fn pool_begin_allocate(control: &mut [u8], area: &[u8], task: u64
 // Begins the free of the block at this unit, by any task: its mark is cleared. It does no step.
 #[no_mangle]
 pub extern "C" fn pool_begin_free(control: &mut [u8], area: &[u8], task: u64, unit: u64) -> u64
-    ensures { λ r. ⌜ CallIs (freed (now (control .entry)) (now (area .entry)) task unit) (now (control .exit)) (now (area .entry)) r ⌝ }
+    ensures { λ r. ⌜ Ensures (freed task unit) (now (control .entry)) (now (area .entry)) (now (control .exit)) (now (area .entry)) r ⌝ }
 {
     let refused = tests::tests(control, area.len(), task);
     if refused != 0 {
@@ -65,7 +64,7 @@ pub extern "C" fn pool_begin_free(control: &mut [u8], area: &[u8], task: u64, un
 // One step of the request that a task has in hand.
 #[no_mangle]
 pub extern "C" fn pool_step(control: &mut [u8], area: &mut [u8], task: u64) -> u64
-    ensures { λ r. ⌜ CallIs (go (now (control .entry)) (now (area .entry)) task) (now (control .exit)) (now (area .exit)) r ⌝ }
+    ensures { λ r. ⌜ Ensures (stepped task) (now (control .entry)) (now (area .entry)) (now (control .exit)) (now (area .exit)) r ⌝ }
 {
     let refused = tests::tests(control, area.len(), task);
     if refused != 0 {
