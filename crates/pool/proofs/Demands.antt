@@ -35,7 +35,7 @@ use Rattle.stepped.proofs.Theorem.{agreement, agreement-from-start}
 use Rattle.pool.specs.Call.{Call, start, allocate, free, step, effectOf, Refusal, Begun}
 use Rattle.pool.specs.Tests.{firstFailed, startTests, allocateTests, freeTests, stepTests}
 use Rattle.pool.specs.Runs.{Act, own, Contract, Run, after, eventOf, event, events, Answered, Tells, Told}
-use Rattle.pool.proofs.Numbers.{refused, accepted, no-descriptor-told, no-region-told}
+use Rattle.pool.proofs.Numbers.{refused, accepted, ends-told}
 use Rattle.pool.proofs.Failing.{start-first, allocate-first, free-first, step-first}
 use Rattle.pool.proofs.Acting.{Shows, shows}
 
@@ -132,16 +132,16 @@ module _ (lent left : Memories) (r : ℕ) where
     pub twelve : (r ≡ 12) ↔ (Tested control area (seen (lent .control)) t × FindsEmpty Spare (seen (lent .control)) t)
     twelve =
         let E = no-descriptor control area (seen (lent .control)) (link (lent .area)) t in
-        let N = no-descriptor-told (o .answer) (step-ends control area (seen (lent .control)) (link (lent .area)) t .answers) in
-        (λ h. E .0 (N .0 (sym answer-number ∙ h)), λ f. answer-number ∙ N .1 (E .1 f))
+        let N = ends-told (o .answer) (step-ends control area (seen (lent .control)) (link (lent .area)) t .answers) in
+        (λ h. E .0 (N .0 (sym answer-number ∙ h)), λ f. answer-number ∙ ap numberOf (E .1 f))
 
     -- "and 'no region'": 13 is answered exactly where the task wins the push of its descriptor back on the spare list; and a task
     -- that is not in that push comes to it exactly where it reads the head of the list of spare regions and finds it empty.
     pub thirteen : (r ≡ 13) ↔ (Tested control area (seen (lent .control)) t × WinsPush Back (seen (lent .control)) t)
     thirteen =
         let E = no-region control area (seen (lent .control)) (link (lent .area)) t in
-        let N = no-region-told (o .answer) (step-ends control area (seen (lent .control)) (link (lent .area)) t .answers) in
-        (λ h. E .0 (N .0 (sym answer-number ∙ h)), λ f. answer-number ∙ N .1 (E .1 f))
+        let N = ends-told (o .answer) (step-ends control area (seen (lent .control)) (link (lent .area)) t .answers) in
+        (λ h. E .0 (N .1 (sym answer-number ∙ h)), λ f. answer-number ∙ ap numberOf (E .1 f))
 
     pub to-thirteen : (InPush Back (seen (lent .control) (TaskPlace t)) → ⊥)
         → InPush Back (placeAfter o (seen (lent .control)) t)

@@ -1,7 +1,7 @@
 -- What the number that a call answers tells of its answer. Assumes nothing.
 use mathlib.Core.Path.{_≡_, refl, sym, ap, _∙_}
-use mathlib.Core.Logic.{_≢_, _↔_}
-use mathlib.Core.Bool.{true, false≢true}
+use mathlib.Core.Logic.{_≢_}
+use mathlib.Core.Bool.{true, false, false≢true}
 use mathlib.Core.List.{List}
 use Prim.Native.Nat.{ℕ, _+_, _*_, _≤_}
 use native.Mathlib.Omega.{arith}
@@ -39,24 +39,13 @@ accepted ns h NoRegion b e = absurd b
 accepted ns h (Refused n) b e = absurd (h (ap (oneOf ns) (sym e) ∙ b))
 
 -- the numbers 12 and 13 tell that a step found no descriptor and no region: neither is among the numbers that refuse it
-pub no-descriptor-told : (a : Answer) → Goes stepRefusals a → numberOf a ≡ 12 ↔ (a ≡ NoDescriptor)
-no-descriptor-told a g = (by a g, ap numberOf)
+pub ends-told : (a : Answer) → Goes stepRefusals a → (numberOf a ≡ 12 → a ≡ NoDescriptor) × (numberOf a ≡ 13 → a ≡ NoRegion)
+ends-told Accepted g = (λ e. absurd (omega arith), λ e. absurd (omega arith))
+ends-told (Allocated u) g = (λ e. absurd (omega arith), λ e. absurd (omega arith))
+ends-told Freed g = (λ e. absurd (omega arith), λ e. absurd (omega arith))
+ends-told NoDescriptor g = (λ e. refl, λ e. absurd (omega arith))
+ends-told NoRegion g = (λ e. absurd (omega arith), λ e. refl)
+ends-told (Refused n) g = (λ e. absurd (among e refl), λ e. absurd (among e refl))
   where
-    by : (a : Answer) → Goes stepRefusals a → numberOf a ≡ 12 → a ≡ NoDescriptor
-    by Accepted g e = absurd (omega arith)
-    by (Allocated u) g e = absurd (omega arith)
-    by Freed g e = absurd (omega arith)
-    by NoDescriptor g e = refl
-    by NoRegion g e = absurd (omega arith)
-    by (Refused n) g e = absurd (false≢true (ap (oneOf stepRefusals) (sym e) ∙ g))
-
-pub no-region-told : (a : Answer) → Goes stepRefusals a → numberOf a ≡ 13 ↔ (a ≡ NoRegion)
-no-region-told a g = (by a g, ap numberOf)
-  where
-    by : (a : Answer) → Goes stepRefusals a → numberOf a ≡ 13 → a ≡ NoRegion
-    by Accepted g e = absurd (omega arith)
-    by (Allocated u) g e = absurd (omega arith)
-    by Freed g e = absurd (omega arith)
-    by NoDescriptor g e = absurd (omega arith)
-    by NoRegion g e = refl
-    by (Refused n) g e = absurd (false≢true (ap (oneOf stepRefusals) (sym e) ∙ g))
+    among : {m : ℕ} → n ≡ m → oneOf stepRefusals m ≡ false → ⊥
+    among e h = false≢true (sym h ∙ ap (oneOf stepRefusals) (sym e) ∙ g)
