@@ -1,0 +1,54 @@
+-- The stand over any pool: what each record does, and the table of a schedule.
+-- Assumes nothing.
+use Prim.Native.Nat.{ℕ, zero, suc, _+_, _/_, _%_}
+use mathlib.Core.Bool.{cond}
+use mathlib.Core.List.{List, [], _∷_}
+use lib.Dec.{eqb, ltb}
+use lib.ListN.{length, getD}
+use Rattle.schedule.specs.declared.record.Record.{Record}
+use Rattle.schedule.specs.declared.record.Record.the-variants.{Start, Allocate, Free, Step, Run, Bad}
+use Rattle.schedule.specs.declared.tally.Tally.{Tally}
+use Rattle.schedule.specs.Records.{recordAt, endOf}
+use Rattle.schedule.specs.Tally.{counted}
+
+-- what the stand asks of a pool
+pub data Request : Type 0 where
+  start : (tasks regions : ℕ) → Request
+  allocate : (task size : ℕ) → Request
+  free : (task unit : ℕ) → Request
+  step : (task : ℕ) → Request
+
+-- "each line, in decimal: record from 0, kind byte, code, value"
+pub record Line : Type 0 where
+  pub number : ℕ
+  pub kind : ℕ
+  pub code : ℕ
+  pub value : ℕ
+
+-- a pool: its state, and what a request makes of it, with the answer: the code, and 256 times the value
+module _ {S : Type 0} (call : Request → S → S × ℕ) where
+  -- "run (task, most steps ..), which stops at a finish, an end or a refusal (most 0: code 0, no call made)"; "A run shows its last
+  -- call's answer". The last answer so far is a.
+  unfoldable pub runs : ℕ → ℕ → ℕ → S → S × ℕ
+  runs a t zero s = (s, a)
+  runs a t (suc m) s = cond (eqb (call (step t) s .1) 0) (runs 0 t m (call (step t) s .0)) (call (step t) s)
+
+  -- "15 unknown kind or cut record"
+  abbrev pub treated : Record → S → S × ℕ
+  treated (Start tasks regions) s = call (start tasks regions) s
+  treated (Allocate t size) s = call (allocate t size) s
+  treated (Free t u) s = call (free t u) s
+  treated (Step t) s = call (step t) s
+  treated (Run t most) s = runs 0 t most s
+  treated Bad s = (s, 15)
+
+  -- the lines from the record at the byte `at` on, which is the record n, and the tally at the end; no more than f records
+  unfoldable pub table : ℕ → List ℕ → ℕ → ℕ → Tally → S → List Line × Tally
+  table zero input at n y s = ([], y)
+  table (suc f) input at n y s =
+      let x = treated (recordAt input at) s in
+      let code = x .1 % 256 in
+      let rest = table f input (endOf (recordAt input at) at (length input)) (n + 1) (counted y code) (x .0) in
+      cond (ltb at (length input))
+      (record { number = n; kind = getD input at 0; code = code; value = x .1 / 256 } ∷ rest .0, rest .1)
+      ([], y)

@@ -1,0 +1,60 @@
+// The calls on the stand's two memories. A start is lent the regions that it names; every other call the area of the last
+// accepted start, none before the first.
+use control::started;
+ghost use mathlib.Core.Path.{_≡_};
+ghost use Prim.Native.Nat.{_*_, _≤_};
+ghost use lib.ListN.{length};
+ghost use Rattle.control.specs.Layout.{Control, seen};
+ghost use Rattle.schedule.specs.Stand.{start as started, allocate as allocated, free as freed, step as stepped};
+ghost use Rattle.schedule.specs.Bytes.{lentRegions, onBytes, Does, Kept};
+
+// How many bytes of the area the pool was started with. Callers: the calls that are no start.
+fn lent(control: &[u8]) -> usize
+    requires { ⌜ Control (now control) ⌝ }
+    ensures { λ r. ⌜ (r ≡ 4096 * lentRegions (seen (now (control .entry)))) × (r ≤ 16384) ⌝ }
+{
+    if started::tasks(control) == 0 {
+        return 0;
+    }
+    let regions = started::regions(control) as usize;
+    if 4 < regions {
+        return 16384;
+    }
+    4096 * regions
+}
+
+// A start with so many tasks and regions: "more than 4 regions is 2".
+pub fn start(control: &mut [u8], area: &mut [u8], tasks: u8, regions: u8) -> u64
+    requires { ⌜ Kept (now control) (now area) ⌝ }
+    ensures { λ r. ⌜ Does (onBytes (started tasks regions)) (now (control .entry)) (now (area .entry)) (now (control .exit)) (now (area .exit)) r ⌝ }
+{
+    if 4 < regions {
+        return 2;
+    }
+    let n = 4096 * (regions as usize);
+    pool::pool_start(control, &area[0..n], tasks as u64)
+}
+
+pub fn allocate(control: &mut [u8], area: &mut [u8], task: u8, size: u16) -> u64
+    requires { ⌜ Kept (now control) (now area) ⌝ }
+    ensures { λ r. ⌜ Does (onBytes (allocated task size)) (now (control .entry)) (now (area .entry)) (now (control .exit)) (now (area .exit)) r ⌝ }
+{
+    let n = lent(control);
+    pool::pool_begin_allocate(control, &area[0..n], task as u64, size as u64)
+}
+
+pub fn free(control: &mut [u8], area: &mut [u8], task: u8, unit: u16) -> u64
+    requires { ⌜ Kept (now control) (now area) ⌝ }
+    ensures { λ r. ⌜ Does (onBytes (freed task unit)) (now (control .entry)) (now (area .entry)) (now (control .exit)) (now (area .exit)) r ⌝ }
+{
+    let n = lent(control);
+    pool::pool_begin_free(control, &area[0..n], task as u64, unit as u64)
+}
+
+pub fn step(control: &mut [u8], area: &mut [u8], task: u8) -> u64
+    requires { ⌜ Kept (now control) (now area) ⌝ }
+    ensures { λ r. ⌜ Does (onBytes (stepped task)) (now (control .entry)) (now (area .entry)) (now (control .exit)) (now (area .exit)) r ⌝ }
+{
+    let n = lent(control);
+    pool::pool_step(control, &mut area[0..n], task as u64)
+}

@@ -1,0 +1,84 @@
+// The records of a schedule: "one byte of kind, then a body".
+ghost use mathlib.Core.Path.{_≡_};
+ghost use Prim.Native.Nat.{_+_, _≤_, _<_};
+ghost use lib.ListN.{length};
+ghost use lib.ListN.{getD};
+ghost use Rattle.fields.specs.Little.{getLE};
+ghost use Rattle.schedule.specs.Records.{wideOf, recordAt, endOf};
+
+pub enum Record {
+    // Tasks and regions.
+    Start(u8, u8),
+    // A task and a size.
+    Allocate(u8, u16),
+    // A task and a unit.
+    Free(u8, u16),
+    // A task.
+    Step(u8),
+    // A task and the most steps.
+    Run(u8, u16),
+    // An unknown kind, or a record that the end of the input cuts short.
+    Bad,
+}
+
+// A record whose body is a task and a number in two bytes. Caller: `read`, which has tested that the input has them.
+fn wide(input: &[u8], at: usize, kind: u8) -> Record
+    requires { ⌜ (at + 4 ≤ length (now input)) × (length (now input) ≤ 65536) ⌝ }
+    ensures { λ r. ⌜ r ≡ wideOf kind (getD (now (input .entry)) (at + 1) 0) (getLE (now (input .entry)) (at + 2) 2) ⌝ }
+{
+    let task = input[at + 1];
+    let number = fields::load16(input, at + 2);
+    if kind == 2 {
+        return Record::Allocate(task, number);
+    }
+    if kind == 3 {
+        return Record::Free(task, number);
+    }
+    Record::Run(task, number)
+}
+
+// The record that begins at a byte of the input.
+pub fn read(input: &[u8], at: usize) -> Record
+    requires { ⌜ (at < length (now input)) × (length (now input) ≤ 65536) ⌝ }
+    ensures { λ r. ⌜ r ≡ recordAt (now (input .entry)) at ⌝ }
+{
+    let kind = input[at];
+    let left = input.len() - at;
+    if kind < 1 {
+        return Record::Bad;
+    }
+    if 5 < kind {
+        return Record::Bad;
+    }
+    if kind == 4 {
+        if left < 2 {
+            return Record::Bad;
+        }
+        return Record::Step(input[at + 1]);
+    }
+    if kind == 1 {
+        if left < 3 {
+            return Record::Bad;
+        }
+        return Record::Start(input[at + 1], input[at + 2]);
+    }
+    if left < 4 {
+        return Record::Bad;
+    }
+    wide(input, at, kind)
+}
+
+// Where the next record begins; a bad one ends the schedule, whose length is `end`.
+pub fn end(entry: Record, at: usize, end: usize) -> usize
+    requires { ⌜ at ≤ 65536 ⌝ }
+    ensures { λ r. ⌜ r ≡ endOf entry at end ⌝ }
+{
+    match entry {
+        Record::Start(_, _) => at + 3,
+        Record::Allocate(_, _) => at + 4,
+        Record::Free(_, _) => at + 4,
+        Record::Step(_) => at + 2,
+        Record::Run(_, _) => at + 4,
+        Record::Bad => end,
+    }
+}

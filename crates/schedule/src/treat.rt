@@ -1,0 +1,38 @@
+// The treatment of a record.
+use crate::lend;
+use crate::record::Record;
+ghost use Rattle.schedule.specs.Stand.{runs, treated};
+ghost use Rattle.schedule.specs.Bytes.{onBytes, Does, Kept};
+
+// "5 run .. stops at a finish, an end or a refusal (most 0: code 0, no call made)". It answers as the last call.
+fn run(control: &mut [u8], area: &mut [u8], task: u8, most: u16) -> u64
+    requires { ⌜ Kept (now control) (now area) ⌝ }
+    ensures { λ r. ⌜ Does (runs onBytes 0 task most) (now (control .entry)) (now (area .entry)) (now (control .exit)) (now (area .exit)) r ⌝ }
+{
+    let mut left = most;
+    let mut answer: u64 = 0;
+    while 0 < left {
+        answer = lend::step(control, area, task);
+        if answer == 0 {
+            left -= 1;
+        } else {
+            left = 0;
+        }
+    }
+    answer
+}
+
+// What a record does to the two memories, and what it answers: the code, and 256 times the value.
+pub fn treat(control: &mut [u8], area: &mut [u8], entry: Record) -> u64
+    requires { ⌜ Kept (now control) (now area) ⌝ }
+    ensures { λ r. ⌜ Does (treated onBytes entry) (now (control .entry)) (now (area .entry)) (now (control .exit)) (now (area .exit)) r ⌝ }
+{
+    match entry {
+        Record::Start(tasks, regions) => lend::start(control, area, tasks, regions),
+        Record::Allocate(task, size) => lend::allocate(control, area, task, size),
+        Record::Free(task, unit) => lend::free(control, area, task, unit),
+        Record::Step(task) => lend::step(control, area, task),
+        Record::Run(task, most) => run(control, area, task, most),
+        Record::Bad => 15,
+    }
+}
