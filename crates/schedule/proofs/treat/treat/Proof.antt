@@ -1,0 +1,61 @@
+-- Each kind of record is treated by its own function. Assumes nothing.
+use borrow.Author.Needs.{needs}
+use Rattle.schedule.proofs.treat.treat.Statement.{statement}
+use Rattle.schedule.proofs.treat.treat.Tie as tie
+
+returns : tie.Need-returns
+returns c =
+    let called = c .before .before .before .before in
+    rw (called .before .before .before .before .entry .given .1) (called .start .ensures)
+
+returns-2 : tie.Need-returns-2
+returns-2 c =
+    let called = c .before .before .before .before in
+    rw (called .before .before .before .before .entry2 .given .1) (called .allocate .ensures)
+
+returns-3 : tie.Need-returns-3
+returns-3 c =
+    let called = c .before .before .before .before in
+    rw (called .before .before .before .before .entry3 .given .1) (called .free .ensures)
+
+returns-4 : tie.Need-returns-4
+returns-4 c =
+    let called = c .before .before .before .before in
+    rw (called .before .before .before .before .entry4 .given .1) (called .step .ensures)
+
+returns-5 : tie.Need-returns-5
+returns-5 c =
+    let called = c .before .before .before .before in
+    rw (called .before .before .before .before .entry5 .given .1) (called .run .ensures)
+
+pub treat-spec : {M : Type 1} → statement M
+treat-spec =
+    tie.close
+    (tie.spec
+    (λ c. search needs)
+    (λ c κs. search needs)
+    (λ c. search needs)
+    (λ c κs. search needs)
+    (λ c. search needs)
+    (λ c κs. search needs)
+    (λ c. search needs)
+    (λ c κs. search needs)
+    (λ c. search needs)
+    (λ c κs. search needs)
+    (λ c. search needs)
+    (λ c. search needs)
+    (λ c. search needs)
+    returns
+    (λ c. search needs)
+    (λ c. search needs)
+    returns-2
+    (λ c. search needs)
+    (λ c. search needs)
+    returns-3
+    (λ c. search needs)
+    (λ c. search needs)
+    returns-4
+    (λ c. search needs)
+    (λ c. search needs)
+    returns-5
+    (λ c. search needs))
