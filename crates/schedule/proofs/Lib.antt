@@ -3,3 +3,8 @@ pub mod Reading
 pub mod Lending
 pub mod Running
 pub mod Counting
+pub mod Parts
+pub mod Fed
+pub mod Beside
+pub mod BesideStart
+pub mod Table
