@@ -9,7 +9,10 @@
 static const size_t CONTROL_LENGTHS[] = {0, 1, 4096, 8191, 8193, 16384};
 static const size_t AREA_LENGTHS[] = {0, 1, 8, 4095, 4097, 8191, 8193, 65535, 65537, 69632};
 
-enum { CONTROLS = sizeof CONTROL_LENGTHS / sizeof *CONTROL_LENGTHS, AREAS = sizeof AREA_LENGTHS / sizeof *AREA_LENGTHS };
+enum {
+    CONTROLS = sizeof CONTROL_LENGTHS / sizeof *CONTROL_LENGTHS,
+    AREAS = sizeof AREA_LENGTHS / sizeof *AREA_LENGTHS
+};
 
 static void control_lengths(void)
 {
