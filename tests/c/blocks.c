@@ -67,7 +67,37 @@ static void whole_in_hand(void)
     check("blocks in hand stay whole while others allocate and free", whole);
 }
 
-/* A region whose blocks all come back serves another class: freed by another task than allocated. */
+/* Whether every second block, from the first, still holds the byte of its number. */
+static int every_second_whole(const struct lent *lent, const uint64_t *units)
+{
+    for (unsigned i = 0; i < 512; i += 2)
+        for (unsigned k = 0; k < 8; k++)
+            if (((uint8_t *)POOL_BLOCK(lent->area, units[i]))[k] != (uint8_t)(i / 2))
+                return 0;
+    return 1;
+}
+
+/* The smallest blocks lie side by side: what is written in a free one must not reach its neighbours, nor past the area. */
+static void neighbours(void)
+{
+    struct lent lent = started(1, 2);
+    uint64_t units[512];
+    for (unsigned i = 0; i < 512; i++) {
+        units[i] = POOL_VALUE(allocate(&lent, 0, 8));
+        memset(POOL_BLOCK(lent.area, units[i]), (int)(i / 2), 8);
+    }
+    for (unsigned i = 1; i < 512; i += 2)
+        (void)release(&lent, i / 2 % 2, units[i]);
+    check("a freed block leaves its neighbours whole", every_second_whole(&lent, units));
+    for (unsigned i = 1; i < 512; i += 2)
+        (void)allocate(&lent, i / 2 % 2, 8);
+    check("so does its next allocation", every_second_whole(&lent, units));
+    for (unsigned i = 0; i < 512; i += 2)
+        (void)release(&lent, 1, units[i]);
+    check("the last block of the area is freed within the area", guards_whole(&lent));
+}
+
+/* Blocks that another task frees than the one that allocated them. */
 static void freed_by_another(void)
 {
     struct lent lent = started(1, 2);
@@ -95,6 +125,7 @@ void check_blocks(void)
     for (unsigned class = 0; class < 16; class++)
         all_blocks(CLASSES[class].block, CLASSES[class].n);
     whole_in_hand();
+    neighbours();
     freed_by_another();
     unit_and_address();
 }
