@@ -1,8 +1,8 @@
 /*
  * That the contenders do the same: on random schedules each is fed the same calls on memories of its own, and after
  * every call the answers and every byte of both memories are equal. In half of the schedules each call is first made on
- * memories that were damaged, the same way in each, so that the tests for 14 are compared, too; then the damage and what
- * came of it are taken back.
+ * memories that were damaged, the same way in each, so that the tests for 14 are compared, too; then the damage and
+ * what came of it are taken back.
  */
 #include <inttypes.h>
 #include <stdio.h>

@@ -12,12 +12,14 @@ static const struct {
     uint16_t start;
     uint8_t width;
     uint8_t index;
-} COLUMNS[] = {{0, 8, LIST},      {256, 8, DESCRIPTOR}, {768, 8, WORD},        {4864, 8, TASK},       {4928, 8, TASK},
-               {4992, 2, CACHE},  {5248, 2, CACHE},     {5504, 2, TASK},       {5520, 2, TASK},       {5536, 2, TASK},
-               {5552, 2, TASK},   {5568, 2, TASK},      {5584, 2, TASK},       {5632, 1, TASK},       {5640, 1, TASK},
-               {5648, 1, TASK},   {5656, 1, TASK},      {5664, 1, TASK},       {5672, 1, TASK},       {5696, 1, DESCRIPTOR},
-               {5760, 1, REGION}, {5776, 1, DESCRIPTOR}, {5840, 1, DESCRIPTOR}, {5904, 1, REGION},     {5944, 1, ONE},
-               {5945, 1, ONE}};
+} COLUMNS[] = {
+    {0, 8, LIST},        {256, 8, DESCRIPTOR}, {768, 8, WORD},       {4864, 8, TASK},       {4928, 8, TASK},
+    {4992, 2, CACHE},    {5248, 2, CACHE},     {5504, 2, TASK},      {5520, 2, TASK},       {5536, 2, TASK},
+    {5552, 2, TASK},     {5568, 2, TASK},      {5584, 2, TASK},      {5632, 1, TASK},       {5640, 1, TASK},
+    {5648, 1, TASK},     {5656, 1, TASK},      {5664, 1, TASK},      {5672, 1, TASK},       {5696, 1, DESCRIPTOR},
+    {5760, 1, REGION},   {5776, 1, DESCRIPTOR}, {5840, 1, DESCRIPTOR}, {5904, 1, REGION},   {5944, 1, ONE},
+    {5945, 1, ONE},
+};
 
 /* The number in a column that a call of the task is likely to read: what it has in hand. */
 static size_t index_of(enum index kind, struct schedule *schedule, const struct control *c, unsigned task)

@@ -27,11 +27,13 @@ function shown(name, other, what) {
 
 END {
     line = "%-42s %-13s %9s %9s %9s %8s %8s\n"
-    printf "\n" line, "one call, one pair or one start", "measure", "library", "by hand,", "by hand,", "library", "library"
+    printf "\n" line, "one call, one pair or one start", "measure", "library", "by hand,", "by hand,", "library",
+        "library"
     printf line, "", "", "", "gcc", "clang", "by gcc", "by clang"
     for (i = 1; i <= rows; i++)
         printf line, order[i], measure[i], shown(order[i], pool[1], measure[i]), shown(order[i], pool[2], measure[i]),
-            shown(order[i], pool[3], measure[i]), ratio(order[i], pool[2], measure[i]), ratio(order[i], pool[3], measure[i])
+            shown(order[i], pool[3], measure[i]), ratio(order[i], pool[2], measure[i]),
+            ratio(order[i], pool[3], measure[i])
 
     line = "%-42s %9s %9s %9s %9s %8s %8s %8s\n"
     printf "\n" line, "for orientation, ns", "library", "glibc", "jemalloc", "mimalloc", "library", "library", "library"

@@ -39,8 +39,8 @@
  *
  * Not proved: how many steps a request takes while other tasks step between, and how long a call takes. The code of
  * the beginnings and of the step has no loop; that of the start loops over the control memory alone. No call makes a
- * system call, allocates memory or keeps anything outside the two memories. The library needs memset from the
- * firmware's C library, and the code for x86-64 uses SSE2 registers.
+ * system call, allocates memory or keeps anything outside the two memories. The library, target/staticlib/libpool.a of
+ * 'rt staticlib pool', needs memset from the firmware's C library; its code for x86-64 uses SSE2 registers.
  */
 #ifndef POOL_H
 #define POOL_H

@@ -77,7 +77,8 @@ static int every_second_whole(const struct lent *lent, const uint64_t *units)
     return 1;
 }
 
-/* The smallest blocks lie side by side: what is written in a free one must not reach its neighbours, nor past the area. */
+/* The smallest blocks lie side by side: what is written in a free one must not reach its neighbours, nor past the
+   area. */
 static void neighbours(void)
 {
     struct lent lent = started(1, 2);
