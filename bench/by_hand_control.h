@@ -1,7 +1,7 @@
 /*
  * The control memory of the pool written by hand: the layout of docs/LAYOUT.md as a packed struct, so that its bytes
- * can be compared with the library's after every call. Packed, since the memory may lie at any address; may_alias, since it
- * is lent as bytes.
+ * can be compared with the library's after every call. Packed, since the memory may lie at any address; may_alias,
+ * since it is lent as bytes.
  */
 #ifndef BY_HAND_CONTROL_H
 #define BY_HAND_CONTROL_H
