@@ -1,0 +1,135 @@
+/*
+ * That the contenders do the same: on random schedules each is fed the same calls on memories of its own, and after
+ * every call the answers and every byte of both memories are equal. In half of the schedules each call is first made on
+ * memories that were damaged, the same way in each, so that the tests for 14 are compared, too; then the damage and
+ * what came of it are taken back.
+ */
+#include <inttypes.h>
+#include <stdio.h>
+#include <string.h>
+
+#include "contender.h"
+#include "damage.h"
+#include "pool.h"
+#include "schedule.h"
+
+enum { CALLS = 60000, SEEDS = 96, CONTENDERS_MOST = 3, AREA_MOST = 65536 };
+
+static uint8_t controls[CONTENDERS_MOST][POOL_CONTROL_BYTES];
+static uint8_t areas[CONTENDERS_MOST][AREA_MOST];
+static uint64_t code_counts[256];
+static uint64_t damaged_counts[256];
+static uint64_t place_counts[256];
+
+/* Whether all contenders answer the same and leave the same bytes. *answer is the library's. */
+static int agree(struct call call, size_t area_length, uint64_t *answer)
+{
+    *answer = make_call(&CONTENDERS[0], call, controls[0], areas[0], area_length);
+    for (unsigned i = 1; i < CONTENDER_COUNT; i++) {
+        uint64_t other = make_call(&CONTENDERS[i], call, controls[i], areas[i], area_length);
+        if (other != *answer || memcmp(controls[i], controls[0], POOL_CONTROL_BYTES) != 0
+            || memcmp(areas[i], areas[0], area_length) != 0) {
+            printf("%s differs: kind %d task %u number %" PRIu64 ": %" PRIu64 " and %" PRIu64 "\n", CONTENDERS[i].name,
+                   (int)call.kind, call.task, call.number, other, *answer);
+            return 0;
+        }
+    }
+    return 1;
+}
+
+/* Starts all contenders on memories that hold anything. */
+static int begin(struct schedule *schedule, size_t area_length, unsigned tasks)
+{
+    for (size_t i = 0; i < POOL_CONTROL_BYTES; i++)
+        controls[0][i] = (uint8_t)schedule_random(schedule, 256);
+    for (size_t i = 0; i < area_length; i++)
+        areas[0][i] = (uint8_t)schedule_random(schedule, 256);
+    for (unsigned i = 1; i < CONTENDER_COUNT; i++) {
+        memcpy(controls[i], controls[0], POOL_CONTROL_BYTES);
+        memcpy(areas[i], areas[0], area_length);
+    }
+    for (unsigned i = 0; i < CONTENDER_COUNT; i++)
+        if (CONTENDERS[i].start(controls[i], POOL_CONTROL_BYTES, areas[i], area_length, tasks) != 0
+            || memcmp(controls[i], controls[0], POOL_CONTROL_BYTES) != 0) {
+            printf("%s differs at the start\n", CONTENDERS[i].name);
+            return 0;
+        }
+    return 1;
+}
+
+/* The same call on damaged memories; afterwards all are again what the library's were. */
+static int agree_damaged(struct schedule *schedule, struct call call, size_t area_length)
+{
+    static uint8_t control[POOL_CONTROL_BYTES];
+    static uint8_t area[AREA_MOST];
+    struct damage damage = damage_of(schedule, controls[0], area_length, call.task % schedule->tasks);
+    uint64_t answer;
+    memcpy(control, controls[0], sizeof control);
+    memcpy(area, areas[0], area_length);
+    for (unsigned i = 0; i < CONTENDER_COUNT; i++)
+        damage_do(damage, controls[i], areas[i]);
+    if (!agree(call, area_length, &answer))
+        return 0;
+    damaged_counts[POOL_CODE(answer)] += 1;
+    for (unsigned i = 0; i < CONTENDER_COUNT; i++) {
+        memcpy(controls[i], control, sizeof control);
+        memcpy(areas[i], area, area_length);
+    }
+    return 1;
+}
+
+/* One call of all contenders, counted by its answer and, for a step, by its place. */
+static int one_call(struct schedule *schedule, size_t area_length, int damaged)
+{
+    struct call call = schedule_next(schedule);
+    uint64_t answer;
+    if (damaged && !agree_damaged(schedule, call, area_length))
+        return 0;
+    if (call.kind == STEP && call.task < schedule->tasks)
+        place_counts[controls[0][5632 + call.task]] += 1;
+    if (!agree(call, area_length, &answer))
+        return 0;
+    code_counts[POOL_CODE(answer)] += 1;
+    schedule_answered(schedule, call, answer);
+    return 1;
+}
+
+static int run(uint64_t seed)
+{
+    unsigned tasks = 1 + (unsigned)(seed % 8);
+    int damaged = seed % 4 >= 2;
+    size_t area_length = POOL_REGION_BYTES * (size_t)(seed % 12 == 0 ? 16 : 1 + seed % 5);
+    struct schedule schedule = schedule_of(seed, tasks, 1);
+    if (!begin(&schedule, area_length, tasks))
+        return 0;
+    for (unsigned i = 0; i < CALLS; i++)
+        if (!one_call(&schedule, area_length, damaged)) {
+            printf("seed %" PRIu64 ", call %u\n", seed, i);
+            return 0;
+        }
+    return 1;
+}
+
+static void print_counts(const char *name, const uint64_t counts[256])
+{
+    printf("%s, by code:", name);
+    for (unsigned code = 0; code < 256; code++)
+        if (counts[code] != 0)
+            printf(" %u: %" PRIu64, code, counts[code]);
+    printf("\n");
+}
+
+int main(void)
+{
+    unsigned passed = 0;
+    unsigned places = 0;
+    for (uint64_t seed = 1; seed <= SEEDS; seed++)
+        passed += (unsigned)run(seed);
+    for (unsigned place = 1; place <= 33; place++)
+        places += place_counts[place] != 0;
+    printf("%u contenders; steps were made at %u of 33 places\n", CONTENDER_COUNT, places);
+    print_counts("answers", code_counts);
+    print_counts("answers on damaged memories", damaged_counts);
+    printf("%u passed, %u failed\n", passed, SEEDS - passed);
+    return passed == SEEDS ? 0 : 1;
+}

@@ -1,0 +1,89 @@
+#include "workload.h"
+
+#include <stdio.h>
+#include <stdlib.h>
+
+#include "pool.h"
+
+static uint8_t control[POOL_CONTROL_BYTES];
+static uint8_t area[POOL_REGIONS_MOST * POOL_REGION_BYTES];
+static uint64_t units[1024];
+
+static size_t area_length(const struct workload *workload)
+{
+    return workload->regions * (size_t)POOL_REGION_BYTES;
+}
+
+/* Steps task 0 to the end of its request. A workload never meets a refusal; if it does, its figures mean nothing. */
+static uint64_t finish(const struct contender *contender, const struct workload *workload, uint64_t answer)
+{
+    while (POOL_CODE(answer) == POOL_UNDER_WAY)
+        answer = contender->step(control, sizeof control, area, area_length(workload), 0);
+    if (POOL_CODE(answer) != POOL_FINISHED) {
+        fprintf(stderr, "%s, %s: code %u\n", contender->name, workload->name, POOL_CODE(answer));
+        exit(1);
+    }
+    return POOL_VALUE(answer);
+}
+
+static uint64_t allocate(const struct contender *contender, const struct workload *workload)
+{
+    return finish(contender, workload,
+                  contender->begin_allocate(control, sizeof control, area, area_length(workload), 0, workload->size));
+}
+
+static void release(const struct contender *contender, const struct workload *workload, uint64_t unit)
+{
+    (void)finish(contender, workload,
+                 contender->begin_free(control, sizeof control, area, area_length(workload), 0, unit));
+}
+
+/* The hot pair: the cache has the block, and room for it. Four calls. */
+static void hot_turn(const struct contender *contender, const struct workload *workload)
+{
+    release(contender, workload, allocate(contender, workload));
+}
+
+/* All blocks of two regions are allocated, then freed in the same order. So in each turn a full cache is emptied as one
+   group, its region empties and is given back, and later a region is opened and carved. */
+static void carve_turn(const struct contender *contender, const struct workload *workload)
+{
+    for (unsigned i = 0; i < workload->pairs; i++)
+        units[i] = allocate(contender, workload);
+    for (unsigned i = 0; i < workload->pairs; i++)
+        release(contender, workload, units[i]);
+}
+
+/* The same, freed alternately from the first half and the second: the groups of a full cache are single blocks, and
+   later both chains are taken and moved block by block. */
+static void chain_turn(const struct contender *contender, const struct workload *workload)
+{
+    unsigned half = workload->pairs / 2;
+    for (unsigned i = 0; i < workload->pairs; i++)
+        units[i] = allocate(contender, workload);
+    for (unsigned i = 0; i < half; i++) {
+        release(contender, workload, units[i]);
+        release(contender, workload, units[half + i]);
+    }
+}
+
+static void start_turn(const struct contender *contender, const struct workload *workload)
+{
+    (void)contender->start(control, sizeof control, area, area_length(workload), POOL_TASKS_MOST);
+}
+
+const struct workload WORKLOADS[] = {
+    {"hot pair of 64 bytes", 64, 1, 1, hot_turn},
+    {"hot pair of 24 bytes", 24, 1, 1, hot_turn},
+    {"cold pair, carving", 64, 2, 128, carve_turn},
+    {"cold pair, chains", 64, 2, 128, chain_turn},
+    {"start", 0, 16, 0, start_turn},
+};
+
+const unsigned WORKLOAD_COUNT = sizeof WORKLOADS / sizeof *WORKLOADS;
+
+void workload_ready(const struct contender *contender, const struct workload *workload)
+{
+    start_turn(contender, workload);
+    workload->turn(contender, workload);
+}

@@ -1,0 +1,25 @@
+/* Named checks, counted. */
+#ifndef CHECK_H
+#define CHECK_H
+
+#include <stdint.h>
+
+/* Counts one check and prints its name. */
+void check(const char *name, int holds);
+
+/* The same for an answer; where it is another one, both are printed. */
+void check_answer(const char *name, uint64_t answer, unsigned code, uint64_t value);
+
+/* Prints 'N passed, M failed'; 0 only where nothing failed. */
+int check_end(void);
+
+/* Each file of checks, in order. */
+void check_examples(void);
+void check_blocks(void);
+void check_ends(void);
+void check_refusals(void);
+void check_lengths(void);
+void check_damaged(void);
+void check_memories(void);
+
+#endif

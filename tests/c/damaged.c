@@ -1,0 +1,126 @@
+/* 14: values that somebody wrote where they had no business. The places are those of docs/LAYOUT.md. */
+#include <string.h>
+
+#include "check.h"
+#include "lent.h"
+#include "pool.h"
+#include "refused.h"
+
+/* First bytes of the columns that are damaged here. */
+enum {
+    HEAD = 0,
+    ANCHOR = 256,
+    TOP = 4992,
+    COUNT = 5248,
+    TASK_PLACE = 5632,
+    TASK_CLASS = 5640,
+    DESCRIPTOR_REGION = 5776,
+    DESCRIPTOR_CLASS = 5840,
+    MAP = 5904,
+    TASKS = 5944,
+    REGIONS = 5945
+};
+
+/* A byte of the control memory and the value that damages it, and the call that reads it. */
+struct damage {
+    const char *name;
+    unsigned byte;
+    uint8_t value;
+    enum kind kind;
+    uint64_t number;
+};
+
+/* On a pool of one region of 256-byte blocks, unit 480 in hand and the task idle. */
+static const struct damage WHILE_IDLE[] = {
+    {"9 tasks", TASKS, 9, ALLOCATE, 8},
+    {"0 regions", REGIONS, 0, ALLOCATE, 8},
+    {"17 regions", REGIONS, 17, STEP, 0},
+    {"place 34", TASK_PLACE, 34, ALLOCATE, 8},
+    {"place 34", TASK_PLACE, 34, FREE, 480},
+    {"place 255", TASK_PLACE, 255, STEP, 0},
+    {"a map entry of 65", MAP, 65, FREE, 480},
+    {"a descriptor's region past the area", DESCRIPTOR_REGION, 1, FREE, 480},
+    {"an anchor's state 3", ANCHOR, 3, FREE, 480},
+    {"an anchor's count past any class", ANCHOR + 7, 1, FREE, 480},
+    {"a descriptor's class 16", DESCRIPTOR_CLASS, 16, FREE, 480},
+};
+
+/* The same, with an allocation of 256 bytes begun. */
+static const struct damage WHILE_ALLOCATING[] = {
+    {"class 16", TASK_CLASS, 16, STEP, 0},
+    {"a cache count above n", COUNT + 2 * 15, 17, STEP, 0},
+    {"a cache top inside a block", TOP + 2 * 15, 193, STEP, 0},
+    {"a cache top past the area", TOP + 2 * 15 + 1, 2, STEP, 0},
+};
+
+enum { IDLE = sizeof WHILE_IDLE / sizeof *WHILE_IDLE, ALLOCATING = sizeof WHILE_ALLOCATING / sizeof *WHILE_ALLOCATING };
+
+static struct lent one_block_in_hand(void)
+{
+    struct lent lent = started(1, 1);
+    (void)allocate(&lent, 0, 256);
+    return lent;
+}
+
+static void fields(void)
+{
+    for (unsigned i = 0; i < IDLE; i++) {
+        const struct damage *damage = &WHILE_IDLE[i];
+        struct lent lent = one_block_in_hand();
+        lent.control[damage->byte] = damage->value;
+        check_refused(damage->name, &lent, damage->kind, 0, damage->number, POOL_DAMAGED);
+    }
+    for (unsigned i = 0; i < ALLOCATING; i++) {
+        const struct damage *damage = &WHILE_ALLOCATING[i];
+        struct lent lent = one_block_in_hand();
+        (void)begin_allocate(&lent, 0, 256);
+        lent.control[damage->byte] = damage->value;
+        check_refused(damage->name, &lent, damage->kind, 0, damage->number, POOL_DAMAGED);
+    }
+}
+
+/* A write into a free block changes its link; the step that would take the block finds it. */
+static void links(void)
+{
+    struct lent lent = one_block_in_hand();
+    memset(POOL_BLOCK(lent.area, 448), 0xFF, 256);
+    (void)begin_allocate(&lent, 0, 256);
+    check_refused("a link that names no block", &lent, STEP, 0, 0, POOL_DAMAGED);
+    check_refused("the same step again", &lent, STEP, 0, 0, POOL_DAMAGED);
+    check_answer("a start mends the pool", start(&lent, 1), POOL_UNDER_WAY, 0);
+    check_answer("and the first block comes again", allocate(&lent, 0, 256), POOL_FINISHED, 480);
+}
+
+/* The head of the class's partial list names descriptor 64; the third step of an allocation reads it. */
+static void lists(void)
+{
+    struct lent lent = started(1, 1);
+    lent.control[HEAD] = 65;
+    (void)begin_allocate(&lent, 0, 8);
+    check_answer("the cache is empty", step(&lent, 0), POOL_UNDER_WAY, 0);
+    check_refused("a head that names no descriptor", &lent, STEP, 0, 0, POOL_DAMAGED);
+}
+
+/* Control memory that holds anything: every call answers, and only an accepted one may change it. */
+static void any_bytes(void)
+{
+    int answered = 1;
+    for (unsigned value = 1; value < 256; value++) {
+        struct lent lent = lend(1, 0);
+        memset(lent.control, (int)value, lent.control_length);
+        keep();
+        for (unsigned task = 0; task < 2; task++)
+            answered = answered && POOL_CODE(begin_allocate(&lent, task, 8)) <= POOL_DAMAGED
+                && POOL_CODE(begin_free(&lent, task, 0)) <= POOL_DAMAGED && guards_whole(&lent)
+                && POOL_CODE(step(&lent, task)) <= POOL_DAMAGED && guards_whole(&lent);
+    }
+    check("control memory of any one byte is answered, within the memories", answered);
+}
+
+void check_damaged(void)
+{
+    fields();
+    links();
+    lists();
+    any_bytes();
+}

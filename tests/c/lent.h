@@ -1,0 +1,44 @@
+/*
+ * The two memories as a test lends them. Both lie in one larger memory, with guard bytes before, between and behind
+ * them, so that a write outside them shows. The guards are long enough that a test may lend more than 8,192 or 65,536
+ * bytes and still speak the truth about the length.
+ */
+#ifndef LENT_H
+#define LENT_H
+
+#include <stddef.h>
+#include <stdint.h>
+
+struct lent {
+    uint8_t *control;
+    size_t control_length;
+    uint8_t *area;
+    size_t area_length;
+};
+
+/* Fresh memories: a control memory of zeros that lies `shift` bytes past an aligned address, and an area of so many
+   regions, filled with a pattern, that lies `shift` bytes past another. */
+struct lent lend(unsigned regions, unsigned shift);
+
+/* The same, with an accepted start. */
+struct lent started(unsigned regions, unsigned tasks);
+
+/* Keeps a copy of everything; whether everything is still as it was kept; whether the guards are. */
+void keep(void);
+int as_kept(void);
+int guards_whole(const struct lent *lent);
+
+/* The calls on these memories. */
+uint64_t start(const struct lent *lent, uint64_t tasks);
+uint64_t begin_allocate(const struct lent *lent, uint64_t task, uint64_t size);
+uint64_t begin_free(const struct lent *lent, uint64_t task, uint64_t unit);
+uint64_t step(const struct lent *lent, uint64_t task);
+
+/* Steps a task until the code is not POOL_UNDER_WAY. *steps counts the steps; it may be null. */
+uint64_t finish(const struct lent *lent, uint64_t task, unsigned *steps);
+
+/* A whole request: begin, then steps. A refused beginning is answered as it is. */
+uint64_t allocate(const struct lent *lent, uint64_t task, uint64_t size);
+uint64_t release(const struct lent *lent, uint64_t task, uint64_t unit);
+
+#endif

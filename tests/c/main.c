@@ -1,0 +1,14 @@
+/* The library as firmware calls it: through the header, from C, on memories that the caller lends. */
+#include "check.h"
+
+int main(void)
+{
+    check_examples();
+    check_blocks();
+    check_ends();
+    check_refusals();
+    check_lengths();
+    check_damaged();
+    check_memories();
+    return check_end();
+}
