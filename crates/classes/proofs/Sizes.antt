@@ -1,6 +1,6 @@
 -- The laws of the class that serves a size.
 -- Assumes nothing.
-use mathlib.Core.Path.{_≡_, subst}
+use mathlib.Core.Path.{_≡_, sym, ap, subst, _∙_}
 use mathlib.Core.Bool.{Bool}
 use mathlib.Core.List.{List, [], _∷_}
 use Prim.Native.Nat.{ℕ, zero, suc, _+_, _*_, _-_, _/_, _≤_, _<_}
@@ -54,6 +54,10 @@ is-class s h = elim (decLt (classOf s) 16) [
 pub holds : (s : ℕ) → s ≤ 256 → s ≤ block (classOf s)
 unfolding classOf
 holds s h = rw (rows (classOf s) .0) (found s blocks 8 (is-class s h))
+
+-- the class x of k units is that of every number of units that is k
+pub class-at : (u k : ℕ) {x : ℕ} → x ≡ classOf (8 * k) → u ≡ k → x ≡ classOf (8 * u)
+class-at u k h e = h ∙ ap (λ (n : ℕ). classOf (8 * n)) (sym e)
 
 -- a size and the bytes of its units, rounded up, have one class
 pub rounded : (s : ℕ) → s ≤ 256 → classOf (8 * ((s + 7) / 8)) ≡ classOf s

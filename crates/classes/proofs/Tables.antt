@@ -1,6 +1,7 @@
 -- The laws of the table of classes.
 -- Assumes nothing.
-use mathlib.Core.Path.{_≡_, refl}
+use mathlib.Core.Path.{_≡_, refl, sym, ap, _∙_}
+use mathlib.Core.Logic.{_≢_}
 use mathlib.Core.Bool.{Bool}
 use mathlib.Core.List.{List, [], _∷_}
 use Prim.Native.Nat.{ℕ, zero, suc, _*_, _/_, _≤_, _<_}
@@ -29,6 +30,27 @@ every-class f t c = elim (decLt c 16) [
 pub rows : (c : ℕ) → (block c ≡ getD blocks c 8) × (perRegion c ≡ getD counts c 512)
 unfolding units perRegion entry
 rows c = (eqb→eq (block c) (getD blocks c 8) (every-class (λ b n. eqb (8 * (b / 8)) b) tt c), refl)
+
+-- a number that is none of the first n, as a match leaves it to its last arm
+abbrev pub Others : ℕ → ℕ → Type 0
+Others zero c = Unit {0}
+Others (suc n) c = Others n c × (c ≡ n → ⊥)
+
+-- .. is n or more
+from : (n c : ℕ) → Others n c → n ≤ c
+from zero c h = omega arith
+from (suc n) c h = let l : n ≤ c = from n c (h .0) in let k : c ≢ n = h .1 in omega arith
+
+-- .. and is n, if it is not more
+pub last : (n c : ℕ) → c < suc n → Others n c → c ≡ n
+last n c l h = omega (arith, from n c h)
+
+-- the entry x of the class k is that of every class that is k
+pub units-at : (c k : ℕ) {x : ℕ} → x ≡ units k → c ≡ k → x ≡ units c
+units-at c k h e = h ∙ ap units (sym e)
+
+pub perRegion-at : (c k : ℕ) {x : ℕ} → x ≡ perRegion k → c ≡ k → x ≡ perRegion c
+perRegion-at c k h e = h ∙ ap perRegion (sym e)
 
 -- n is the number of blocks that fit in the 4,096 bytes of a region
 pub perRegion-is : (c : ℕ) → perRegion c ≡ 4096 / block c
@@ -60,22 +82,6 @@ perRegion-high c = leb→le (perRegion c) 512 (every-class (λ b n. leb n 512) t
 pub fits : (c : ℕ) → units c * perRegion c ≤ 512
 unfolding units perRegion entry
 fits c = leb→le (units c * perRegion c) 512 (every-class (λ b n. leb (b / 8 * n) 512) tt c)
-
--- an entry of a row is the same whatever is read past the row's end
-within : (l : List ℕ) (k d e : ℕ) → k < length l → getD l k d ≡ getD l k e
-within [] k d e h = absurd (omega arith)
-within (a ∷ l) zero d e h = refl
-within (a ∷ l) (suc k) d e h = within l k d e (omega arith)
-
--- so a table that is the row of blocks gives a class's units
-pub units-entry : (c : ℕ) → c < 16 → getD blocks c 0 / 8 ≡ units c
-unfolding units
-units-entry c h = rw (within blocks c 0 8 h)
-
--- .. and one that is the row of counts its n
-pub perRegion-entry : (c : ℕ) → c < 16 → getD counts c 0 ≡ perRegion c
-unfolding perRegion
-perRegion-entry c h = within counts c 0 512 h
 
 -- the block of the class after c is larger
 next : ℕ → Bool

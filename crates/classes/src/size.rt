@@ -1,6 +1,7 @@
 // From a size in bytes to the class that serves it.
 ghost use mathlib.Core.Path.{_≡_};
-ghost use Rattle.classes.specs.Sizes.{choice};
+ghost use Prim.Native.Nat.{_*_, _<_};
+ghost use Rattle.classes.specs.Sizes.{choice, classOf};
 
 // The class that serves a size, or the number that refuses it.
 pub enum Choice {
@@ -8,42 +9,47 @@ pub enum Choice {
     Refused(u8),
 }
 
-// The class of each number of units, 0 to 32. No size that is served is of 0 units.
-const CLASS: [u8; 33] = [
-    0,
-    0,
-    1,
-    2,
-    3,
-    4,
-    5,
-    6,
-    7,
-    8,
-    8,
-    9,
-    9,
-    10,
-    10,
-    11,
-    11,
-    12,
-    12,
-    12,
-    12,
-    13,
-    13,
-    13,
-    13,
-    14,
-    14,
-    14,
-    14,
-    15,
-    15,
-    15,
-    15,
-];
+// The class of so many units, a block of which holds them. No size that is served is of 0 units. Caller: `size_class`.
+fn class_of(units: usize) -> u8
+    requires { ⌜ units < 33 ⌝ }
+    ensures { λ r. ⌜ r ≡ classOf (8 * units) ⌝ }
+{
+    match units {
+        0 => 0,
+        1 => 0,
+        2 => 1,
+        3 => 2,
+        4 => 3,
+        5 => 4,
+        6 => 5,
+        7 => 6,
+        8 => 7,
+        9 => 8,
+        10 => 8,
+        11 => 9,
+        12 => 9,
+        13 => 10,
+        14 => 10,
+        15 => 11,
+        16 => 11,
+        17 => 12,
+        18 => 12,
+        19 => 12,
+        20 => 12,
+        21 => 13,
+        22 => 13,
+        23 => 13,
+        24 => 13,
+        25 => 14,
+        26 => 14,
+        27 => 14,
+        28 => 14,
+        29 => 15,
+        30 => 15,
+        31 => 15,
+        _ => 15,
+    }
+}
 
 // The class of the smallest block that holds the size; 8 refuses size 0, and 9 a size above 256.
 // One look into a table, since each allocation begins with it.
@@ -57,5 +63,5 @@ pub fn size_class(size: u64) -> Choice
         return Choice::Refused(9);
     }
     let units = ((size + 7) / 8) as usize;
-    Choice::Class(CLASS[units])
+    Choice::Class(class_of(units))
 }

@@ -1,47 +1,8 @@
-// The table of classes, as numbers of 16 bits: an array that is a constant is copied where it is read.
+// The table of classes. Each row is a match, which becomes one read from a table; a constant array would be copied to the
+// stack at each read.
 ghost use mathlib.Core.Path.{_≡_};
 ghost use Prim.Native.Nat.{_<_};
 ghost use Rattle.classes.specs.Classes.{units, perRegion};
-
-// The bytes of a block of each class.
-const BLOCK: [u16; 16] = [
-    8,
-    16,
-    24,
-    32,
-    40,
-    48,
-    56,
-    64,
-    80,
-    96,
-    112,
-    128,
-    160,
-    192,
-    224,
-    256,
-];
-
-// The blocks of each class in a region.
-const PER_REGION: [u16; 16] = [
-    512,
-    256,
-    170,
-    128,
-    102,
-    85,
-    73,
-    64,
-    51,
-    42,
-    36,
-    32,
-    25,
-    21,
-    18,
-    16,
-];
 
 // The units of a block of the class. Callers have the class from a size, or from a descriptor, where they have
 // tested it: the beginning of a free, carving, and the links of a chain.
@@ -49,7 +10,24 @@ pub fn units(class: usize) -> usize
     requires { ⌜ class < 16 ⌝ }
     ensures { λ r. ⌜ r ≡ units class ⌝ }
 {
-    (BLOCK[class] / 8) as usize
+    match class {
+        0 => 1,
+        1 => 2,
+        2 => 3,
+        3 => 4,
+        4 => 5,
+        5 => 6,
+        6 => 7,
+        7 => 8,
+        8 => 10,
+        9 => 12,
+        10 => 14,
+        11 => 16,
+        12 => 20,
+        13 => 24,
+        14 => 28,
+        _ => 32,
+    }
 }
 
 // How many blocks of the class a region has, n. Callers have the class as those of `units` do: the beginning
@@ -58,5 +36,22 @@ pub fn per_region(class: usize) -> usize
     requires { ⌜ class < 16 ⌝ }
     ensures { λ r. ⌜ r ≡ perRegion class ⌝ }
 {
-    PER_REGION[class] as usize
+    match class {
+        0 => 512,
+        1 => 256,
+        2 => 170,
+        3 => 128,
+        4 => 102,
+        5 => 85,
+        6 => 73,
+        7 => 64,
+        8 => 51,
+        9 => 42,
+        10 => 36,
+        11 => 32,
+        12 => 25,
+        13 => 21,
+        14 => 18,
+        _ => 16,
+    }
 }

@@ -1,18 +1,31 @@
--- `classes::table::per_region` meets its contract: its table is the row of counts.
+-- `classes::table::per_region` meets its contract: each arm has the number of the definition.
 -- Assumes nothing.
+use mathlib.Core.Path.{refl}
 use borrow.Author.Needs.{needs}
 use native.Mathlib.Omega.{arith}
-use Rattle.classes.proofs.Tables.{perRegion-entry, perRegion-high}
+use Rattle.classes.specs.Classes.{perRegion}
+use Rattle.classes.proofs.Tables.{perRegion-at, last}
 use Rattle.classes.proofs.table.per_region.Statement.{statement}
 use Rattle.classes.proofs.table.per_region.Tie as tie
 
-returns : tie.Need-returns
-returns c = perRegion-entry (c .args .class) (search needs)
-
-cast-result : tie.Need-cast-result
-cast-result c =
-    let class = c .args .class in
-    rw (perRegion-entry class (search needs)) (omega (arith, perRegion-high class))
-
 pub per-region-spec : {M : Type 1} → statement M
-per-region-spec = tie.close (tie.spec (λ c. search needs) (λ c. search needs) cast-result returns)
+unfolding perRegion
+per-region-spec =
+    tie.close
+    (tie.spec
+    (λ c. perRegion-at (c .before .args .class) 0 refl (omega arith))
+    (λ c. perRegion-at (c .before .args .class) 1 refl (omega arith))
+    (λ c. perRegion-at (c .before .args .class) 2 refl (omega arith))
+    (λ c. perRegion-at (c .before .args .class) 3 refl (omega arith))
+    (λ c. perRegion-at (c .before .args .class) 4 refl (omega arith))
+    (λ c. perRegion-at (c .before .args .class) 5 refl (omega arith))
+    (λ c. perRegion-at (c .before .args .class) 6 refl (omega arith))
+    (λ c. perRegion-at (c .before .args .class) 7 refl (omega arith))
+    (λ c. perRegion-at (c .before .args .class) 8 refl (omega arith))
+    (λ c. perRegion-at (c .before .args .class) 9 refl (omega arith))
+    (λ c. perRegion-at (c .before .args .class) 10 refl (omega arith))
+    (λ c. perRegion-at (c .before .args .class) 11 refl (omega arith))
+    (λ c. perRegion-at (c .before .args .class) 12 refl (omega arith))
+    (λ c. perRegion-at (c .before .args .class) 13 refl (omega arith))
+    (λ c. perRegion-at (c .before .args .class) 14 refl (omega arith))
+    (λ c. perRegion-at (c .before .args .class) 15 refl (last 15 (c .before .args .class) (search needs) (c .match .rest))))

@@ -1,18 +1,31 @@
--- `classes::table::units` meets its contract: its table is the row of blocks.
+-- `classes::table::units` meets its contract: each arm has the number of the definition.
 -- Assumes nothing.
+use mathlib.Core.Path.{refl}
 use borrow.Author.Needs.{needs}
 use native.Mathlib.Omega.{arith}
-use Rattle.classes.proofs.Tables.{units-entry, units-high}
+use Rattle.classes.specs.Classes.{units}
+use Rattle.classes.proofs.Tables.{units-at, last}
 use Rattle.classes.proofs.table.units.Statement.{statement}
 use Rattle.classes.proofs.table.units.Tie as tie
 
-returns : tie.Need-returns
-returns c = units-entry (c .args .class) (search needs)
-
-cast-result : tie.Need-cast-result
-cast-result c =
-    let class = c .args .class in
-    rw (units-entry class (search needs)) (omega (arith, units-high class))
-
 pub units-spec : {M : Type 1} → statement M
-units-spec = tie.close (tie.spec (λ c. search needs) (λ c. search needs) cast-result returns)
+unfolding units
+units-spec =
+    tie.close
+    (tie.spec
+    (λ c. units-at (c .before .args .class) 0 refl (omega arith))
+    (λ c. units-at (c .before .args .class) 1 refl (omega arith))
+    (λ c. units-at (c .before .args .class) 2 refl (omega arith))
+    (λ c. units-at (c .before .args .class) 3 refl (omega arith))
+    (λ c. units-at (c .before .args .class) 4 refl (omega arith))
+    (λ c. units-at (c .before .args .class) 5 refl (omega arith))
+    (λ c. units-at (c .before .args .class) 6 refl (omega arith))
+    (λ c. units-at (c .before .args .class) 7 refl (omega arith))
+    (λ c. units-at (c .before .args .class) 8 refl (omega arith))
+    (λ c. units-at (c .before .args .class) 9 refl (omega arith))
+    (λ c. units-at (c .before .args .class) 10 refl (omega arith))
+    (λ c. units-at (c .before .args .class) 11 refl (omega arith))
+    (λ c. units-at (c .before .args .class) 12 refl (omega arith))
+    (λ c. units-at (c .before .args .class) 13 refl (omega arith))
+    (λ c. units-at (c .before .args .class) 14 refl (omega arith))
+    (λ c. units-at (c .before .args .class) 15 refl (last 15 (c .before .args .class) (search needs) (c .match .rest))))
