@@ -34,8 +34,10 @@ pub struct Counts {
 impl Counts {
     pub fn print(&self) {
         for (kind, name) in ["start", "begin allocate", "begin free", "step"].iter().enumerate() {
-            let codes: Vec<String> =
-                (0..21).filter(|&code| self.codes[kind][code] > 0).map(|code| format!("{code} x {}", self.codes[kind][code])).collect();
+            let codes: Vec<String> = (0..21)
+                .filter(|&code| self.codes[kind][code] > 0)
+                .map(|code| format!("{code} x {}", self.codes[kind][code]))
+                .collect();
             println!("arbitrary memories, codes of {name}: {}", codes.join(", "));
         }
         println!("arbitrary memories, 14 at places 0 to 33: {:?}", self.fourteen_at.0);
@@ -109,7 +111,8 @@ impl<'a> Trial<'a> {
             let request = self.request(random);
             self.call(request)?;
         }
-        let kept = [&self.ending, &self.starting].iter().all(|pair| pair.0.slack_untouched() && pair.1.slack_untouched());
+        let kept =
+            [&self.ending, &self.starting].iter().all(|pair| pair.0.slack_untouched() && pair.1.slack_untouched());
         self.checks.hold(OUTSIDE, kept, || "a byte beside a memory changed".to_string())
     }
 

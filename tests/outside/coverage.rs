@@ -96,8 +96,9 @@ impl Coverage {
         for (place, what) in EXCHANGES {
             reached(checks, &format!("won exchange: {what}"), self.won.0[place]);
             reached(checks, &format!("lost exchange: {what}"), self.lost.0[place]);
-            if place < 23 {
-                let name = format!("lost exchange with the item read on top again: {what}");
+            // An allocation has the descriptor in hand alone, so that its chain can only get other first blocks.
+            if place != 24 {
+                let name = format!("lost exchange with the same one first again: {what}");
                 reached(checks, &name, self.lost_same_top.0[place]);
             }
         }
@@ -127,13 +128,17 @@ impl Coverage {
         println!("steps by place 1 to 33: {:?}", &self.places.0[1..]);
         for (place, what) in EXCHANGES {
             let (won, lost, same) = (self.won.0[place], self.lost.0[place], self.lost_same_top.0[place]);
-            println!("exchange at place {place} ({what}): {won} won, {lost} lost, {same} of them by the number alone");
+            println!("exchange at place {place} ({what}): {won} won, {lost} lost, {same} of them with the same one first again");
         }
         println!("returns: {:?}; after the anchor changed and came back: {}", self.returns, self.came_back);
         println!("anchors found EMPTY by allocate: {}; users' writes: {}", self.anchor_empty, self.writes);
         for (kind, name) in KINDS.iter().enumerate() {
-            let codes: Vec<String> =
-                self.codes.iter().filter(|entry| entry.0.0 == kind).map(|(key, times)| format!("{} x {times}", key.1)).collect();
+            let codes: Vec<String> = self
+                .codes
+                .iter()
+                .filter(|entry| entry.0 .0 == kind)
+                .map(|(key, times)| format!("{} x {times}", key.1))
+                .collect();
             println!("codes of {name}: {}", codes.join(", "));
         }
     }

@@ -73,8 +73,7 @@ pub fn any(random: &mut Random) -> Bytes {
 
 /// A number near the limits of some field.
 fn edge(random: &mut Random) -> u64 {
-    const EDGES: [u64; 20] =
-        [0, 1, 2, 3, 7, 8, 15, 16, 17, 18, 33, 34, 63, 64, 65, 512, 513, 8191, 8192, u64::MAX];
+    const EDGES: [u64; 20] = [0, 1, 2, 3, 7, 8, 15, 16, 17, 18, 33, 34, 63, 64, 65, 512, 513, 8191, 8192, u64::MAX];
     match random.below(4) {
         0 => random.pick(&EDGES),
         1 => random.below(80),

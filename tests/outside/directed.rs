@@ -2,10 +2,9 @@
 
 use crate::checks::Parted;
 use crate::driver::Driver;
-use crate::pool::{Answer, Call, Place, Request};
+use crate::lists::{LISTS, MOVES, SPARE_DESCRIPTORS, SPARE_REGIONS};
+use crate::pool::{Answer, Call, Request};
 use crate::schedules::Schedule;
-use crate::classes::{class_of, per_region};
-use crate::lists::{LISTS, MOVES, Move, Phase, SPARE_DESCRIPTORS, SPARE_REGIONS};
 use crate::styles;
 
 /// Steps a task until its request finishes or ends; answers how many steps that took and the last answer.
@@ -26,12 +25,12 @@ pub fn start(driver: &mut Driver, tasks: u64, regions: u64) -> Result<(), Parted
 }
 
 /// Allocates and answers the code, the unit and the number of steps.
-fn allocate(driver: &mut Driver, task: u64, size: u64) -> Result<(u64, Answer), Parted> {
+pub fn allocate(driver: &mut Driver, task: u64, size: u64) -> Result<(u64, Answer), Parted> {
     driver.ask(Request::Allocate { task, size })?;
     steps_to_the_end(driver, task)
 }
 
-fn free(driver: &mut Driver, task: u64, unit: u64) -> Result<(u64, Answer), Parted> {
+pub fn free(driver: &mut Driver, task: u64, unit: u64) -> Result<(u64, Answer), Parted> {
     driver.ask(Request::Free { task, unit })?;
     steps_to_the_end(driver, task)
 }
@@ -56,13 +55,13 @@ pub fn bench_refusals(driver: &mut Driver) -> Result<(), Parted> {
         allocate(driver, 0, 24)?;
     }
     let answer = driver.ask(Request::Free { task: 0, unit: 510 })?;
-    driver.checks.hold("bench: unit 510 in a region of 24-byte blocks is 10", answer == (10, 0), || {
-        format!("{answer:?}")
-    })?;
+    driver
+        .checks
+        .hold("bench: unit 510 in a region of 24-byte blocks is 10", answer == (10, 0), || format!("{answer:?}"))?;
     let end = allocate(driver, 0, 256)?.1;
-    driver.checks.hold("bench: one region, all held, another class wanted is 13", end == (13, 0), || {
-        format!("{end:?}")
-    })?;
+    driver
+        .checks
+        .hold("bench: one region, all held, another class wanted is 13", end == (13, 0), || format!("{end:?}"))?;
     driver.compare_structure()
 }
 
@@ -123,7 +122,7 @@ pub fn transfers_in_turn(driver: &mut Driver) -> Result<(), Parted> {
     for _ in 0..4 {
         let mut units = Vec::new();
         for _ in 0..32 {
-            units.push(allocate(driver, 0, 256)?.1.1);
+            units.push(allocate(driver, 0, 256)?.1 .1);
         }
         for (number, unit) in units.iter().enumerate() {
             free(driver, number as u64 % 2, *unit)?;
@@ -159,7 +158,9 @@ pub fn tags_that_wrap(driver: &mut Driver) -> Result<(), Parted> {
             wrapped[list] |= row.won > 8;
         }
     }
-    for (list, what) in [(15, "a partial list"), (SPARE_DESCRIPTORS, "spare descriptors"), (SPARE_REGIONS, "spare regions")] {
+    for (list, what) in
+        [(15, "a partial list"), (SPARE_DESCRIPTORS, "spare descriptors"), (SPARE_REGIONS, "spare regions")]
+    {
         let name = format!("directed: the tag of {what} passes 4,294,967,295");
         driver.checks.hold(&name, wrapped[list], || "never".to_string())?;
     }
@@ -175,48 +176,4 @@ pub fn same_item_again(driver: &mut Driver) -> Result<(), Parted> {
         schedule.stop_until_same_item(what, 12_000)?;
     }
     schedule.driver.compare_structure()
-}
-
-/// Steps a task until it stands at this place.
-fn steps_up_to(driver: &mut Driver, task: u64, place: Place) -> Result<(), Parted> {
-    for _ in 0..10_000 {
-        if driver.pool.tasks[task as usize].place == place {
-            break;
-        }
-        driver.ask(Request::Step { task })?;
-    }
-    let stands = driver.pool.tasks[task as usize].place == place;
-    driver.checks.hold("directed: the task comes to the place", stands, || format!("{place:?}"))
-}
-
-/// Takes all of two regions, gives back the first and begins to free one block of the second: the steps that follow
-/// return the first region, which becomes EMPTY and spare.
-fn open_two_return_one(driver: &mut Driver, task: u64, size: u64) -> Result<(), Parted> {
-    let blocks = per_region(class_of(size));
-    let mut units = Vec::new();
-    for _ in 0..2 * blocks {
-        units.push(allocate(driver, task, size)?.1.1);
-    }
-    for unit in &units[..blocks as usize] {
-        free(driver, task, *unit)?;
-    }
-    driver.ask(Request::Free { task, unit: units[blocks as usize] }).map(|_| ())
-}
-
-/// A region is taken and comes back while another task stands before its pop of that region, and before its push of
-/// another one: both exchanges are lost, though the region that was read is on top again.
-pub fn same_region_again(driver: &mut Driver) -> Result<(), Parted> {
-    start(driver, 2, 3)?;
-    driver.ask(Request::Allocate { task: 0, size: 256 })?;
-    steps_up_to(driver, 0, Place::List(Move::PopRegion, Phase::Exchange))?;
-    open_two_return_one(driver, 1, 224)?;
-    steps_to_the_end(driver, 1)?;
-    steps_to_the_end(driver, 0)?;
-    start(driver, 2, 4)?;
-    open_two_return_one(driver, 0, 256)?;
-    steps_up_to(driver, 0, Place::List(Move::PushRegion, Phase::Exchange))?;
-    open_two_return_one(driver, 1, 224)?;
-    steps_to_the_end(driver, 1)?;
-    steps_to_the_end(driver, 0)?;
-    driver.compare_structure()
 }

@@ -2,14 +2,14 @@
 //! a caller see is compared after it.
 
 use crate::checks::{Checks, Parted};
-use crate::classes::{UNIT, block};
+use crate::classes::{block, UNIT};
 use crate::coverage::Coverage;
 use crate::faults::Fault;
 use crate::layout::View;
 use crate::library;
 use crate::lists::LISTS;
 use crate::memory::{Memory, Side};
-use crate::pool::{ALL_UNITS, Answer, CONTROL, Call, Place, Pool, Request};
+use crate::pool::{Answer, Call, Place, Pool, Request, ALL_UNITS, CONTROL};
 use crate::random::Random;
 use crate::structure;
 

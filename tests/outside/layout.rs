@@ -1,7 +1,7 @@
 //! Reading the two memories by the documents of the layout. Used to compare structure, to damage states and to count
 //! places; the plain pool knows nothing of it.
 
-use crate::classes::{UNIT, UNITS_PER_REGION, per_region, units};
+use crate::classes::{per_region, units, UNIT, UNITS_PER_REGION};
 
 /// A column of the control memory: its first byte, the width of a field and how many there are.
 #[derive(Clone, Copy, Debug)]

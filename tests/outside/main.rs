@@ -3,6 +3,7 @@
 mod arbitrary;
 mod checks;
 mod classes;
+mod collisions;
 mod coverage;
 mod damage;
 mod directed;
@@ -16,6 +17,8 @@ mod pool;
 mod random;
 mod refusals;
 mod schedules;
+mod stand;
+mod stand_test;
 mod steps;
 mod structure;
 mod styles;
@@ -36,11 +39,13 @@ struct Options {
     fault_name: String,
     /// Whether arbitrary memories are tried too.
     arbitrary: bool,
+    /// The stand program, where it has been built.
+    stand: Option<String>,
 }
 
 const FIXED_ROUNDS: u64 = 8;
 type Directed = fn(&mut Driver) -> Result<(), Parted>;
-const DIRECTED: [Directed; 8] = [
+const DIRECTED: [Directed; 10] = [
     directed::first_allocations,
     directed::bench_refusals,
     directed::every_size,
@@ -48,16 +53,21 @@ const DIRECTED: [Directed; 8] = [
     directed::transfers_in_turn,
     directed::tags_that_wrap,
     directed::same_item_again,
-    directed::same_region_again,
+    collisions::same_region_again,
+    collisions::descriptor_moves_on,
+    collisions::same_first_block_again,
 ];
 
 fn usage() -> ! {
-    eprintln!("usage: outside [--seed N] [--seconds N] [--fault NAME] [--list-faults]");
+    eprintln!(
+        "usage: outside [--seed N] [--seconds N] [--stand PROGRAM] [--arbitrary no] [--fault NAME] [--list-faults]"
+    );
     std::process::exit(2)
 }
 
 fn options() -> Options {
-    let mut options = Options { seed: 1, seconds: None, fault: Fault::None, fault_name: String::new(), arbitrary: true };
+    let mut options =
+        Options { seed: 1, seconds: None, fault: Fault::None, fault_name: String::new(), arbitrary: true, stand: None };
     let mut words = std::env::args().skip(1);
     while let Some(word) = words.next() {
         if word == "--list-faults" {
@@ -68,6 +78,7 @@ fn options() -> Options {
         match word.as_str() {
             "--seed" => options.seed = value.parse().unwrap_or_else(|_| usage()),
             "--seconds" => options.seconds = Some(value.parse().unwrap_or_else(|_| usage())),
+            "--stand" => options.stand = Some(value),
             "--arbitrary" => options.arbitrary = value != "no",
             "--fault" => {
                 options.fault = faults::named(&value).unwrap_or_else(|| usage());
@@ -79,50 +90,55 @@ fn options() -> Options {
     options
 }
 
+/// How many schedules a round has: every written one, then every style.
+fn schedules_of_a_round() -> usize {
+    DIRECTED.len() + STYLES.len()
+}
+
 /// One schedule on a fresh driver. A schedule ends at its first failure, which the checks keep.
-fn schedule(checks: &mut Checks, coverage: &mut Coverage, fault: Fault, seed: u64, body: impl FnOnce(&mut Driver)) {
-    let regions = 1 + seed % 16;
-    body(&mut Driver::new(regions, seed, fault, checks, coverage));
+fn schedule(options: &Options, round: u64, index: usize, checks: &mut Checks, coverage: &mut Coverage) {
+    let seed = options.seed.wrapping_mul(1_000_003).wrapping_add(round * 64 + index as u64);
+    let mut driver = Driver::new(1 + seed % 16, seed, options.fault, checks, coverage);
+    let _ = match DIRECTED.get(index) {
+        Some(directed) => directed(&mut driver),
+        None => Schedule::new(&mut driver, &STYLES[index - DIRECTED.len()]).run(),
+    };
 }
 
-/// One round: every written schedule, every style, and arbitrary memories.
-fn round(options: &Options, number: u64, checks: &mut Checks, coverage: &mut Coverage) {
-    let seed = options.seed.wrapping_mul(1_000_003).wrapping_add(number * 64);
-    for (index, directed) in DIRECTED.iter().enumerate() {
-        schedule(checks, coverage, options.fault, seed + index as u64, |driver| {
-            let _ = directed(driver);
-        });
-    }
-    for (index, style) in STYLES.iter().enumerate() {
-        schedule(checks, coverage, options.fault, seed + 16 + index as u64, |driver| {
-            let _ = Schedule::new(driver, style).run();
-        });
-    }
-}
-
-/// Runs with a fault stop at the first failure and say which check made it.
-fn run_fault(options: &Options) -> ! {
+/// Runs with a fault stop at the first failure and say which check made it. Where the fault leads the plain pool into
+/// a state that it cannot go on from, nothing was compared there, so that does not count as caught.
+fn run_fault(options: &Options) -> bool {
     let (mut checks, mut coverage) = (Checks::default(), Coverage::default());
+    std::panic::set_hook(Box::new(|_| ()));
     for number in 0..FIXED_ROUNDS {
-        round(options, number, &mut checks, &mut coverage);
-        if let Some((check, message)) = checks.first_failure() {
-            println!("{}\t{}\t{}", options.fault_name, check, message);
-            std::process::exit(0)
+        for index in 0..schedules_of_a_round() {
+            let body = || schedule(options, number, index, &mut checks, &mut coverage);
+            let _ = std::panic::catch_unwind(std::panic::AssertUnwindSafe(body));
+            if let Some((check, message)) = checks.first_failure() {
+                let short: String = message.split("; last calls").next().unwrap_or("").chars().take(200).collect();
+                println!("{}\t{}\t{}\t{}", options.fault_name, check, coverage.calls, short);
+                return true;
+            }
         }
     }
-    println!("{}\tNOT CAUGHT\t", options.fault_name);
-    std::process::exit(1)
+    println!("{}\tNOT CAUGHT\t{}\t", options.fault_name, coverage.calls);
+    false
 }
 
 fn main() {
     let options = options();
     memory::catch_faults();
     if options.fault != Fault::None {
-        run_fault(&options);
+        std::process::exit(if run_fault(&options) { 0 } else { 1 });
     }
     let (mut checks, mut coverage) = (Checks::default(), Coverage::default());
     let begun = Instant::now();
     let _ = checks.agree("table of classes is the paper's series", classes::agrees_with_the_paper());
+    stand_test::by_itself(&mut checks);
+    match &options.stand {
+        Some(program) => stand_test::against_program(program, options.seed, &mut checks),
+        None => println!("skipped: the stand program has not been built, so its output is not compared"),
+    }
     let mut number = 0;
     let goes_on = |number: u64| match options.seconds {
         Some(seconds) => begun.elapsed() < Duration::from_secs(seconds),
@@ -130,7 +146,9 @@ fn main() {
     };
     let mut arbitrary = arbitrary::Counts::default();
     while number == 0 || goes_on(number) {
-        round(&options, number, &mut checks, &mut coverage);
+        for index in 0..schedules_of_a_round() {
+            schedule(&options, number, index, &mut checks, &mut coverage);
+        }
         if options.arbitrary {
             arbitrary::round(options.seed.wrapping_add(number << 32), &mut checks, &mut arbitrary);
         }

@@ -1,9 +1,9 @@
 //! The plain pool of the paper: "The whole run is this plain pool, without links or head words. It is fed only each
 //! call's numbers and the lengths lent."
 
-use crate::classes::{CLASSES, REGION, UNITS_PER_REGION, class_of, per_region, units};
+use crate::classes::{class_of, per_region, units, CLASSES, REGION, UNITS_PER_REGION};
 use crate::faults::Fault;
-use crate::lists::{HeadNote, LISTS, List, Move, Phase, SPARE_DESCRIPTORS, SPARE_REGIONS};
+use crate::lists::{HeadNote, List, Move, Phase, LISTS, SPARE_DESCRIPTORS, SPARE_REGIONS};
 use std::collections::VecDeque;
 
 pub const CONTROL: u64 = 8192;
@@ -123,7 +123,7 @@ pub enum Event {
     None,
     Won,
     Lost,
-    /// Lost by the number alone: the item that was read is on top again.
+    /// Lost though the item that was read is on top again, or the block that was read is the chain's first again.
     LostSameTop,
     FoundEmpty,
     AnchorEmpty,

@@ -2,7 +2,7 @@
 
 use crate::classes::REGION;
 use crate::faults::Fault;
-use crate::pool::{ALL_UNITS, CONTROL, Call, Place, Pool, Request};
+use crate::pool::{Call, Place, Pool, Request, ALL_UNITS, CONTROL};
 
 impl Pool {
     /// The number by which the call is refused, or 0. "Start tests 1, 2, 3. Other calls test 1, 4, 2, 5, then 6 or 7,
@@ -65,7 +65,11 @@ fn size_refusal(size: u64) -> u64 {
 }
 
 fn number_if(number: u64, refused: bool) -> u64 {
-    if refused { number } else { 0 }
+    if refused {
+        number
+    } else {
+        0
+    }
 }
 
 /// The first number that is not 0.

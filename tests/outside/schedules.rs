@@ -4,11 +4,10 @@ use crate::checks::Parted;
 use crate::classes::{block, per_region, units};
 use crate::driver::{Driver, Held};
 use crate::lists::{Move, Phase};
-use crate::pool::{CONTROL, Call, Place, Request};
+use crate::pool::{Call, Place, Request, CONTROL};
 use crate::styles::{Order, Style, Turn};
 
-const LENGTHS: [u64; 14] =
-    [0, 1, 4095, 4096, 4097, 8191, 8192, 8193, 16384, 65535, 65536, 65537, 69632, 131_072];
+const LENGTHS: [u64; 14] = [0, 1, 4095, 4096, 4097, 8191, 8192, 8193, 16384, 65535, 65536, 65537, 69632, 131_072];
 
 pub struct Schedule<'a, 'b> {
     pub driver: &'b mut Driver<'a>,
@@ -223,7 +222,11 @@ impl<'a, 'b> Schedule<'a, 'b> {
     fn odd_task(&mut self) -> u64 {
         let tasks = self.tasks();
         let random = &mut self.driver.random;
-        if tasks == 0 || random.percent(15) { random.number() } else { random.below(tasks) }
+        if tasks == 0 || random.percent(15) {
+            random.number()
+        } else {
+            random.below(tasks)
+        }
     }
 
     fn odd_size(&mut self) -> u64 {

@@ -1,7 +1,7 @@
 //! The steps of the plain pool outside the moves on lists: "After that one call is one step of one task; a branch on
 //! what was read is no step."
 
-use crate::classes::{UNITS_PER_REGION, per_region, units};
+use crate::classes::{per_region, units, UNITS_PER_REGION};
 use crate::faults::Fault;
 use crate::lists::{Move, Phase, SPARE_DESCRIPTORS};
 use crate::pool::{AnchorNote, Answer, Event, Place, Pool, State, Under};
@@ -211,7 +211,9 @@ impl Pool {
     fn return_group(&mut self, task: usize) -> Answer {
         let index = self.tasks[task].descriptor;
         if !self.anchor_as_noted(task, index) {
-            self.event = Event::Lost;
+            let now = self.note_of(index);
+            let same = now.first.is_some() && now.first == self.tasks[task].anchor.first;
+            self.event = if same { Event::LostSameTop } else { Event::Lost };
             return self.go(task, Place::ReadAnchorToReturn);
         }
         let Under::Group(group) = std::mem::replace(&mut self.tasks[task].under, Under::Nothing) else {

@@ -1,10 +1,10 @@
 //! The comparison of structure: "Compared are each list's items from the top, which regions are open and in which
 //! class, and, for these, the chain in order and each block's holder."
 
-use crate::classes::{CLASSES, REGION, UNITS_PER_REGION, per_region, units};
-use crate::layout::{DESCRIPTOR_CLASS, REGIONS, TASK_PLACE, TASKS, View};
+use crate::classes::{per_region, units, CLASSES, REGION, UNITS_PER_REGION};
+use crate::layout::{View, DESCRIPTOR_CLASS, REGIONS, TASKS, TASK_PLACE};
 use crate::lists::LISTS;
-use crate::pool::{ALL_UNITS, Pool, Under};
+use crate::pool::{Pool, Under, ALL_UNITS};
 
 /// A block's holder: "a user's hands, a task or its region's chain, and it stands there once".
 #[derive(Clone, Copy, PartialEq, Eq, Debug)]
