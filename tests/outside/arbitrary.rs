@@ -4,13 +4,16 @@
 use crate::checks::{Checks, Parted};
 use crate::coverage::PerPlace;
 use crate::damage::{self, Bytes};
-use crate::layout;
+use crate::expected;
+use crate::layout::{self, View};
 use crate::library;
 use crate::memory::{Memory, Side};
 use crate::pool::{Answer, Request};
 use crate::random::Random;
 
 const CODE: &str = "arbitrary: the answer is one of the paper's codes for the call";
+const DUE: &str = "arbitrary: the tests are made in the paper's order on the values stored";
+const OWN: &str = "arbitrary: a beginning changes its own task's fields and the mark alone";
 const VALUE: &str = "arbitrary: a value comes only with 20 and is below 8,192";
 const UNCHANGED: &str = "arbitrary: a refused call changes no byte";
 const AREA_KEPT: &str = "arbitrary: a start and a beginning leave the area as it is";
@@ -123,9 +126,17 @@ impl<'a> Trial<'a> {
             0 => Request::Start { tasks: if random.one_in(4) { random.below(10) } else { random.number() } },
             1 => Request::Allocate { task, size: random.number() },
             2 => Request::Free { task, unit: random.number() },
-            3 => Request::Free { task, unit: random.below(256) * 32 },
+            3 => Request::Free { task, unit: self.marked_unit(random) },
             _ => Request::Step { task },
         }
+    }
+
+    /// Mostly a unit whose mark is set.
+    fn marked_unit(&self, random: &mut Random) -> u64 {
+        let view = View { control: &self.before.control, area: &self.before.area };
+        let first = random.below(8192);
+        let marked = |unit: &u64| view.control.len() == 8192 && view.mark(*unit as usize);
+        (first..8192).find(marked).unwrap_or(first / 32 * 32)
     }
 
     fn call(&mut self, request: Request) -> Result<(), Parted> {
@@ -165,6 +176,12 @@ impl<'a> Trial<'a> {
             Request::Step { .. } => &[0, 20, 1, 2, 4, 5, 7, 12, 13, 14],
         };
         self.checks.hold(CODE, codes.contains(&answer.0), || format!("{request:?}: {answer:?}"))?;
+        let due = expected::code(&self.before, request);
+        let as_due = match due {
+            Some(code) => answer.0 == code,
+            None => !matches!(answer.0, 1..=11),
+        };
+        self.checks.hold(DUE, as_due, || format!("{request:?}: {answer:?} where {due:?} is due"))?;
         let value = if answer.0 == 20 { answer.1 < 8192 } else { answer.1 == 0 };
         self.checks.hold(VALUE, value, || format!("{request:?}: {answer:?}"))
     }
@@ -205,7 +222,11 @@ impl<'a> Trial<'a> {
                 let one = area_same || one_link(&self.before.area, area);
                 self.checks.hold(ONE_LINK, one, || format!("{request:?}: {answer:?}"))
             }
-            _ => self.checks.hold(AREA_KEPT, area_same, || format!("{request:?}")),
+            _ => {
+                let own = expected::beginning_changed_its_own(&self.before.control, control, request);
+                self.checks.hold(OWN, own, || format!("{request:?}"))?;
+                self.checks.hold(AREA_KEPT, area_same, || format!("{request:?}"))
+            }
         }
     }
 }

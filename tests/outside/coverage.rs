@@ -43,6 +43,13 @@ pub struct Coverage {
     came_back: u64,
     returns: BTreeMap<&'static str, u64>,
     codes: BTreeMap<(usize, u64), u64>,
+    /// Accepted starts by tasks and by regions.
+    tasks: [u64; 9],
+    regions: [u64; 17],
+    /// Regions opened, chains taken and groups returned, by class.
+    opened: [u64; 16],
+    taken: [u64; 16],
+    returned: [u64; 16],
     pub calls: u64,
     pub writes: u64,
     pub comparisons: u64,
@@ -66,6 +73,21 @@ impl Coverage {
         if kind == 3 && !refused {
             self.places.0[place.number()] += 1;
             self.count_event(place.number(), event);
+        }
+    }
+
+    pub fn count_start(&mut self, tasks: u64, regions: u64) {
+        self.tasks[tasks as usize] += 1;
+        self.regions[regions as usize] += 1;
+    }
+
+    /// Counts a region opened, a chain taken or a group returned.
+    pub fn count_class(&mut self, place: Place, event: Event, class: usize) {
+        match (place, event) {
+            (Place::WriteDescriptor, _) => self.opened[class] += 1,
+            (Place::TakeChain, Event::Won) => self.taken[class] += 1,
+            (Place::ReturnGroup, Event::Returned(..)) => self.returned[class] += 1,
+            _ => (),
         }
     }
 
@@ -116,6 +138,12 @@ impl Coverage {
                 reached(checks, &format!("{} answers {code}", KINDS[kind]), times);
             }
         }
+        let least = |row: &[u64]| row.iter().copied().min().unwrap_or(0);
+        reached(checks, "starts with 1 to 8 tasks each", least(&self.tasks[1..]));
+        reached(checks, "starts with 1 to 16 regions each", least(&self.regions[1..]));
+        reached(checks, "regions opened in each class", least(&self.opened));
+        reached(checks, "chains taken in each class", least(&self.taken));
+        reached(checks, "groups returned in each class", least(&self.returned));
         reached(checks, "users' writes into held blocks", self.writes);
         reached(checks, "starts while requests are under way", self.restarts_under_way);
         reached(checks, "starts on an area of another length", self.other_length_starts);
@@ -132,6 +160,9 @@ impl Coverage {
         }
         println!("returns: {:?}; after the anchor changed and came back: {}", self.returns, self.came_back);
         println!("anchors found EMPTY by allocate: {}; users' writes: {}", self.anchor_empty, self.writes);
+        println!("starts by tasks: {:?}; by regions: {:?}", &self.tasks[1..], &self.regions[1..]);
+        println!("by class, regions opened: {:?}", self.opened);
+        println!("by class, chains taken: {:?}; groups returned: {:?}", self.taken, self.returned);
         for (kind, name) in KINDS.iter().enumerate() {
             let codes: Vec<String> = self
                 .codes

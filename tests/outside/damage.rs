@@ -15,23 +15,6 @@ pub struct Bytes {
     pub area: Vec<u8>,
 }
 
-const TASK_COLUMNS: [Column; 15] = [
-    TASK_HEAD,
-    TASK_ANCHOR,
-    TASK_UNIT,
-    TASK_INDEX,
-    TASK_LEFT,
-    GROUP_FIRST,
-    GROUP_LAST,
-    GROUP_COUNT,
-    TASK_PLACE,
-    TASK_CLASS,
-    TASK_NEXT,
-    TASK_DESCRIPTOR,
-    TASK_REGION,
-    TASK_STATE,
-    TASK_PLACE,
-];
 const SHARED_COLUMNS: [Column; 10] =
     [HEAD, ANCHOR, MARKS, TOP, COUNT, DESCRIPTOR_NEXT, REGION_NEXT, DESCRIPTOR_REGION, DESCRIPTOR_CLASS, MAP];
 
@@ -92,7 +75,7 @@ pub fn damage(bytes: &mut Bytes, random: &mut Random) {
                 bytes.area[place] = random.next() as u8;
             }
             2 => damage_field(bytes, &SHARED_COLUMNS, random),
-            3 => damage_field(bytes, &TASK_COLUMNS, random),
+            3 => damage_field(bytes, &OF_A_TASK, random),
             _ => damage_link(bytes, random),
         }
     }

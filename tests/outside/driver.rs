@@ -88,11 +88,23 @@ impl<'a> Driver<'a> {
             self.compare_memories(call, expected)?;
         }
         self.coverage.count(call.request, place, self.pool.event, expected);
-        if matches!(call.request, Request::Start { .. }) && expected.0 == 0 {
-            self.coverage.restarts_under_way += u64::from(busy);
-        }
+        self.count_more(call, place, busy, expected);
         self.follow(call.request, place, expected);
         Ok(expected)
+    }
+
+    fn count_more(&mut self, call: Call, place: Place, busy: bool, answer: Answer) {
+        match (call.request, answer.0) {
+            (Request::Start { tasks }, 0) => {
+                self.coverage.restarts_under_way += u64::from(busy);
+                self.coverage.count_start(tasks, call.area / 4096);
+            }
+            (Request::Step { task }, 0) => {
+                let class = self.pool.tasks[task as usize].class;
+                self.coverage.count_class(place, self.pool.event, class);
+            }
+            _ => (),
+        }
     }
 
     fn remember(&mut self, call: Call) {

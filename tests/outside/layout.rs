@@ -42,6 +42,24 @@ pub const MAP: Column = column(5904, 1, 16);
 pub const TASKS: Column = column(5944, 1, 1);
 pub const REGIONS: Column = column(5945, 1, 1);
 
+/// The columns with one field for each task.
+pub const OF_A_TASK: [Column; 14] = [
+    TASK_HEAD,
+    TASK_ANCHOR,
+    TASK_UNIT,
+    TASK_INDEX,
+    TASK_LEFT,
+    GROUP_FIRST,
+    GROUP_LAST,
+    GROUP_COUNT,
+    TASK_PLACE,
+    TASK_CLASS,
+    TASK_NEXT,
+    TASK_DESCRIPTOR,
+    TASK_REGION,
+    TASK_STATE,
+];
+
 /// Reads a field, low byte first.
 pub fn get(control: &[u8], column: Column, index: usize) -> u64 {
     let first = column.first + index * column.width;

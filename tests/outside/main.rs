@@ -8,7 +8,10 @@ mod coverage;
 mod damage;
 mod directed;
 mod driver;
+mod expected;
 mod faults;
+mod fourteen;
+mod fourteen_cases;
 mod layout;
 mod library;
 mod lists;
@@ -43,7 +46,7 @@ struct Options {
     stand: Option<String>,
 }
 
-const FIXED_ROUNDS: u64 = 8;
+const FIXED_ROUNDS: u64 = 20;
 type Directed = fn(&mut Driver) -> Result<(), Parted>;
 const DIRECTED: [Directed; 10] = [
     directed::first_allocations,
@@ -144,13 +147,14 @@ fn main() {
         Some(seconds) => begun.elapsed() < Duration::from_secs(seconds),
         None => number < FIXED_ROUNDS,
     };
-    let mut arbitrary = arbitrary::Counts::default();
+    let (mut arbitrary, mut tried) = (arbitrary::Counts::default(), fourteen::Tried::new());
     while number == 0 || goes_on(number) {
         for index in 0..schedules_of_a_round() {
             schedule(&options, number, index, &mut checks, &mut coverage);
         }
         if options.arbitrary {
             arbitrary::round(options.seed.wrapping_add(number << 32), &mut checks, &mut arbitrary);
+            fourteen::round(options.seed.wrapping_add(number), &mut checks, &mut tried);
         }
         number += 1;
     }
@@ -159,6 +163,7 @@ fn main() {
     if options.arbitrary {
         arbitrary.print();
         arbitrary.report(&mut checks);
+        fourteen::report(&tried, &mut checks);
     }
     println!("rounds: {number}; seed: {}", options.seed);
     let good = checks.report();

@@ -65,6 +65,11 @@ impl<'a, 'b> Schedule<'a, 'b> {
         Ok(())
     }
 
+    /// This many calls and no comparison of structure.
+    pub fn some(&mut self, calls: u64) -> Result<(), Parted> {
+        (0..calls).try_for_each(|_| self.one())
+    }
+
     fn one(&mut self) -> Result<(), Parted> {
         if self.driver.random.one_in(self.style.odd) {
             let call = self.odd_call();
