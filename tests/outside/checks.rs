@@ -10,6 +10,8 @@ pub struct Check {
 #[derive(Default)]
 pub struct Checks {
     checks: Vec<Check>,
+    /// What is being tried, for the message of a failure.
+    pub context: String,
 }
 
 /// A schedule ends at its first failure, since the two runs have parted.
@@ -35,7 +37,9 @@ impl Checks {
         }
         check.failures += 1;
         if check.failures == 1 {
-            check.first = message();
+            let message = message();
+            let context = self.context.clone();
+            self.entry(name).first = format!("{message} [{context}]");
         }
         Err(Parted)
     }

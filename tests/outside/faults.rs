@@ -54,6 +54,21 @@ faults! {
     TaskBeforeLength "task-before-length" "test 5 comes before test 2",
     MarkBeforeBlock "mark-before-block" "a clear mark is answered by 11 also where there is no block",
     Always480 "always-480" "every finished allocation answers unit 480",
+    RefusedWritesControl "library-refused-control" "library: a refused call changes a byte of control",
+    RefusedWritesArea "library-refused-area" "library: a refused call changes a byte of the area",
+    StartWritesArea "library-start-area" "library: a start changes a byte of the area",
+    StartSkipsByte "library-start-byte" "library: a start leaves a byte of control that it should not",
+    BeginningWritesArea "library-beginning-area" "library: a beginning changes a byte of the area",
+    BeginningWritesOthers "library-beginning-others" "library: a beginning changes another task's cache",
+    StepTouchesHeld "library-held-block" "library: a step changes a byte of a block in a user's hands",
+    StepWritesTwoLinks "library-two-links" "library: a step that carves writes a second byte elsewhere",
+    LinkOfEightBytes "library-long-link" "library: a carved block's fifth byte is written",
+    WritesBehindArea "library-behind-area" "library: a call changes the byte behind the area",
+    FourteenInRun "library-14-in-run" "library: the anchor's read of a free answers 14",
+    ValueUnderWay "library-value-under-way" "library: a step under way answers a value",
+    BadLinkPassed "library-bad-link" "library: a bad link of a taken chain is not answered by 14",
+    BadHeadPassed "library-bad-head" "library: a bad head word is not answered by 14",
+    TagNotCounted "library-tags-cleared" "library: the push of a partial descriptor sets all tags to 0",
 }
 
 /// The fault of this name.

@@ -2,6 +2,7 @@
 
 use crate::memory::Memory;
 use crate::pool::{Answer, Request};
+use crate::tamper;
 
 unsafe extern "C" {
     fn pool_start(control: *mut u8, control_len: usize, area: *const u8, area_len: usize, tasks: u64) -> u64;
@@ -26,6 +27,7 @@ unsafe extern "C" {
 
 /// One call of the library. "The answer is code + 256 * value."
 pub fn call(control: &mut Memory, area: &mut Memory, request: Request) -> Answer {
+    let before = tamper::before(control, request);
     let (bytes, length) = (control.pointer(), control.len());
     let (blocks, blocks_length) = (area.pointer(), area.len());
     // SAFETY: both memories are lent for the call with their true lengths.
@@ -37,5 +39,5 @@ pub fn call(control: &mut Memory, area: &mut Memory, request: Request) -> Answer
             Request::Step { task } => pool_step(bytes, length, blocks, blocks_length, task),
         }
     };
-    (answer % 256, answer / 256)
+    tamper::after(control, area, request, before, (answer % 256, answer / 256))
 }

@@ -25,6 +25,7 @@ mod stand_test;
 mod steps;
 mod structure;
 mod styles;
+mod tamper;
 
 use checks::{Checks, Parted};
 use coverage::Coverage;
@@ -40,8 +41,6 @@ struct Options {
     seconds: Option<u64>,
     fault: Fault,
     fault_name: String,
-    /// Whether arbitrary memories are tried too.
-    arbitrary: bool,
     /// The stand program, where it has been built.
     stand: Option<String>,
 }
@@ -62,15 +61,12 @@ const DIRECTED: [Directed; 10] = [
 ];
 
 fn usage() -> ! {
-    eprintln!(
-        "usage: outside [--seed N] [--seconds N] [--stand PROGRAM] [--arbitrary no] [--fault NAME] [--list-faults]"
-    );
+    eprintln!("usage: outside [--seed N] [--seconds N] [--stand PROGRAM] [--fault NAME] [--list-faults]");
     std::process::exit(2)
 }
 
 fn options() -> Options {
-    let mut options =
-        Options { seed: 1, seconds: None, fault: Fault::None, fault_name: String::new(), arbitrary: true, stand: None };
+    let mut options = Options { seed: 1, seconds: None, fault: Fault::None, fault_name: String::new(), stand: None };
     let mut words = std::env::args().skip(1);
     while let Some(word) = words.next() {
         if word == "--list-faults" {
@@ -82,7 +78,6 @@ fn options() -> Options {
             "--seed" => options.seed = value.parse().unwrap_or_else(|_| usage()),
             "--seconds" => options.seconds = Some(value.parse().unwrap_or_else(|_| usage())),
             "--stand" => options.stand = Some(value),
-            "--arbitrary" => options.arbitrary = value != "no",
             "--fault" => {
                 options.fault = faults::named(&value).unwrap_or_else(|| usage());
                 options.fault_name = value;
@@ -101,10 +96,13 @@ fn schedules_of_a_round() -> usize {
 /// One schedule on a fresh driver. A schedule ends at its first failure, which the checks keep.
 fn schedule(options: &Options, round: u64, index: usize, checks: &mut Checks, coverage: &mut Coverage) {
     let seed = options.seed.wrapping_mul(1_000_003).wrapping_add(round * 64 + index as u64);
+    let style = index.checked_sub(DIRECTED.len()).map(|index| &STYLES[index]);
+    checks.context =
+        format!("round {round}, {}", style.map_or(format!("written schedule {index}"), |style| style.name.into()));
     let mut driver = Driver::new(1 + seed % 16, seed, options.fault, checks, coverage);
-    let _ = match DIRECTED.get(index) {
-        Some(directed) => directed(&mut driver),
-        None => Schedule::new(&mut driver, &STYLES[index - DIRECTED.len()]).run(),
+    let _ = match style {
+        Some(style) => Schedule::new(&mut driver, style).run(),
+        None => DIRECTED[index](&mut driver),
     };
 }
 
@@ -113,9 +111,16 @@ fn schedule(options: &Options, round: u64, index: usize, checks: &mut Checks, co
 fn run_fault(options: &Options) -> bool {
     let (mut checks, mut coverage) = (Checks::default(), Coverage::default());
     std::panic::set_hook(Box::new(|_| ()));
+    let _ = tamper::TAMPERING.set(options.fault);
     for number in 0..FIXED_ROUNDS {
         for index in 0..schedules_of_a_round() {
-            let body = || schedule(options, number, index, &mut checks, &mut coverage);
+            let body = || {
+                schedule(options, number, index, &mut checks, &mut coverage);
+                if index + 1 == schedules_of_a_round() {
+                    arbitrary::round(number, &mut checks, &mut arbitrary::Counts::default());
+                    fourteen::round(number, &mut checks, &mut fourteen::Tried::new());
+                }
+            };
             let _ = std::panic::catch_unwind(std::panic::AssertUnwindSafe(body));
             if let Some((check, message)) = checks.first_failure() {
                 let short: String = message.split("; last calls").next().unwrap_or("").chars().take(200).collect();
@@ -128,6 +133,16 @@ fn run_fault(options: &Options) -> bool {
     false
 }
 
+/// The checks that need no round: the table of classes and the stand.
+fn once(options: &Options, checks: &mut Checks) {
+    let _ = checks.agree("table of classes is the paper's series", classes::agrees_with_the_paper());
+    stand_test::by_itself(checks);
+    match &options.stand {
+        Some(program) => stand_test::against_program(program, options.seed, checks),
+        None => println!("skipped: the stand program has not been built, so its output is not compared"),
+    }
+}
+
 fn main() {
     let options = options();
     memory::catch_faults();
@@ -135,37 +150,28 @@ fn main() {
         std::process::exit(if run_fault(&options) { 0 } else { 1 });
     }
     let (mut checks, mut coverage) = (Checks::default(), Coverage::default());
+    let (mut arbitrary, mut tried) = (arbitrary::Counts::default(), fourteen::Tried::new());
     let begun = Instant::now();
-    let _ = checks.agree("table of classes is the paper's series", classes::agrees_with_the_paper());
-    stand_test::by_itself(&mut checks);
-    match &options.stand {
-        Some(program) => stand_test::against_program(program, options.seed, &mut checks),
-        None => println!("skipped: the stand program has not been built, so its output is not compared"),
-    }
+    once(&options, &mut checks);
     let mut number = 0;
     let goes_on = |number: u64| match options.seconds {
         Some(seconds) => begun.elapsed() < Duration::from_secs(seconds),
         None => number < FIXED_ROUNDS,
     };
-    let (mut arbitrary, mut tried) = (arbitrary::Counts::default(), fourteen::Tried::new());
     while number == 0 || goes_on(number) {
         for index in 0..schedules_of_a_round() {
             schedule(&options, number, index, &mut checks, &mut coverage);
         }
-        if options.arbitrary {
-            arbitrary::round(options.seed.wrapping_add(number << 32), &mut checks, &mut arbitrary);
-            fourteen::round(options.seed.wrapping_add(number), &mut checks, &mut tried);
-        }
+        checks.context = format!("round {number}, arbitrary memories");
+        arbitrary::round(options.seed.wrapping_add(number << 32), &mut checks, &mut arbitrary);
+        fourteen::round(options.seed.wrapping_add(number), &mut checks, &mut tried);
         number += 1;
     }
     coverage.print();
     coverage.report(&mut checks);
-    if options.arbitrary {
-        arbitrary.print();
-        arbitrary.report(&mut checks);
-        fourteen::report(&tried, &mut checks);
-    }
+    arbitrary.print();
+    arbitrary.report(&mut checks);
+    fourteen::report(&tried, &mut checks);
     println!("rounds: {number}; seed: {}", options.seed);
-    let good = checks.report();
-    std::process::exit(if good { 0 } else { 1 })
+    std::process::exit(if checks.report() { 0 } else { 1 })
 }

@@ -91,6 +91,14 @@ impl Memory {
         unsafe { std::slice::from_raw_parts_mut(self.base.add(self.offset), self.length) }
     }
 
+    /// Changes the byte behind the memory, where there is one on its last page. For a deliberate fault.
+    pub fn flip_behind(&mut self) {
+        if self.offset + self.length < (self.pages + 1) * PAGE {
+            // SAFETY: the byte is on the memory's last page, which is mapped.
+            unsafe { *self.base.add(self.offset + self.length) ^= 1 };
+        }
+    }
+
     /// Whether the rest of the memory's first and last page is as it was.
     pub fn slack_untouched(&self) -> bool {
         // SAFETY: the inner pages are mapped.
