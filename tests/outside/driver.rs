@@ -241,6 +241,7 @@ impl<'a> Driver<'a> {
         self.checks.agree("structure: caches as rows", structure::caches(pool, &view))?;
         self.checks.agree("structure: marks", structure::marks(pool, &view))?;
         self.checks.agree("structure: each block's holder, once", structure::holders(pool, &view))?;
+        self.checks.agree("structure: bytes of control outside the fields are zero", structure::gaps(&view))?;
         self.checks.agree("structure: tags", structure::tags(pool, &view, &self.tags_at_start))
     }
 }

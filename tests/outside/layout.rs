@@ -42,6 +42,31 @@ pub const MAP: Column = column(5904, 1, 16);
 pub const TASKS: Column = column(5944, 1, 1);
 pub const REGIONS: Column = column(5945, 1, 1);
 
+/// The columns that are not of one task alone.
+const SHARED: [Column; 12] = [
+    HEAD,
+    ANCHOR,
+    MARKS,
+    TOP,
+    COUNT,
+    DESCRIPTOR_NEXT,
+    REGION_NEXT,
+    DESCRIPTOR_REGION,
+    DESCRIPTOR_CLASS,
+    MAP,
+    TASKS,
+    REGIONS,
+];
+
+/// For each byte of control, whether it belongs to no field.
+pub fn outside_fields() -> Vec<bool> {
+    let mut outside = vec![true; 8192];
+    for column in SHARED.iter().chain(&OF_A_TASK) {
+        outside[column.first..column.first + column.width * column.fields].fill(false);
+    }
+    outside
+}
+
 /// The columns with one field for each task.
 pub const OF_A_TASK: [Column; 14] = [
     TASK_HEAD,

@@ -45,7 +45,7 @@ struct Options {
     stand: Option<String>,
 }
 
-const FIXED_ROUNDS: u64 = 20;
+const FIXED_ROUNDS: u64 = 16;
 type Directed = fn(&mut Driver) -> Result<(), Parted>;
 const DIRECTED: [Directed; 10] = [
     directed::first_allocations,
@@ -106,10 +106,24 @@ fn schedule(options: &Options, round: u64, index: usize, checks: &mut Checks, co
     };
 }
 
+/// The round's calls on arbitrary and on damaged memories.
+fn memories(
+    options: &Options,
+    round: u64,
+    checks: &mut Checks,
+    arbitrary: &mut arbitrary::Counts,
+    tried: &mut fourteen::Tried,
+) {
+    checks.context = format!("round {round}, arbitrary memories");
+    arbitrary::round(options.seed.wrapping_add(round << 32), checks, arbitrary);
+    fourteen::round(options.seed.wrapping_add(round), checks, tried);
+}
+
 /// Runs with a fault stop at the first failure and say which check made it. Where the fault leads the plain pool into
 /// a state that it cannot go on from, nothing was compared there, so that does not count as caught.
 fn run_fault(options: &Options) -> bool {
     let (mut checks, mut coverage) = (Checks::default(), Coverage::default());
+    let (mut arbitrary, mut tried) = (arbitrary::Counts::default(), fourteen::Tried::new());
     std::panic::set_hook(Box::new(|_| ()));
     let _ = tamper::TAMPERING.set(options.fault);
     for number in 0..FIXED_ROUNDS {
@@ -117,8 +131,7 @@ fn run_fault(options: &Options) -> bool {
             let body = || {
                 schedule(options, number, index, &mut checks, &mut coverage);
                 if index + 1 == schedules_of_a_round() {
-                    arbitrary::round(number, &mut checks, &mut arbitrary::Counts::default());
-                    fourteen::round(number, &mut checks, &mut fourteen::Tried::new());
+                    memories(options, number, &mut checks, &mut arbitrary, &mut tried);
                 }
             };
             let _ = std::panic::catch_unwind(std::panic::AssertUnwindSafe(body));
@@ -162,9 +175,7 @@ fn main() {
         for index in 0..schedules_of_a_round() {
             schedule(&options, number, index, &mut checks, &mut coverage);
         }
-        checks.context = format!("round {number}, arbitrary memories");
-        arbitrary::round(options.seed.wrapping_add(number << 32), &mut checks, &mut arbitrary);
-        fourteen::round(options.seed.wrapping_add(number), &mut checks, &mut tried);
+        memories(&options, number, &mut checks, &mut arbitrary, &mut tried);
         number += 1;
     }
     coverage.print();

@@ -2,9 +2,10 @@
 //! class, and, for these, the chain in order and each block's holder."
 
 use crate::classes::{per_region, units, CLASSES, REGION, UNITS_PER_REGION};
-use crate::layout::{View, DESCRIPTOR_CLASS, REGIONS, TASKS, TASK_PLACE};
+use crate::layout::{outside_fields, View, DESCRIPTOR_CLASS, REGIONS, TASKS, TASK_PLACE};
 use crate::lists::LISTS;
 use crate::pool::{Pool, Under, ALL_UNITS};
+use std::sync::LazyLock;
 
 /// A block's holder: "a user's hands, a task or its region's chain, and it stands there once".
 #[derive(Clone, Copy, PartialEq, Eq, Debug)]
@@ -98,6 +99,15 @@ pub fn places(pool: &Pool, view: &View) -> Result<(), String> {
         }
     }
     Ok(())
+}
+
+/// The documents of the layout: the bytes that belong to no field are "zero from the start on".
+pub fn gaps(view: &View) -> Result<(), String> {
+    static OUTSIDE: LazyLock<Vec<bool>> = LazyLock::new(outside_fields);
+    match view.control.iter().zip(OUTSIDE.iter()).position(|(&byte, &outside)| outside && byte != 0) {
+        Some(byte) => Err(format!("byte {byte} of control is {}", view.control[byte])),
+        None => Ok(()),
+    }
 }
 
 /// "One mark per unit is set while the block starting there is in a user's hands."
