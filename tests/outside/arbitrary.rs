@@ -5,6 +5,7 @@ use crate::checks::{Checks, Parted};
 use crate::coverage::PerPlace;
 use crate::damage::{self, Bytes};
 use crate::expected;
+use crate::frames;
 use crate::layout::{self, View};
 use crate::library;
 use crate::memory::{Memory, Side};
@@ -14,6 +15,7 @@ use crate::random::Random;
 const CODE: &str = "arbitrary: the answer is one of the paper's codes for the call";
 const DUE: &str = "arbitrary: the tests are made in the paper's order on the values stored";
 const OWN: &str = "arbitrary: a beginning changes its own task's fields and the mark alone";
+const STEP_OWN: &str = "arbitrary: a step changes its own task's fields and what its place writes alone";
 const VALUE: &str = "arbitrary: a value comes only with 20 and is below 8,192";
 const UNCHANGED: &str = "arbitrary: a refused call changes no byte";
 const AREA_KEPT: &str = "arbitrary: a start and a beginning leave the area as it is";
@@ -218,7 +220,10 @@ impl<'a> Trial<'a> {
                 self.checks.hold(IMAGE, same, || format!("{request:?}"))?;
                 self.checks.hold(AREA_KEPT, area_same, || format!("{request:?}"))
             }
-            Request::Step { .. } => {
+            Request::Step { task } => {
+                let place = layout::get(&self.before.control, layout::TASK_PLACE, task as usize) as usize;
+                let own = frames::step_changed_its_own(&self.before.control, control, task as usize, place);
+                self.checks.hold(STEP_OWN, own, || format!("{request:?} at place {place}: {answer:?}"))?;
                 let one = area_same || one_link(&self.before.area, area);
                 self.checks.hold(ONE_LINK, one, || format!("{request:?}: {answer:?}"))
             }

@@ -1,6 +1,7 @@
 //! Schedules that are written down: the paper's examples, and a way to the end with 12.
 
 use crate::checks::Parted;
+use crate::classes::{block, per_region, CLASSES};
 use crate::driver::Driver;
 use crate::lists::{LISTS, MOVES, SPARE_DESCRIPTORS, SPARE_REGIONS};
 use crate::pool::{Answer, Call, Request};
@@ -74,6 +75,26 @@ pub fn every_size(driver: &mut Driver) -> Result<(), Parted> {
             steps_to_the_end(driver, 0)?;
             allocate(driver, 0, size)?;
         }
+    }
+    Ok(())
+}
+
+/// In each class: a second region is opened, a full cache is returned in two groups, and another task takes a chain.
+pub fn each_class(driver: &mut Driver) -> Result<(), Parted> {
+    for class in 0..CLASSES {
+        start(driver, 2, 2)?;
+        let mut units = Vec::new();
+        for _ in 0..per_region(class) + 2 {
+            units.push(allocate(driver, 0, block(class))?.1 .1);
+        }
+        for unit in &units[..3] {
+            free(driver, 0, *unit)?;
+        }
+        driver.compare_structure()?;
+        for _ in 0..3 {
+            allocate(driver, 1, block(class))?;
+        }
+        driver.compare_structure()?;
     }
     Ok(())
 }

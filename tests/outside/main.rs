@@ -12,6 +12,7 @@ mod expected;
 mod faults;
 mod fourteen;
 mod fourteen_cases;
+mod frames;
 mod layout;
 mod library;
 mod lists;
@@ -47,10 +48,11 @@ struct Options {
 
 const FIXED_ROUNDS: u64 = 16;
 type Directed = fn(&mut Driver) -> Result<(), Parted>;
-const DIRECTED: [Directed; 10] = [
+const DIRECTED: [Directed; 11] = [
     directed::first_allocations,
     directed::bench_refusals,
     directed::every_size,
+    directed::each_class,
     directed::no_descriptor,
     directed::transfers_in_turn,
     directed::tags_that_wrap,
@@ -178,6 +180,7 @@ fn main() {
         memories(&options, number, &mut checks, &mut arbitrary, &mut tried);
         number += 1;
     }
+    checks.context = "all rounds".to_string();
     coverage.print();
     coverage.report(&mut checks);
     arbitrary.print();
