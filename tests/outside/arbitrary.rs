@@ -1,0 +1,244 @@
+//! Arbitrary bytes and arbitrary numbers: never a fault, always an answer of the paper, and no byte changed by a call
+//! that is refused.
+
+use crate::checks::{Checks, Parted};
+use crate::coverage::PerPlace;
+use crate::damage::{self, Bytes};
+use crate::expected;
+use crate::frames;
+use crate::layout::{self, View};
+use crate::library;
+use crate::memory::{Memory, Side};
+use crate::pool::{Answer, Request};
+use crate::random::Random;
+
+const CODE: &str = "arbitrary: the answer is one of the paper's codes for the call";
+const DUE: &str = "arbitrary: the tests are made in the paper's order on the values stored";
+const OWN: &str = "arbitrary: a beginning changes its own task's fields and the mark alone";
+const STEP_OWN: &str = "arbitrary: a step changes its own task's fields and what its place writes alone";
+const VALUE: &str = "arbitrary: a value comes only with 20 and is below 8,192";
+const UNCHANGED: &str = "arbitrary: a refused call changes no byte";
+const AREA_KEPT: &str = "arbitrary: a start and a beginning leave the area as it is";
+const ONE_LINK: &str = "arbitrary: a step writes at most one link of the area";
+const SAME: &str = "arbitrary: the same call on the same bytes elsewhere does the same";
+const OUTSIDE: &str = "arbitrary: bytes outside the two memories are as they were";
+const IMAGE: &str = "arbitrary: a start leaves the same control memory whatever it was";
+
+const TRIALS: u64 = 1500;
+const LENGTHS: [usize; 16] =
+    [0, 1, 7, 8, 4095, 4096, 4097, 8191, 8192, 8193, 16384, 65535, 65536, 65537, 69632, 1 << 20];
+
+/// How often each code was answered, by kind of call, and 14 by the place of the task that stepped.
+#[derive(Default)]
+pub struct Counts {
+    codes: [[u64; 21]; 4],
+    fourteen_at: PerPlace,
+    went_on_at: PerPlace,
+}
+
+impl Counts {
+    pub fn print(&self) {
+        for (kind, name) in ["start", "begin allocate", "begin free", "step"].iter().enumerate() {
+            let codes: Vec<String> = (0..21)
+                .filter(|&code| self.codes[kind][code] > 0)
+                .map(|code| format!("{code} x {}", self.codes[kind][code]))
+                .collect();
+            println!("arbitrary memories, codes of {name}: {}", codes.join(", "));
+        }
+        println!("arbitrary memories, 14 at places 0 to 33: {:?}", self.fourteen_at.0);
+        println!("arbitrary memories, steps done at places 0 to 33: {:?}", self.went_on_at.0);
+    }
+
+    /// Every code that the paper gives to a kind of call, 14 with them, has to occur.
+    pub fn report(&self, checks: &mut Checks) {
+        let due: [&[usize]; 4] = [
+            &[0, 1, 2, 3],
+            &[0, 1, 2, 4, 5, 6, 8, 9, 14],
+            &[0, 1, 2, 4, 5, 6, 10, 11, 14],
+            &[0, 20, 1, 2, 4, 5, 7, 12, 13, 14],
+        ];
+        let all = (0..4).all(|kind| due[kind].iter().all(|&code| self.codes[kind][code] > 0));
+        let _ = checks.hold("arbitrary: each code of each kind of call occurs", all, || "see the counts".to_string());
+        let deep = (1..=33).all(|place| self.went_on_at.0[place] > 0);
+        let _ = checks.hold("arbitrary: steps are done at each place", deep, || "see the counts".to_string());
+    }
+}
+
+/// One round of trials, each on memories of its own.
+pub fn round(seed: u64, checks: &mut Checks, counts: &mut Counts) {
+    let mut random = Random::new(seed ^ 0x00A5_B17A);
+    let mut valid = damage::valid(&mut random);
+    for trial in 0..TRIALS {
+        if trial % 50 == 0 {
+            valid = damage::valid(&mut random);
+        }
+        let mut bytes = match random.below(6) {
+            0 => damage::any(&mut random),
+            1 | 2 => damage::fitting(&mut random),
+            _ => valid.clone(),
+        };
+        if random.percent(85) {
+            damage::damage(&mut bytes, &mut random);
+        }
+        odd_lengths(&mut bytes, &mut random);
+        let _ = Trial::new(&bytes, checks, counts).run(&mut random);
+    }
+}
+
+/// Cuts or lengthens the memories now and then.
+fn odd_lengths(bytes: &mut Bytes, random: &mut Random) {
+    if random.one_in(12) {
+        bytes.control.resize(random.pick(&LENGTHS), random.next() as u8);
+    }
+    if random.one_in(12) {
+        bytes.area.resize(random.pick(&LENGTHS), random.next() as u8);
+    }
+}
+
+/// The same bytes at two places: one pair of memories ends at a guard page, the other starts at one.
+struct Trial<'a> {
+    ending: (Memory, Memory),
+    starting: (Memory, Memory),
+    before: Bytes,
+    checks: &'a mut Checks,
+    counts: &'a mut Counts,
+}
+
+impl<'a> Trial<'a> {
+    fn new(bytes: &Bytes, checks: &'a mut Checks, counts: &'a mut Counts) -> Self {
+        let place = |side| (Memory::with(&bytes.control, side), Memory::with(&bytes.area, side));
+        let (ending, starting) = (place(Side::EndsAtGuard), place(Side::StartsAtGuard));
+        Trial { ending, starting, before: bytes.clone(), checks, counts }
+    }
+
+    fn run(&mut self, random: &mut Random) -> Result<(), Parted> {
+        for _ in 0..random.from_to(1, 24) {
+            let request = self.request(random);
+            self.call(request)?;
+        }
+        let kept =
+            [&self.ending, &self.starting].iter().all(|pair| pair.0.slack_untouched() && pair.1.slack_untouched());
+        self.checks.hold(OUTSIDE, kept, || "a byte beside a memory changed".to_string())
+    }
+
+    /// Mostly steps of tasks that have a request; any numbers now and then.
+    fn request(&self, random: &mut Random) -> Request {
+        let task = if random.one_in(8) { random.number() } else { random.below(8) };
+        match random.below(12) {
+            0 => Request::Start { tasks: if random.one_in(4) { random.below(10) } else { random.number() } },
+            1 => Request::Allocate { task, size: random.number() },
+            2 => Request::Free { task, unit: random.number() },
+            3 => Request::Free { task, unit: self.marked_unit(random) },
+            _ => Request::Step { task },
+        }
+    }
+
+    /// Mostly a unit whose mark is set.
+    fn marked_unit(&self, random: &mut Random) -> u64 {
+        let view = View { control: &self.before.control, area: &self.before.area };
+        let first = random.below(8192);
+        let marked = |unit: &u64| view.control.len() == 8192 && view.mark(*unit as usize);
+        (first..8192).find(marked).unwrap_or(first / 32 * 32)
+    }
+
+    fn call(&mut self, request: Request) -> Result<(), Parted> {
+        let place = self.place(request);
+        let answer = library::call(&mut self.ending.0, &mut self.ending.1, request);
+        let step = matches!(request, Request::Step { .. });
+        self.starting.1.writable(step);
+        let again = library::call(&mut self.starting.0, &mut self.starting.1, request);
+        self.starting.1.writable(true);
+        let same = answer == again
+            && self.ending.0.bytes() == self.starting.0.bytes()
+            && self.ending.1.bytes() == self.starting.1.bytes();
+        self.checks.hold(SAME, same, || format!("{request:?}: {answer:?} and {again:?}"))?;
+        self.check_answer(request, answer)?;
+        self.count(request, answer, place);
+        self.check_bytes(request, answer)?;
+        self.before.control.copy_from_slice(self.ending.0.bytes());
+        self.before.area.copy_from_slice(self.ending.1.bytes());
+        Ok(())
+    }
+
+    /// The place of the task that steps, where the memory has one.
+    fn place(&self, request: Request) -> usize {
+        match request {
+            Request::Step { task } if task < 8 && self.before.control.len() == 8192 => {
+                layout::get(&self.before.control, layout::TASK_PLACE, task as usize).min(33) as usize
+            }
+            _ => 0,
+        }
+    }
+
+    fn check_answer(&mut self, request: Request, answer: Answer) -> Result<(), Parted> {
+        let codes: &[u64] = match request {
+            Request::Start { .. } => &[0, 1, 2, 3],
+            Request::Allocate { .. } => &[0, 1, 2, 4, 5, 6, 8, 9, 14],
+            Request::Free { .. } => &[0, 1, 2, 4, 5, 6, 10, 11, 14],
+            Request::Step { .. } => &[0, 20, 1, 2, 4, 5, 7, 12, 13, 14],
+        };
+        self.checks.hold(CODE, codes.contains(&answer.0), || format!("{request:?}: {answer:?}"))?;
+        let due = expected::code(&self.before, request);
+        let as_due = match due {
+            Some(code) => answer.0 == code,
+            None => !matches!(answer.0, 1..=11),
+        };
+        self.checks.hold(DUE, as_due, || format!("{request:?}: {answer:?} where {due:?} is due"))?;
+        let value = if answer.0 == 20 { answer.1 < 8192 } else { answer.1 == 0 };
+        self.checks.hold(VALUE, value, || format!("{request:?}: {answer:?}"))
+    }
+
+    fn count(&mut self, request: Request, answer: Answer, place: usize) {
+        let kind = match request {
+            Request::Start { .. } => 0,
+            Request::Allocate { .. } => 1,
+            Request::Free { .. } => 2,
+            Request::Step { .. } => 3,
+        };
+        self.counts.codes[kind][answer.0 as usize] += 1;
+        if kind == 3 {
+            match answer.0 {
+                14 => self.counts.fourteen_at.0[place] += 1,
+                0 | 12 | 13 | 20 => self.counts.went_on_at.0[place] += 1,
+                _ => (),
+            }
+        }
+    }
+
+    fn check_bytes(&mut self, request: Request, answer: Answer) -> Result<(), Parted> {
+        let (control, area) = (self.ending.0.bytes(), self.ending.1.bytes());
+        let area_same = area == self.before.area;
+        if matches!(answer.0, 1..=11 | 14) {
+            let same = area_same && control == self.before.control;
+            return self.checks.hold(UNCHANGED, same, || format!("{request:?}: {answer:?}"));
+        }
+        match request {
+            Request::Start { tasks } => {
+                let mut fresh = Memory::with(&[0; 8192], Side::EndsAtGuard);
+                library::call(&mut fresh, &mut self.starting.1, Request::Start { tasks });
+                let same = fresh.bytes() == control;
+                self.checks.hold(IMAGE, same, || format!("{request:?}"))?;
+                self.checks.hold(AREA_KEPT, area_same, || format!("{request:?}"))
+            }
+            Request::Step { task } => {
+                let place = layout::get(&self.before.control, layout::TASK_PLACE, task as usize) as usize;
+                let own = frames::step_changed_its_own(&self.before.control, control, task as usize, place);
+                self.checks.hold(STEP_OWN, own, || format!("{request:?} at place {place}: {answer:?}"))?;
+                let one = area_same || one_link(&self.before.area, area);
+                self.checks.hold(ONE_LINK, one, || format!("{request:?}: {answer:?}"))
+            }
+            _ => {
+                let own = expected::beginning_changed_its_own(&self.before.control, control, request);
+                self.checks.hold(OWN, own, || format!("{request:?}"))?;
+                self.checks.hold(AREA_KEPT, area_same, || format!("{request:?}"))
+            }
+        }
+    }
+}
+
+/// Whether all changed bytes are among the first four of one unit.
+fn one_link(before: &[u8], after: &[u8]) -> bool {
+    let mut changed = (0..before.len()).filter(|&byte| before[byte] != after[byte]);
+    let first = changed.next().unwrap_or(0);
+    first % 8 < 4 && changed.all(|byte| byte / 8 == first / 8 && byte % 8 < 4)
+}

@@ -1,0 +1,267 @@
+//! The two runs side by side: each call goes to the plain pool and to the library, and everything that the paper lets
+//! a caller see is compared after it.
+
+use crate::checks::{Checks, Parted};
+use crate::classes::{block, UNIT};
+use crate::coverage::Coverage;
+use crate::faults::Fault;
+use crate::layout::View;
+use crate::library;
+use crate::lists::LISTS;
+use crate::memory::{Memory, Side};
+use crate::pool::{Answer, Call, Place, Pool, Request, ALL_UNITS, CONTROL};
+use crate::random::Random;
+use crate::structure;
+
+pub const ANSWERS: &str = "answers of library and plain pool agree";
+pub const NO_14: &str = "14 does not occur in a run";
+pub const UNCHANGED: &str = "a refused call changes no byte of either memory";
+pub const HELD: &str = "a block in a user's hands is touched by no call";
+pub const ONE_LINK: &str = "a step writes at most one link of the area, a start or a beginning none";
+pub const OUTSIDE: &str = "bytes outside the two memories are as they were";
+
+/// A block in a user's hands.
+#[derive(Clone, Copy, Debug)]
+pub struct Held {
+    pub unit: u64,
+    pub class: usize,
+    /// The task that allocated it.
+    pub task: u64,
+}
+
+pub struct Driver<'a> {
+    pub pool: Pool,
+    pub control: Memory,
+    pub area: Memory,
+    control_before: Vec<u8>,
+    area_before: Vec<u8>,
+    pub held: Vec<Held>,
+    /// For each unit of the area, whether it lies in a held block.
+    covered: Vec<bool>,
+    pub tags_at_start: [u32; LISTS],
+    pub checks: &'a mut Checks,
+    pub coverage: &'a mut Coverage,
+    pub random: Random,
+    /// The numbers of the last calls, for the message of a failure.
+    recent: Vec<Call>,
+}
+
+impl<'a> Driver<'a> {
+    /// A control memory of zeros, "such a pool" that is not started, and an area of random bytes.
+    pub fn new(regions: u64, seed: u64, fault: Fault, checks: &'a mut Checks, coverage: &'a mut Coverage) -> Self {
+        let mut random = Random::new(seed);
+        let control = Memory::with(&[0; CONTROL as usize], Side::EndsAtGuard);
+        let mut area = Memory::new(regions as usize * 4096, Side::EndsAtGuard);
+        random.fill(area.bytes_mut());
+        Driver {
+            pool: Pool::new(fault),
+            control_before: control.bytes().to_vec(),
+            area_before: area.bytes().to_vec(),
+            control,
+            area,
+            held: Vec::new(),
+            covered: vec![false; ALL_UNITS],
+            tags_at_start: [0; LISTS],
+            checks,
+            coverage,
+            random,
+            recent: Vec::new(),
+        }
+    }
+
+    /// A call with the true lengths.
+    pub fn ask(&mut self, request: Request) -> Result<Answer, Parted> {
+        self.call(Call { control: CONTROL, area: self.area.len() as u64, request })
+    }
+
+    /// One call of both, compared.
+    pub fn call(&mut self, call: Call) -> Result<Answer, Parted> {
+        self.remember(call);
+        let place = self.place_of(call.request);
+        let busy = self.pool.tasks.iter().any(|task| task.place != Place::Idle);
+        let expected = self.pool.call(&call);
+        if call.control != CONTROL || call.area != self.area.len() as u64 {
+            self.call_with_other_lengths(call, expected)?;
+        } else {
+            let answer = library::call(&mut self.control, &mut self.area, call.request);
+            self.compare_answers(call, answer, expected)?;
+            self.compare_memories(call, expected)?;
+        }
+        self.coverage.count(call.request, place, self.pool.event, expected);
+        self.count_more(call, place, busy, expected);
+        self.follow(call.request, place, expected);
+        Ok(expected)
+    }
+
+    fn count_more(&mut self, call: Call, place: Place, busy: bool, answer: Answer) {
+        match (call.request, answer.0) {
+            (Request::Start { tasks }, 0) => {
+                self.coverage.restarts_under_way += u64::from(busy);
+                self.coverage.count_start(tasks, call.area / 4096);
+            }
+            (Request::Step { task }, 0) => {
+                let class = self.pool.tasks[task as usize].class;
+                self.coverage.count_class(place, self.pool.event, class);
+            }
+            _ => (),
+        }
+    }
+
+    fn remember(&mut self, call: Call) {
+        if self.recent.len() == 12 {
+            self.recent.remove(0);
+        }
+        self.recent.push(call);
+    }
+
+    fn place_of(&self, request: Request) -> Place {
+        match request {
+            Request::Step { task } if task < 8 => self.pool.tasks[task as usize].place,
+            _ => Place::Idle,
+        }
+    }
+
+    fn compare_answers(&mut self, call: Call, answer: Answer, expected: Answer) -> Result<(), Parted> {
+        let recent = &self.recent;
+        self.checks.hold(ANSWERS, answer == expected, || {
+            format!("{call:?}: library {answer:?}, plain pool {expected:?}; last calls {recent:?}")
+        })?;
+        self.checks.hold(NO_14, answer.0 != 14, || format!("{call:?}"))
+    }
+
+    /// Compares both memories with what they were before the call, then keeps them as they are now.
+    fn compare_memories(&mut self, call: Call, expected: Answer) -> Result<(), Parted> {
+        let changed = changed_bytes(&self.area_before, self.area.bytes());
+        if (1..=11).contains(&expected.0) {
+            let same = changed.is_empty() && self.control_before == self.control.bytes();
+            return self.checks.hold(UNCHANGED, same, || format!("{call:?}"));
+        }
+        let covered = &self.covered;
+        let untouched = changed.iter().all(|&byte| !covered[byte / UNIT as usize]);
+        self.checks.hold(HELD, untouched, || format!("{call:?} changes bytes {changed:?}"))?;
+        let step = matches!(call.request, Request::Step { .. });
+        let one = changed.iter().all(|&byte| step && byte % 8 < 4 && byte / 8 == changed[0] / 8);
+        self.checks.hold(ONE_LINK, one, || format!("{call:?} changes bytes {changed:?}"))?;
+        self.control_before.copy_from_slice(self.control.bytes());
+        for byte in changed {
+            self.area_before[byte] = self.area.bytes()[byte];
+        }
+        Ok(())
+    }
+
+    /// A call that is lent memories of other lengths. The plain pool says whether it is an accepted start, which is
+    /// the only such call that may change anything.
+    fn call_with_other_lengths(&mut self, call: Call, expected: Answer) -> Result<(), Parted> {
+        let side = if self.random.one_in(2) { Side::EndsAtGuard } else { Side::StartsAtGuard };
+        let control_bytes = stretched(self.control.bytes(), call.control as usize, &mut self.random);
+        let area_bytes = stretched(self.area.bytes(), call.area as usize, &mut self.random);
+        let mut control = Memory::with(&control_bytes, side);
+        let mut area = Memory::with(&area_bytes, side);
+        let answer = library::call(&mut control, &mut area, call.request);
+        self.compare_answers(call, answer, expected)?;
+        let kept = control.slack_untouched() && area.slack_untouched();
+        self.checks.hold(OUTSIDE, kept, || format!("{call:?}"))?;
+        self.checks.hold(ONE_LINK, area.bytes() == area_bytes, || format!("{call:?}"))?;
+        if expected.0 != 0 {
+            return self.checks.hold(UNCHANGED, control.bytes() == control_bytes, || format!("{call:?}"));
+        }
+        self.coverage.other_length_starts += 1;
+        self.control_before = control.bytes().to_vec();
+        self.area_before = area_bytes;
+        self.control = control;
+        self.area = area;
+        Ok(())
+    }
+
+    /// What the users do after an answer: they take note of what they hold and fill each new block.
+    fn follow(&mut self, request: Request, place: Place, answer: Answer) {
+        match (request, answer.0) {
+            (Request::Start { .. }, 0) => {
+                self.held.clear();
+                self.covered.fill(false);
+                self.tags_at_start = [0; LISTS];
+            }
+            (Request::Free { task, unit }, 0) => self.give_back(task, unit),
+            (Request::Step { task }, 20) if place == Place::AllocateCache => self.receive(task, answer.1),
+            _ => (),
+        }
+    }
+
+    fn give_back(&mut self, task: u64, unit: u64) {
+        let Some(index) = self.held.iter().position(|held| held.unit == unit) else { return };
+        let held = self.held.swap_remove(index);
+        self.coverage.freed_by_another += u64::from(held.task != task);
+        self.cover(held, false);
+    }
+
+    fn receive(&mut self, task: u64, unit: u64) {
+        let held = Held { unit, class: self.pool.tasks[task as usize].class, task };
+        self.held.push(held);
+        self.cover(held, true);
+        self.user_fills(self.held.len() - 1);
+    }
+
+    fn cover(&mut self, held: Held, covered: bool) {
+        let first = held.unit as usize;
+        self.covered[first..first + (block(held.class) / UNIT) as usize].fill(covered);
+    }
+
+    /// A user writes arbitrary bytes into the whole of a block that it holds.
+    pub fn user_fills(&mut self, index: usize) {
+        let held = self.held[index];
+        let first = (held.unit * UNIT) as usize;
+        let bytes = first..first + block(held.class) as usize;
+        self.random.fill(&mut self.area_before[bytes.clone()]);
+        self.area.bytes_mut()[bytes.clone()].copy_from_slice(&self.area_before[bytes]);
+        self.coverage.writes += 1;
+    }
+
+    /// Sets the tags of all lists just after a start, as if the lists had seen that many won exchanges.
+    pub fn set_tags(&mut self, tags: [u32; LISTS]) {
+        for (list, tag) in tags.iter().enumerate() {
+            let word = crate::layout::get(self.control.bytes(), crate::layout::HEAD, list) & 0xFFFF_FFFF;
+            crate::layout::set(self.control.bytes_mut(), crate::layout::HEAD, list, word | u64::from(*tag) << 32);
+        }
+        self.control_before.copy_from_slice(self.control.bytes());
+        self.tags_at_start = tags;
+    }
+
+    /// Compares structure, by the documents of the layout.
+    pub fn compare_structure(&mut self) -> Result<(), Parted> {
+        if self.pool.started_tasks == 0 {
+            return Ok(());
+        }
+        self.coverage.comparisons += 1;
+        let view = View { control: self.control.bytes(), area: self.area.bytes() };
+        let pool = &self.pool;
+        self.checks.agree("structure: each task's place", structure::places(pool, &view))?;
+        self.checks.agree("structure: each list's items", structure::lists(pool, &view))?;
+        self.checks.agree("structure: open regions and classes", structure::open_regions(pool, &view))?;
+        self.checks.agree("structure: chains in order", structure::chains(pool, &view))?;
+        self.checks.agree("structure: caches as rows", structure::caches(pool, &view))?;
+        self.checks.agree("structure: marks", structure::marks(pool, &view))?;
+        self.checks.agree("structure: each block's holder, once", structure::holders(pool, &view))?;
+        self.checks.agree("structure: bytes of control outside the fields are zero", structure::gaps(&view))?;
+        self.checks.agree("structure: tags", structure::tags(pool, &view, &self.tags_at_start))
+    }
+}
+
+/// The places of the bytes that differ, found a page at a time.
+fn changed_bytes(before: &[u8], after: &[u8]) -> Vec<usize> {
+    let mut changed = Vec::new();
+    for (page, (old, new)) in before.chunks(4096).zip(after.chunks(4096)).enumerate() {
+        if old != new {
+            changed.extend((0..old.len()).filter(|&byte| old[byte] != new[byte]).map(|byte| page * 4096 + byte));
+        }
+    }
+    changed
+}
+
+/// The bytes cut or lengthened to this length; "further bytes may be any".
+fn stretched(bytes: &[u8], length: usize, random: &mut Random) -> Vec<u8> {
+    let mut row = vec![0; length];
+    random.fill(&mut row);
+    let common = length.min(bytes.len());
+    row[..common].copy_from_slice(&bytes[..common]);
+    row
+}

@@ -1,0 +1,85 @@
+//! The paper's sentence on 14, clause by clause: in a state in the middle of a run one value that the next step has to
+//! read is made bad, and the step has to answer 14 and leave every byte as it is.
+//!
+//! "14 a value read for this call is outside its field's range, or names none, or no block of the class, where one is
+//! due; a count would pass n; an anchor to take a chain from is FULL, or PARTIAL with count 0; or a link is outside 0 to
+//! n - 1 while more blocks are due."
+
+use crate::checks::Checks;
+use crate::coverage::Coverage;
+use crate::damage::Bytes;
+use crate::driver::Driver;
+use crate::faults::Fault;
+use crate::fourteen_cases::{Case, CASES};
+use crate::library;
+use crate::memory::{Memory, Side};
+use crate::pool::Request;
+use crate::schedules::Schedule;
+use crate::styles;
+use std::collections::BTreeMap;
+
+/// How often each case was tried at each place.
+pub type Tried = BTreeMap<(&'static str, usize), u64>;
+const AT_MOST: u64 = 12;
+const STYLES: [&str; 5] = [
+    "few regions, large blocks",
+    "few blocks, quick changes",
+    "fill, empty, other class",
+    "one region, many tasks",
+    "small blocks, long chains",
+];
+
+/// Runs schedules and tries each case in states where it applies.
+pub fn round(seed: u64, checks: &mut Checks, tried: &mut Tried) {
+    for (number, name) in STYLES.iter().enumerate() {
+        let (mut own_checks, mut coverage) = (Checks::default(), Coverage::default());
+        let seed = seed.wrapping_mul(31).wrapping_add(number as u64);
+        let mut driver = Driver::new(1, seed, Fault::None, &mut own_checks, &mut coverage);
+        let style = styles::named(name);
+        let mut schedule = Schedule::new(&mut driver, style);
+        // A disagreement here is found and counted by the schedules themselves.
+        let _ = schedule.start();
+        for _ in 0..700 {
+            let _ = schedule.some(8);
+            try_all(schedule.driver, checks, tried);
+        }
+    }
+}
+
+/// Tries the cases that belong to the place of each task.
+fn try_all(driver: &Driver, checks: &mut Checks, tried: &mut Tried) {
+    let bytes = Bytes { control: driver.control.bytes().to_vec(), area: driver.area.bytes().to_vec() };
+    for task in 0..driver.pool.started_tasks as usize {
+        let place = driver.pool.tasks[task].place.number();
+        for case in CASES.iter().filter(|case| case.places.contains(&place)) {
+            let times = tried.entry((case.name, place)).or_default();
+            let mut damaged = bytes.clone();
+            if *times < AT_MOST && (case.change)(&mut damaged, task, place) {
+                *times += 1;
+                expect_14(case, &damaged, task, place, checks);
+            }
+        }
+    }
+}
+
+fn expect_14(case: &Case, bytes: &Bytes, task: usize, place: usize, checks: &mut Checks) {
+    let mut control = Memory::with(&bytes.control, Side::EndsAtGuard);
+    let mut area = Memory::with(&bytes.area, Side::EndsAtGuard);
+    let answer = library::call(&mut control, &mut area, Request::Step { task: task as u64 });
+    let name = format!("14: {}", case.name);
+    let _ = checks.hold(&name, answer == (14, 0), || format!("at place {place}: {answer:?}"));
+    let same = control.bytes() == bytes.control && area.bytes() == bytes.area;
+    let _ = checks.hold("14: no byte changes", same || answer.0 != 14, || format!("{} at place {place}", case.name));
+}
+
+/// Each case has to have been tried at each of its places.
+pub fn report(tried: &Tried, checks: &mut Checks) {
+    let missing: Vec<String> = CASES
+        .iter()
+        .flat_map(|case| case.places.iter().map(move |place| (case.name, *place)))
+        .filter(|key| tried.get(key).copied().unwrap_or(0) == 0)
+        .map(|(name, place)| format!("{name} at {place}"))
+        .collect();
+    let _ = checks.hold("covered: 14 for each clause at each of its places", missing.is_empty(), || missing.join("; "));
+    println!("14 by clause: {} clauses, {} states", CASES.len(), tried.values().sum::<u64>());
+}

@@ -1,0 +1,191 @@
+//! Tests of the block pool from outside: the static library against a plain pool written from the paper alone.
+
+mod arbitrary;
+mod checks;
+mod classes;
+mod collisions;
+mod coverage;
+mod damage;
+mod directed;
+mod driver;
+mod expected;
+mod faults;
+mod fourteen;
+mod fourteen_cases;
+mod frames;
+mod layout;
+mod library;
+mod lists;
+mod memory;
+mod pool;
+mod random;
+mod refusals;
+mod schedules;
+mod stand;
+mod stand_test;
+mod steps;
+mod structure;
+mod styles;
+mod tamper;
+
+use checks::{Checks, Parted};
+use coverage::Coverage;
+use driver::Driver;
+use faults::Fault;
+use schedules::Schedule;
+use std::time::{Duration, Instant};
+use styles::STYLES;
+
+/// What the arguments ask for. Without `--seconds` the amount of work is fixed.
+struct Options {
+    seed: u64,
+    seconds: Option<u64>,
+    fault: Fault,
+    fault_name: String,
+    /// The stand program, where it has been built.
+    stand: Option<String>,
+}
+
+const FIXED_ROUNDS: u64 = 16;
+type Directed = fn(&mut Driver) -> Result<(), Parted>;
+const DIRECTED: [Directed; 11] = [
+    directed::first_allocations,
+    directed::bench_refusals,
+    directed::every_size,
+    directed::each_class,
+    directed::no_descriptor,
+    directed::transfers_in_turn,
+    directed::tags_that_wrap,
+    directed::same_item_again,
+    collisions::same_region_again,
+    collisions::descriptor_moves_on,
+    collisions::same_first_block_again,
+];
+
+fn usage() -> ! {
+    eprintln!("usage: outside [--seed N] [--seconds N] [--stand PROGRAM] [--fault NAME] [--list-faults]");
+    std::process::exit(2)
+}
+
+fn options() -> Options {
+    let mut options = Options { seed: 1, seconds: None, fault: Fault::None, fault_name: String::new(), stand: None };
+    let mut words = std::env::args().skip(1);
+    while let Some(word) = words.next() {
+        if word == "--list-faults" {
+            faults::FAULTS.iter().for_each(|(_, name, what)| println!("{name}\t{what}"));
+            std::process::exit(0)
+        }
+        let value = words.next().unwrap_or_else(|| usage());
+        match word.as_str() {
+            "--seed" => options.seed = value.parse().unwrap_or_else(|_| usage()),
+            "--seconds" => options.seconds = Some(value.parse().unwrap_or_else(|_| usage())),
+            "--stand" => options.stand = Some(value),
+            "--fault" => {
+                options.fault = faults::named(&value).unwrap_or_else(|| usage());
+                options.fault_name = value;
+            }
+            _ => usage(),
+        }
+    }
+    options
+}
+
+/// How many schedules a round has: every written one, then every style.
+fn schedules_of_a_round() -> usize {
+    DIRECTED.len() + STYLES.len()
+}
+
+/// One schedule on a fresh driver. A schedule ends at its first failure, which the checks keep.
+fn schedule(options: &Options, round: u64, index: usize, checks: &mut Checks, coverage: &mut Coverage) {
+    let seed = options.seed.wrapping_mul(1_000_003).wrapping_add(round * 64 + index as u64);
+    let style = index.checked_sub(DIRECTED.len()).map(|index| &STYLES[index]);
+    checks.context =
+        format!("round {round}, {}", style.map_or(format!("written schedule {index}"), |style| style.name.into()));
+    let mut driver = Driver::new(1 + seed % 16, seed, options.fault, checks, coverage);
+    let _ = match style {
+        Some(style) => Schedule::new(&mut driver, style).run(),
+        None => DIRECTED[index](&mut driver),
+    };
+}
+
+/// The round's calls on arbitrary and on damaged memories.
+fn memories(
+    options: &Options,
+    round: u64,
+    checks: &mut Checks,
+    arbitrary: &mut arbitrary::Counts,
+    tried: &mut fourteen::Tried,
+) {
+    checks.context = format!("round {round}, arbitrary memories");
+    arbitrary::round(options.seed.wrapping_add(round << 32), checks, arbitrary);
+    fourteen::round(options.seed.wrapping_add(round), checks, tried);
+}
+
+/// Runs with a fault stop at the first failure and say which check made it. Where the fault leads the plain pool into
+/// a state that it cannot go on from, nothing was compared there, so that does not count as caught.
+fn run_fault(options: &Options) -> bool {
+    let (mut checks, mut coverage) = (Checks::default(), Coverage::default());
+    let (mut arbitrary, mut tried) = (arbitrary::Counts::default(), fourteen::Tried::new());
+    std::panic::set_hook(Box::new(|_| ()));
+    let _ = tamper::TAMPERING.set(options.fault);
+    for number in 0..FIXED_ROUNDS {
+        for index in 0..schedules_of_a_round() {
+            let body = || {
+                schedule(options, number, index, &mut checks, &mut coverage);
+                if index + 1 == schedules_of_a_round() {
+                    memories(options, number, &mut checks, &mut arbitrary, &mut tried);
+                }
+            };
+            let _ = std::panic::catch_unwind(std::panic::AssertUnwindSafe(body));
+            if let Some((check, message)) = checks.first_failure() {
+                let short: String = message.split("; last calls").next().unwrap_or("").chars().take(200).collect();
+                println!("{}\t{}\t{}\t{}", options.fault_name, check, coverage.calls, short);
+                return true;
+            }
+        }
+    }
+    println!("{}\tNOT CAUGHT\t{}\t", options.fault_name, coverage.calls);
+    false
+}
+
+/// The checks that need no round: the table of classes and the stand.
+fn once(options: &Options, checks: &mut Checks) {
+    let _ = checks.agree("table of classes is the paper's series", classes::agrees_with_the_paper());
+    stand_test::by_itself(checks);
+    match &options.stand {
+        Some(program) => stand_test::against_program(program, options.seed, checks),
+        None => println!("skipped: the stand program has not been built, so its output is not compared"),
+    }
+}
+
+fn main() {
+    let options = options();
+    memory::catch_faults();
+    if options.fault != Fault::None {
+        std::process::exit(if run_fault(&options) { 0 } else { 1 });
+    }
+    let (mut checks, mut coverage) = (Checks::default(), Coverage::default());
+    let (mut arbitrary, mut tried) = (arbitrary::Counts::default(), fourteen::Tried::new());
+    let begun = Instant::now();
+    once(&options, &mut checks);
+    let mut number = 0;
+    let goes_on = |number: u64| match options.seconds {
+        Some(seconds) => begun.elapsed() < Duration::from_secs(seconds),
+        None => number < FIXED_ROUNDS,
+    };
+    while number == 0 || goes_on(number) {
+        for index in 0..schedules_of_a_round() {
+            schedule(&options, number, index, &mut checks, &mut coverage);
+        }
+        memories(&options, number, &mut checks, &mut arbitrary, &mut tried);
+        number += 1;
+    }
+    checks.context = "all rounds".to_string();
+    coverage.print();
+    coverage.report(&mut checks);
+    arbitrary.print();
+    arbitrary.report(&mut checks);
+    fourteen::report(&tried, &mut checks);
+    println!("rounds: {number}; seed: {}", options.seed);
+    std::process::exit(if checks.report() { 0 } else { 1 })
+}

@@ -1,0 +1,286 @@
+//! The plain pool of the paper: "The whole run is this plain pool, without links or head words. It is fed only each
+//! call's numbers and the lengths lent."
+
+use crate::classes::{class_of, per_region, units, CLASSES, REGION, UNITS_PER_REGION};
+use crate::faults::Fault;
+use crate::lists::{HeadNote, List, Move, Phase, LISTS, SPARE_DESCRIPTORS, SPARE_REGIONS};
+use std::collections::VecDeque;
+
+pub const CONTROL: u64 = 8192;
+pub const TASKS: usize = 8;
+pub const DESCRIPTORS: usize = 64;
+pub const REGIONS: usize = 16;
+pub const ALL_UNITS: usize = 8192;
+
+/// Code and value.
+pub type Answer = (u64, u64);
+
+#[derive(Clone, Copy, PartialEq, Eq, Debug)]
+pub enum State {
+    Empty,
+    Partial,
+    Full,
+}
+
+/// "each descriptor's state, region, class and chain, a row of blocks". A block of a chain is its index in the region.
+#[derive(Clone, Debug)]
+pub struct Descriptor {
+    pub state: State,
+    pub region: usize,
+    pub class: usize,
+    pub chain: VecDeque<u64>,
+    /// How often the anchor was written, for the counts of what was covered and for one deliberate fault.
+    pub changes: u64,
+}
+
+/// A task's place in the step list: the next step that it does.
+#[derive(Clone, Copy, PartialEq, Eq, Debug)]
+pub enum Place {
+    Idle,
+    AllocateCache,
+    List(Move, Phase),
+    ReadAnchor,
+    TakeChain,
+    MoveChain,
+    WriteDescriptor,
+    Carve,
+    FreeCache,
+    Group,
+    ReadAnchorToReturn,
+    LastLink,
+    ReturnGroup,
+    ClearMap,
+}
+
+impl Place {
+    /// The places by number, 0 for idle and 1 to 33 in the step list, as the documents of the layout count them.
+    pub fn number(self) -> usize {
+        match self {
+            Place::Idle => 0,
+            Place::AllocateCache => 1,
+            Place::List(what, phase) => 2 + 3 * what as usize + phase as usize,
+            Place::ReadAnchor => 23,
+            Place::TakeChain => 24,
+            Place::MoveChain => 25,
+            Place::WriteDescriptor => 26,
+            Place::Carve => 27,
+            Place::FreeCache => 28,
+            Place::Group => 29,
+            Place::ReadAnchorToReturn => 30,
+            Place::LastLink => 31,
+            Place::ReturnGroup => 32,
+            Place::ClearMap => 33,
+        }
+    }
+
+    pub fn is_exchange(self) -> bool {
+        matches!(self, Place::List(_, Phase::Exchange) | Place::TakeChain | Place::ReturnGroup)
+    }
+
+    /// Where a task that stands still lets others change what it is about to write.
+    pub fn is_worth_a_stop(self) -> bool {
+        self.is_exchange() || matches!(self, Place::ClearMap | Place::WriteDescriptor)
+    }
+}
+
+/// "An anchor read notes the state and the chain's first block, if any, and length."
+#[derive(Clone, Copy, PartialEq, Eq, Debug)]
+pub struct AnchorNote {
+    pub state: State,
+    pub first: Option<u64>,
+    pub length: usize,
+}
+
+/// What a task has under way, in blocks of the region that it has in hand.
+#[derive(Clone, PartialEq, Eq, Debug)]
+pub enum Under {
+    Nothing,
+    Chain(VecDeque<u64>),
+    Carving(u64),
+    Group(VecDeque<u64>),
+}
+
+/// "each task's request, place in the step list, what it noted and what it has under way".
+#[derive(Clone, Debug)]
+pub struct Task {
+    pub place: Place,
+    pub class: usize,
+    /// The block that a free gives back.
+    pub unit: u64,
+    pub head: HeadNote,
+    pub anchor: AnchorNote,
+    pub changes: u64,
+    pub descriptor: usize,
+    pub region: usize,
+    pub under: Under,
+    pub was_full: bool,
+    pub emptied: bool,
+}
+
+/// What a step decided, for the counts of what was covered.
+#[derive(Clone, Copy, PartialEq, Eq, Debug)]
+pub enum Event {
+    None,
+    Won,
+    Lost,
+    /// Lost though the item that was read is on top again, or the block that was read is the chain's first again.
+    LostSameTop,
+    FoundEmpty,
+    AnchorEmpty,
+    /// The anchor's state before and after, and whether it had changed since it was read and come back.
+    Returned(State, State, bool),
+}
+
+#[derive(Clone)]
+pub struct Pool {
+    /// "It keeps the started number of tasks and area length"; 0 tasks while the pool is not started.
+    pub started_tasks: u64,
+    pub area_length: u64,
+    pub lists: Vec<List>,
+    pub descriptors: Vec<Descriptor>,
+    pub map: Vec<Option<usize>>,
+    /// The cache of each task and class, a row of units with the top last.
+    pub caches: Vec<Vec<Vec<u64>>>,
+    /// "the blocks in users' hands": by first unit.
+    pub marks: Vec<bool>,
+    pub tasks: Vec<Task>,
+    pub event: Event,
+    pub fault: Fault,
+}
+
+/// One call: its numbers and the lengths lent.
+#[derive(Clone, Copy, PartialEq, Eq, Debug)]
+pub enum Request {
+    Start { tasks: u64 },
+    Allocate { task: u64, size: u64 },
+    Free { task: u64, unit: u64 },
+    Step { task: u64 },
+}
+
+#[derive(Clone, Copy, PartialEq, Eq, Debug)]
+pub struct Call {
+    pub control: u64,
+    pub area: u64,
+    pub request: Request,
+}
+
+impl Pool {
+    /// A pool that is not started.
+    pub fn new(fault: Fault) -> Pool {
+        let anchor = AnchorNote { state: State::Empty, first: None, length: 0 };
+        let task = Task {
+            place: Place::Idle,
+            class: 0,
+            unit: 0,
+            head: HeadNote::default(),
+            anchor,
+            changes: 0,
+            descriptor: 0,
+            region: 0,
+            under: Under::Nothing,
+            was_full: false,
+            emptied: false,
+        };
+        let descriptor = Descriptor { state: State::Empty, region: 0, class: 0, chain: VecDeque::new(), changes: 0 };
+        Pool {
+            started_tasks: 0,
+            area_length: 0,
+            lists: vec![List::default(); LISTS],
+            descriptors: vec![descriptor; DESCRIPTORS],
+            map: vec![None; REGIONS],
+            caches: vec![vec![Vec::new(); CLASSES]; TASKS],
+            marks: vec![false; ALL_UNITS],
+            tasks: vec![task; TASKS],
+            event: Event::None,
+            fault,
+        }
+    }
+
+    /// "a call that the tests below refuse changes nothing".
+    pub fn call(&mut self, call: &Call) -> Answer {
+        self.event = Event::None;
+        let refusal = self.refusal(call);
+        if refusal != 0 {
+            return (refusal, 0);
+        }
+        match call.request {
+            Request::Start { tasks } => self.start(tasks, call.area),
+            Request::Allocate { task, size } => self.begin_allocate(task as usize, size),
+            Request::Free { task, unit } => self.begin_free(task as usize, unit),
+            Request::Step { task } => self.step(task as usize),
+        }
+    }
+
+    /// "A start may come at any time and begins a new run: tasks idle, caches and partial lists empty, tags 0, marks
+    /// clear, map entries none, both spare lists rising from item 0 on top."
+    fn start(&mut self, tasks: u64, area_length: u64) -> Answer {
+        let earlier = std::mem::replace(self, Pool::new(self.fault));
+        self.started_tasks = tasks;
+        self.area_length = area_length;
+        self.lists[SPARE_DESCRIPTORS].row = (0..DESCRIPTORS).collect();
+        self.lists[SPARE_REGIONS].row = (0..(area_length / REGION) as usize).collect();
+        match self.fault {
+            Fault::StartKeepsMarks => self.marks = earlier.marks,
+            Fault::StartKeepsTasks => self.tasks = earlier.tasks,
+            _ => (),
+        }
+        (0, 0)
+    }
+
+    /// "Beginning a request does no step."
+    fn begin_allocate(&mut self, task: usize, size: u64) -> Answer {
+        self.tasks[task].class = class_of(size);
+        if size == 17 && self.fault == Fault::ClassAt17 {
+            self.tasks[task].class = class_of(32);
+        }
+        self.go(task, Place::AllocateCache)
+    }
+
+    /// "Beginning a free clears the block's mark; any task may free."
+    fn begin_free(&mut self, task: usize, unit: u64) -> Answer {
+        let region = (unit / UNITS_PER_REGION) as usize;
+        let descriptor = self.map[region].expect("the region is open");
+        self.tasks[task].class = self.descriptors[descriptor].class;
+        self.tasks[task].unit = unit;
+        self.marks[unit as usize] = self.fault == Fault::MarkNotCleared;
+        self.go(task, Place::FreeCache)
+    }
+
+    /// "A region is open while that descriptor names it back and its anchor is not EMPTY." Answers its descriptor.
+    pub fn open(&self, region: usize) -> Option<usize> {
+        self.map[region].filter(|&index| {
+            let descriptor = &self.descriptors[index];
+            let named_back = descriptor.region == region || self.fault == Fault::NotNamedBack;
+            named_back && descriptor.state != State::Empty
+        })
+    }
+
+    /// The class of the block of an open region that starts at this unit, if there is one.
+    pub fn block_at(&self, unit: u64) -> Option<usize> {
+        if unit >= self.area_length / 8 {
+            return None;
+        }
+        let descriptor = self.open((unit / UNITS_PER_REGION) as usize)?;
+        let class = self.descriptors[descriptor].class;
+        let offset = unit % UNITS_PER_REGION;
+        let starts = offset % units(class) == 0 && offset / units(class) < per_region(class);
+        starts.then_some(class)
+    }
+
+    pub fn go(&mut self, task: usize, place: Place) -> Answer {
+        self.tasks[task].place = place;
+        (0, 0)
+    }
+
+    /// A request's end: "with value 0, make the change of their step and leave the task idle".
+    pub fn end(&mut self, task: usize, code: u64) -> Answer {
+        self.tasks[task].place = Place::Idle;
+        (code, 0)
+    }
+
+    /// "Code 0 is accepted or still under way, 20 finished; the value is the unit of a finished allocation, else 0."
+    pub fn finish(&mut self, task: usize, value: u64) -> Answer {
+        self.tasks[task].place = Place::Idle;
+        (20, value)
+    }
+}

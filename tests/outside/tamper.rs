@@ -1,0 +1,84 @@
+//! Deliberate faults on the library's side of the comparison: after a true call the memories or the answer are changed
+//! as a broken library would leave them. They show that the checks on bytes notice what no fault of the plain pool
+//! can bring about.
+
+use crate::faults::Fault;
+use crate::layout::{self, View, TASK_PLACE};
+use crate::memory::Memory;
+use crate::pool::{Answer, Request};
+use std::sync::OnceLock;
+
+/// Set once, where the program is asked for a fault.
+pub static TAMPERING: OnceLock<Fault> = OnceLock::new();
+
+/// What a fault needs to know of the state before the call.
+pub struct Before {
+    /// The place of the task that steps.
+    place: u64,
+    /// A byte of control that a start has to write.
+    byte: u8,
+}
+
+const SKIPPED: usize = 8000;
+
+/// The call's answer and memories as the broken library would leave them.
+pub fn after(control: &mut Memory, area: &mut Memory, request: Request, before: Before, answer: Answer) -> Answer {
+    let Before { place, byte } = before;
+    let Some(fault) = TAMPERING.get() else { return answer };
+    let refused = matches!(answer.0, 1..=11 | 14);
+    let start = matches!(request, Request::Start { .. });
+    let step = matches!(request, Request::Step { .. });
+    match fault {
+        Fault::RefusedWritesControl if refused => flip(control, 7000),
+        Fault::RefusedWritesArea if refused => flip(area, 20),
+        Fault::StartWritesArea if start && !refused => flip(area, 100),
+        Fault::StartSkipsByte if start && !refused => control.bytes_mut()[SKIPPED] = byte,
+        Fault::BeginningWritesArea if !start && !step && !refused => flip(area, 6),
+        Fault::BeginningWritesOthers if !start && !step && !refused => flip(control, layout::TOP.first + 255),
+        Fault::StepTouchesHeld if place == 2 && !refused => flip_held(control, area),
+        Fault::StepWritesTwoLinks if place == 27 => flip(area, area.len() / 2 + 1),
+        Fault::LinkOfEightBytes if place == 27 => {
+            flip(area, layout::get(control.bytes(), layout::TOP, 15) as usize * 8 + 4)
+        }
+        Fault::WritesBehindArea => area.flip_behind(),
+        Fault::FourteenInRun if place == 30 => return (14, 0),
+        Fault::ValueUnderWay if place == 27 && answer.0 == 0 => return (0, 1),
+        Fault::BadLinkPassed if place == 25 && answer.0 == 14 => return (0, 0),
+        Fault::BadHeadPassed if place == 2 && answer.0 == 14 => return (0, 0),
+        Fault::TagNotCounted if place == 22 && !refused => clear_tags(control),
+        _ => (),
+    }
+    answer
+}
+
+pub fn before(control: &Memory, request: Request) -> Before {
+    let place = match request {
+        Request::Step { task } if task < 8 && control.len() == 8192 => {
+            layout::get(control.bytes(), TASK_PLACE, task as usize)
+        }
+        _ => 0,
+    };
+    Before { place, byte: control.bytes().get(SKIPPED).copied().unwrap_or(0) }
+}
+
+fn flip(memory: &mut Memory, place: usize) {
+    if let Some(byte) = memory.bytes_mut().get_mut(place) {
+        *byte ^= 1;
+    }
+}
+
+/// Changes a byte of a block in a user's hands, where a link would be.
+fn flip_held(control: &Memory, area: &mut Memory) {
+    let view = View { control: control.bytes(), area: area.bytes() };
+    let marked = (0..area.len() / 8).find(|&unit| view.mark(unit));
+    if let Some(unit) = marked {
+        flip(area, unit * 8 + 1);
+    }
+}
+
+fn clear_tags(control: &mut Memory) {
+    for list in 0..crate::lists::LISTS {
+        let word = layout::get(control.bytes(), layout::HEAD, list);
+        layout::set(control.bytes_mut(), layout::HEAD, list, word & 0xFFFF_FFFF);
+    }
+}
