@@ -14,6 +14,8 @@ module _ (v : View) (link : ℕ → ℕ) (regions t c : ℕ) where
   unfolding f4Clear
   clear-bad h = rw (le-ltb _ _ h)
 
-  pub clear-done : v (TaskRegion t) < regions → f4Clear v link regions t c ≡ accept nothing (TaskPlace t := 17 ∷ Map (v (TaskRegion t)) := 0 ∷ []) []
+  -- r is the region that is read
+  pub clear-done : {r : ℕ} → r ≡ v (TaskRegion t) → r < regions
+      → f4Clear v link regions t c ≡ accept nothing (TaskPlace t := 17 ∷ Map r := 0 ∷ []) []
   unfolding f4Clear
-  clear-done h = rw (lt-ltb _ _ h)
+  clear-done e h = rw (← e, lt-ltb _ _ h)

@@ -9,7 +9,7 @@ use Rattle.classes.specs.Classes.{units, perRegion}
 use Rattle.classes.specs.Places.{unitOf, regionOf, indexOf}
 use Rattle.classes.proofs.Tables.{units-low}
 use Rattle.classes.proofs.Places.{block-at, in-area}
-use Rattle.stepped.specs.Ranges.{isTop}
+use Rattle.stepped.specs.Ranges.{isTop, hasRoom}
 use Rattle.ranges.proofs.Passed.{failed, passed, top-passed}
 
 -- a function's answer b is the test t of what was read, which is the test t′ of what stands in the fields; `!b` is tested
@@ -18,6 +18,13 @@ fails e h f = sym f ∙ failed e h
 
 pub passes : {b t t′ : Bool} → b ≡ t → not b ≡ false → t ≡ t′ → t′ ≡ true
 passes e h f = sym f ∙ passed e h
+
+-- the same of the room for a group, by numbers n, g and w that are those of the fields
+pub no-room : {n m g k w x : ℕ} {b : Bool} → n ≡ m → g ≡ k → w ≡ x → b ≡ hasRoom n g w → not b ≡ true → hasRoom m k x ≡ false
+no-room {g = g} e f h d t = fails d t (rw (e, f, h))
+
+pub room : {n m g k w x : ℕ} {b : Bool} → n ≡ m → g ≡ k → w ≡ x → b ≡ hasRoom n g w → not b ≡ false → hasRoom m k x ≡ true
+room {g = g} e f h d t = passes d t (rw (e, f, h))
 
 -- the link of a block of a region lies in the area
 pub link-inside : {u size : ℕ} (regions r c i : ℕ) → u ≡ unitOf r c i → r < regions → i < perRegion c → size ≡ 4096 * regions

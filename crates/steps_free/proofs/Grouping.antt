@@ -67,11 +67,11 @@ module _ (v : View) (link : ℕ → ℕ) (regions t c : ℕ) where
   -- ---- f2First: b is the link that is read, r and i are the region and the index of the block
 
   module _ (k u : ℕ) where
-    pub first-bad : isTop regions c (k - 1) (link u) ≡ false → f2First v link regions t c k u ≡ bad
+    pub first-bad : {b : ℕ} → b ≡ link u → isTop regions c (k - 1) b ≡ false → f2First v link regions t c k u ≡ bad
     unfolding f2First
-    first-bad h = rw h
+    first-bad p h = rw (← p, h)
 
-    pub first-taken : {b r i : ℕ} → b ≡ link u → r ≡ regionOf u → i ≡ indexOf c u → isTop regions c (k - 1) (link u) ≡ true
+    pub first-taken : {b r i : ℕ} → b ≡ link u → r ≡ regionOf u → i ≡ indexOf c u → isTop regions c (k - 1) b ≡ true
         → f2First v link regions t c k u
         ≡ accept nothing
         (TaskRegion t := r
@@ -83,7 +83,7 @@ module _ (v : View) (link : ℕ → ℕ) (regions t c : ℕ) where
         ∷ [])
         []
     unfolding f2First
-    first-taken p q s h = rw (p, q, s, h)
+    first-taken p q s h = rw (← p, q, s, h)
 
   -- ---- f2More: b is the link that is read, i the index of the block
 
@@ -98,14 +98,16 @@ module _ (v : View) (link : ℕ → ℕ) (regions t c : ℕ) where
       last-bad l = rw (lt-ltb _ _ h, le-ltb _ _ l)
 
       module _ (l : v (GroupLast t) < perRegion c) where
-        pub below-bad : isTop regions c (k - 1) (link u) ≡ false → f2More v link regions t c k u g r ≡ bad
+        pub below-bad : {b : ℕ} → b ≡ link u → isTop regions c (k - 1) b ≡ false → f2More v link regions t c k u g r ≡ bad
         unfolding f2More
-        below-bad s = rw (lt-ltb _ _ h, lt-ltb _ _ l, s)
+        below-bad p s = rw (← p, lt-ltb _ _ h, lt-ltb _ _ l, s)
 
-        pub more-taken : {b i : ℕ} → b ≡ link u → i ≡ indexOf c u → isTop regions c (k - 1) (link u) ≡ true
+        -- x is the last block's index, and e the unit that the code computes from it
+        pub more-taken : {b i x e : ℕ} → b ≡ link u → i ≡ indexOf c u → x ≡ v (GroupLast t) → e ≡ unitOf r c x
+            → isTop regions c (k - 1) b ≡ true
             → f2More v link regions t c k u g r
             ≡ accept nothing
             (GroupLast t := i ∷ GroupCount t := (g + 1) ∷ CacheTop t c := b ∷ CacheCount t c := (k - 1) ∷ [])
-            (unitOf r c (v (GroupLast t)) ⇒ i ∷ [])
+            (e ⇒ i ∷ [])
         unfolding f2More
-        more-taken p q s = rw (p, q, lt-ltb _ _ h, lt-ltb _ _ l, s)
+        more-taken p q m n s = rw (n, m, ← p, q, lt-ltb _ _ h, lt-ltb _ _ l, s)

@@ -73,11 +73,12 @@ module _ (v : View) (link : ℕ → ℕ) (regions t c : ℕ) where
     unfolding f3ReadOf
     read-no-room h l = rw (h, l)
 
-    pub read-noted : isAnchor (v (Anchor d)) ≡ true → hasRoom (perRegion c) g (v (Anchor d)) ≡ true
+    -- w is the word that is read
+    pub read-noted : {w : ℕ} → w ≡ v (Anchor d) → isAnchor (v (Anchor d)) ≡ true → hasRoom (perRegion c) g (v (Anchor d)) ≡ true
         → f3ReadOf v link regions t c d g
-        ≡ accept nothing (TaskPlace t := 31 ∷ TaskDescriptor t := d ∷ TaskAnchor t := v (Anchor d) ∷ []) []
+        ≡ accept nothing (TaskPlace t := 31 ∷ TaskDescriptor t := d ∷ TaskAnchor t := w ∷ []) []
     unfolding f3ReadOf
-    read-noted h l = rw (h, l)
+    read-noted p h l = rw (p, h, l)
 
   -- ---- f3Link
 
@@ -99,12 +100,12 @@ module _ (v : View) (link : ℕ → ℕ) (regions t c : ℕ) where
     unfolding f3Link
     link-no-first a b = rw (lt-ltb _ _ h, lt-ltb _ _ l, a, b)
 
-    pub link-written : isAnchor (v (TaskAnchor t)) ≡ true → hasFirst (perRegion c) (v (TaskAnchor t)) ≡ true
-        → f3Link v link regions t c
-        ≡ accept nothing (TaskPlace t := 32 ∷ [])
-        (unitOf (v (TaskRegion t)) c (v (GroupLast t)) ⇒ anchorOf (v (TaskAnchor t)) .avail ∷ [])
+    -- r, i and w are what is read, u and x what the code computes from them
+    pub link-written : {r i w u x : ℕ} → r ≡ v (TaskRegion t) → i ≡ v (GroupLast t) → w ≡ v (TaskAnchor t) → u ≡ unitOf r c i
+        → x ≡ anchorOf w .avail → isAnchor (v (TaskAnchor t)) ≡ true → hasFirst (perRegion c) (v (TaskAnchor t)) ≡ true
+        → f3Link v link regions t c ≡ accept nothing (TaskPlace t := 32 ∷ []) (u ⇒ x ∷ [])
     unfolding f3Link
-    link-written a b = rw (lt-ltb _ _ h, lt-ltb _ _ l, a, b)
+    link-written p q s d e a b = rw (d, e, p, q, s, lt-ltb _ _ h, lt-ltb _ _ l, a, b)
 
   -- ---- f3Exchange
 
@@ -163,23 +164,19 @@ module _ (v : View) (link : ℕ → ℕ) (regions t c : ℕ) where
     unfolding f3ExchangeOf
     anchor-noted h e = rw (h, eq-eqb _ _ e)
 
-    pub won-empty : anchorOf word .count + g ≡ perRegion c
-        → f3Won v link regions t c d word first g
-        ≡ accept (gave d)
-        (TaskPlace t := 33
-        ∷ Anchor d := anchorWord (returned (anchorOf word) first g (perRegion c))
-        ∷ TaskState t := anchorOf word .state
-        ∷ [])
-        []
-    unfolding f3Won
-    won-empty h = rw (eq-eqb _ _ h)
-
     -- x and s are the word and the state that the code stores
-    pub won-partial : {x s : ℕ} → x ≡ anchorWord (returned (anchorOf word) first g (perRegion c)) → s ≡ anchorOf word .state
+    pub won-empty : {n x s : ℕ} → n ≡ perRegion c → x ≡ anchorWord (returned (anchorOf word) first g n) → s ≡ anchorOf word .state
+        → anchorOf word .count + g ≡ perRegion c
+        → f3Won v link regions t c d word first g
+        ≡ accept (gave d) (TaskPlace t := 33 ∷ Anchor d := x ∷ TaskState t := s ∷ []) []
+    unfolding f3Won
+    won-empty m p q h = rw (p, q, m, eq-eqb _ _ h)
+
+    pub won-partial : {n x s : ℕ} → n ≡ perRegion c → x ≡ anchorWord (returned (anchorOf word) first g n) → s ≡ anchorOf word .state
         → (anchorOf word .count + g ≡ perRegion c → ⊥)
         → f3Won v link regions t c d word first g ≡ f5 v regions t c s (gave d) (Anchor d := x ∷ TaskState t := s ∷ [])
     unfolding f3Won
-    won-partial p q h = rw (p, q, ne-eqb _ _ h)
+    won-partial m p q h = rw (p, q, m, ne-eqb _ _ h)
 
   -- ---- f5, after the writes ws of a returned group of the descriptor d
 
@@ -207,5 +204,5 @@ module _ {a : Word.Anchor} (w g n : ℕ) (e : a ≡ anchorOf w) (r : Room (ancho
   word-fits first h f = subst⁻¹ (λ (x : Word.Anchor). Fields x) f (returned-fits a first g n (omega arith) room-at)
 
 -- a noted anchor that was found to have room for the group
-pub has-room : (g w c : ℕ) → hasRoom (perRegion c) g w ≡ true → Room (anchorOf w) g (perRegion c)
-has-room g w c h = record { count = room-passed (perRegion c) g w h; blocks = perRegion-high c }
+pub has-room : {n : ℕ} (g w c : ℕ) → n ≡ perRegion c → hasRoom n g w ≡ true → Room (anchorOf w) g (perRegion c)
+has-room g w c e h = record { count = room-passed (perRegion c) g w (rw e at h); blocks = perRegion-high c }

@@ -8,16 +8,16 @@ use Rattle.steps_free.proofs.anchor.read.Statement.{statement}
 use Rattle.steps_free.proofs.anchor.read.Tie as tie
 
 returns : tie.Need-returns
-returns c = λ link. done (read-no-region _ link _ _ _ (omega arith)) refl (cc) refl
+returns c = λ link. done (read-no-region _ link _ _ _ (omega arith)) refl refl refl
 
 returns-2 : tie.Need-returns-2
-returns-2 c = λ link. done (read-no-group _ link _ _ _ (omega arith) (omega arith)) refl (cc) refl
+returns-2 c = λ link. done (read-no-group _ link _ _ _ (omega arith) (omega arith)) refl refl refl
 
 returns-3 : tie.Need-returns-3
-returns-3 c = λ link. done (read-large _ link _ _ _ (omega arith) (omega arith) (omega arith)) refl (cc) refl
+returns-3 c = λ link. done (read-large _ link _ _ _ (omega arith) (omega arith) (omega arith)) refl refl refl
 
 returns-4 : tie.Need-returns-4
-returns-4 c = λ link. does (read-entry _ link _ _ _ (cc) (cc) (omega arith) (omega arith) (omega arith)) (c .before .before .read-by .ensures link)
+returns-4 c = λ link. does (read-entry _ link _ _ _ (cc) (c .before .before .before .before .before .before .before .before .before .group-count .ensures) (omega arith) (omega arith) (omega arith)) (c .before .before .read-by .ensures link)
 
 pub read-spec : {M : Type 1} → statement M
 read-spec =

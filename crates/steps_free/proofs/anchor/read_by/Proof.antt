@@ -8,10 +8,10 @@ use Rattle.steps_free.proofs.anchor.read_by.Statement.{statement}
 use Rattle.steps_free.proofs.anchor.read_by.Tie as tie
 
 returns : tie.Need-returns
-returns c = λ link. done (entry-none _ link _ _ _ _ _ (omega arith)) refl (cc) refl
+returns c = λ link. done (entry-none _ link _ _ _ _ _ (omega arith)) refl refl refl
 
 returns-2 : tie.Need-returns-2
-returns-2 c = λ link. done (entry-large _ link _ _ _ _ _ (omega arith) (omega arith)) refl (cc) refl
+returns-2 c = λ link. done (entry-large _ link _ _ _ _ _ (omega arith) (omega arith)) refl refl refl
 
 returns-3 : tie.Need-returns-3
 returns-3 c = λ link. does (entry-names _ link _ _ _ _ _ (omega arith) (omega arith)) (c .before .before .read-of .ensures link)

@@ -8,13 +8,13 @@ use Rattle.steps_free.proofs.cache.put.Statement.{statement}
 use Rattle.steps_free.proofs.cache.put.Tie as tie
 
 returns : tie.Need-returns
-returns c = done-in (put-large _ _ _ _ _ (omega arith)) refl (cc) (cc)
+returns c = done-in (put-large _ _ _ _ _ (omega arith)) refl refl refl
 
 returns-2 : tie.Need-returns-2
-returns-2 c = done-in (put-full _ _ _ _ _ (omega arith) (omega arith)) refl (cc) (cc)
+returns-2 c = done-in (put-full _ _ _ _ _ (omega arith) (omega arith)) refl (c .before .before .begin .ensures) refl
 
 returns-3 : tie.Need-returns-3
-returns-3 c = does-in (put-on _ _ _ _ _ (cc) (cc) (cc) (omega arith)) (c .before .before .before .before .put-block .ensures)
+returns-3 c = does-in (put-on _ _ _ _ _ (c .before .before .before .before .before .before .before .before .before .task-unit .ensures) (c .before .before .before .before .before .before .before .before .before .before .before .before .before .cache-count .ensures) (c .before .before .before .before .before .before .before .cache-top .ensures) (omega arith)) (c .before .before .before .before .put-block .ensures)
 
 pub put-spec : {M : Type 1} → statement M
 put-spec =

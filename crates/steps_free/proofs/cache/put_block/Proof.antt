@@ -10,10 +10,10 @@ use Rattle.steps_free.proofs.cache.put_block.Statement.{statement}
 use Rattle.steps_free.proofs.cache.put_block.Tie as tie
 
 returns : tie.Need-returns
-returns c = done-in (no-block _ _ _ _ _ _ _ _ (failed (c .before .is-block .ensures) (c .if1 .taken))) refl (cc) (cc)
+returns c = done-in (no-block _ _ _ _ _ _ _ _ (failed (c .before .is-block .ensures) (c .if1 .taken))) refl refl refl
 
 returns-2 : tie.Need-returns-2
-returns-2 c = done-in (no-top _ _ _ _ _ _ _ _ (passed (c .before .before .before .is-block .ensures) (c .before .before .if1 .left)) (failed (c .before .is-top .ensures) (c .if2 .taken))) refl (cc) (cc)
+returns-2 c = done-in (no-top _ _ _ _ _ _ _ _ (passed (c .before .before .before .is-block .ensures) (c .before .before .if1 .left)) (failed (c .before .is-top .ensures) (c .if2 .taken))) refl refl refl
 
 write-requires : tie.Need-write-requires
 write-requires c κs = let h = block-passed (c .before .before .before .before .before .before .before .args .regions) (c .before .before .before .before .before .before .before .args .class) (c .before .before .before .before .before .before .before .args .unit) (passed (c .before .before .before .before .is-block .ensures) (c .before .before .before .if1 .left)) in omega arith
@@ -22,7 +22,7 @@ add-set : tie.Need-add-set
 add-set c = omega (arith, perRegion-high (c .before .before .before .before .before .before .before .before .before .before .before .before .before .before .before .args .class))
 
 returns-3 : tie.Need-returns-3
-returns-3 c = done-in (is-put _ _ _ _ _ _ _ _ (passed (c .before .before .before .before .before .before .before .before .before .before .before .before .before .before .before .is-block .ensures) (c .before .before .before .before .before .before .before .before .before .before .before .before .before .before .if1 .left)) (passed (c .before .before .before .before .before .before .before .before .before .before .before .before .before .is-top .ensures) (c .before .before .before .before .before .before .before .before .before .before .before .before .if2 .left))) refl (rw (← (c .before .before .before .before .before .before .set-task-place .ensures)) (c .before .before .set .ensures)) (cc)
+returns-3 c = done-in (is-put _ _ _ _ _ _ _ _ (passed (c .before .before .before .before .before .before .before .before .before .before .before .before .before .before .before .is-block .ensures) (c .before .before .before .before .before .before .before .before .before .before .before .before .before .before .if1 .left)) (passed (c .before .before .before .before .before .before .before .before .before .before .before .before .before .is-top .ensures) (c .before .before .before .before .before .before .before .before .before .before .before .before .if2 .left))) refl (rw (← (c .before .before .before .before .before .before .set-task-place .ensures)) (c .before .before .set .ensures)) (c .before .before .before .before .before .before .before .before .before .before .write .ensures)
 
 pub put-block-spec : {M : Type 1} → statement M
 put-block-spec =

@@ -8,10 +8,14 @@ use Rattle.steps_free.proofs.exchange.won.Statement.{statement}
 use Rattle.steps_free.proofs.exchange.won.Tie as tie
 
 returns : tie.Need-returns
-returns c = λ link. done (won-empty _ link _ _ _ _ _ _ _ (omega arith)) refl (cc) refl
+returns c = λ link.
+    done
+    (won-empty _ link _ _ _ _ _ _ _ (c .before .before .before .before .before .before .before .before .before .before .before .before .per-region .ensures) (c .before .before .before .before .before .before .before .before .before .before .returned-word .ensures) (c .before .before .before .before .before .before .before .before .before .before .before .state-of .ensures) (omega arith))
+    refl (rw (← (c .before .before .before .before .before .before .set-task-place .ensures)) (c .before .before .store .ensures)) refl
 
 returns-2 : tie.Need-returns-2
-returns-2 c = λ link. does (won-partial _ link _ _ _ _ _ _ _ (cc) (cc) (omega arith)) (c .before .before .go-on .ensures)
+returns-2 c = λ link.
+    does (won-partial _ link _ _ _ _ _ _ _ (c .before .before .before .before .before .before .before .before .per-region .ensures) (c .before .before .before .before .before .before .returned-word .ensures) (c .before .before .before .before .before .before .before .state-of .ensures) (omega arith)) (c .before .before .go-on .ensures)
 
 pub won-spec : {M : Type 1} → statement M
 won-spec =

@@ -4,7 +4,9 @@ use Rattle.steps_free.proofs.group.start_with.Statement.{statement}
 use Rattle.steps_free.proofs.group.start_with.Tie as tie
 
 returns : tie.Need-returns
-returns c = cc
+returns c =
+    rw (← (c .before .before .before .before .before .before .before .before .before .before .before .before .before .before .set-task-region .ensures), ← (c .before .before .before .before .before .before .before .before .before .before .set-group-first .ensures), ← (c .before .before .before .before .before .before .set-group-last .ensures))
+    (c .before .before .set-group-count .ensures)
 
 pub start-with-spec : {M : Type 1} → statement M
 start-with-spec =

@@ -8,16 +8,16 @@ use Rattle.steps_free.proofs.group.take.Statement.{statement}
 use Rattle.steps_free.proofs.group.take.Tie as tie
 
 returns : tie.Need-returns
-returns c = done-in (cache-large _ _ _ _ _ (omega arith)) refl (cc) (cc)
+returns c = done-in (cache-large _ _ _ _ _ (omega arith)) refl refl refl
 
 returns-2 : tie.Need-returns-2
-returns-2 c = done-in (group-large _ _ _ _ _ (omega arith) (omega arith)) refl (cc) (cc)
+returns-2 c = done-in (group-large _ _ _ _ _ (omega arith) (omega arith)) refl refl refl
 
 returns-3 : tie.Need-returns-3
-returns-3 c = done-in (cache-empty _ _ _ _ _ (omega arith) (omega arith) (omega arith)) refl (cc) (cc)
+returns-3 c = done-in (cache-empty _ _ _ _ _ (omega arith) (omega arith) (omega arith)) refl (c .before .before .set-task-place .ensures) refl
 
 returns-4 : tie.Need-returns-4
-returns-4 c = does-in (cache-some _ _ _ _ _ (cc) (cc) (cc) (omega arith) (omega arith) (omega arith)) (c .before .before .before .before .take-top .ensures)
+returns-4 c = does-in (cache-some _ _ _ _ _ (c .before .before .before .before .before .before .before .before .before .before .before .before .before .before .cache-count .ensures) (c .before .before .before .before .before .before .before .cache-top .ensures) (c .before .before .before .before .before .before .before .before .before .before .before .group-count .ensures) (omega arith) (omega arith) (omega arith)) (c .before .before .before .before .take-top .ensures)
 
 pub take-spec : {M : Type 1} → statement M
 take-spec =

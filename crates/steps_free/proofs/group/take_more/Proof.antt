@@ -5,20 +5,22 @@ use Rattle.classes.proofs.Tables.{perRegion-high}
 use native.Mathlib.Omega.{arith}
 use mathlib.Core.Path.{refl}
 use Rattle.stepped.proofs.Doing.{done-in}
-use Rattle.ranges.proofs.Passed.{passed}
+use Rattle.ranges.proofs.Passed.{failed, passed}
 use Rattle.steps_free.proofs.Grouping.{more-full, last-bad, below-bad, more-taken}
-use Rattle.steps_free.proofs.Fitting.{fails, passes, link-inside, index-small, top-small}
+use Rattle.steps_free.proofs.Fitting.{link-inside, index-small, top-small}
 use Rattle.steps_free.proofs.group.take_more.Statement.{statement}
 use Rattle.steps_free.proofs.group.take_more.Tie as tie
 
 returns : tie.Need-returns
-returns c = done-in (more-full _ _ _ _ _ _ _ _ _ (omega arith)) refl (cc) (cc)
+returns c = done-in (more-full _ _ _ _ _ _ _ _ _ (omega arith)) refl refl refl
 
 returns-2 : tie.Need-returns-2
-returns-2 c = done-in (last-bad _ _ _ _ _ _ _ _ _ (omega arith) (omega arith)) refl (cc) (cc)
+returns-2 c = done-in (last-bad _ _ _ _ _ _ _ _ _ (omega arith) (omega arith)) refl refl refl
 
 returns-3 : tie.Need-returns-3
-returns-3 c = done-in (below-bad _ _ _ _ _ _ _ _ _ (omega arith) (omega arith) (fails (c .before .is-top .ensures) (c .if3 .taken) (cc))) refl (cc) (cc)
+returns-3 c =
+    done-in
+    (below-bad _ _ _ _ _ _ _ _ _ (omega arith) (omega arith) (c .before .before .read .ensures) (failed (c .before .is-top .ensures) (c .if3 .taken))) refl refl refl
 
 cast-index : tie.Need-cast-index
 cast-index c = let h = index-small _ _ (c .index-of .ensures) in omega arith
@@ -36,7 +38,11 @@ cast-set : tie.Need-cast-set
 cast-set c = let h = top-small (c .before .before .before .before .before .before .before .before .before .before .before .before .before .before .before .before .before .before .before .before .before .before .args .regions) (c .before .before .before .before .before .before .before .before .before .before .before .before .before .before .before .before .before .before .before .before .before .before .args .class) (c .before .before .before .before .before .before .before .before .before .before .before .before .before .before .before .before .before .before .before .before .before .before .args .count - 1) (c .before .before .before .before .before .before .before .before .before .before .before .before .before .read .result) (omega arith) (passed (c .before .before .before .before .before .before .before .before .before .before .before .before .is-top .ensures) (c .before .before .before .before .before .before .before .before .before .before .before .if3 .left)) in omega arith
 
 returns-4 : tie.Need-returns-4
-returns-4 c = done-in (more-taken _ _ _ _ _ _ _ _ _ (omega arith) (omega arith) (c .before .before .before .before .before .before .before .before .before .before .before .before .before .before .before .before .read .ensures) (c .before .before .before .before .before .before .before .before .before .before .before .before .before .index-of .ensures) (passes (c .before .before .before .before .before .before .before .before .before .before .before .before .before .before .before .is-top .ensures) (c .before .before .before .before .before .before .before .before .before .before .before .before .before .before .if3 .left) (cc))) refl (rw (← (c .before .before .before .before .before .before .extend .ensures)) (c .before .before .set .ensures)) (cc)
+returns-4 c =
+    done-in
+    (more-taken _ _ _ _ _ _ _ _ _ (omega arith) (omega arith) (c .before .before .before .before .before .before .before .before .before .before .before .before .before .before .before .before .read .ensures) (c .before .before .before .before .before .before .before .before .before .before .before .before .before .index-of .ensures) (c .before .before .before .before .before .before .before .before .before .before .before .before .before .before .before .before .before .before .before .group-last .ensures) (c .before .before .before .before .before .before .before .before .before .before .before .before .first-unit .ensures)
+    (passed (c .before .before .before .before .before .before .before .before .before .before .before .before .before .before .before .is-top .ensures) (c .before .before .before .before .before .before .before .before .before .before .before .before .before .before .if3 .left)))
+    refl (rw (← (c .before .before .before .before .before .before .extend .ensures)) (c .before .before .set .ensures)) (c .before .before .before .before .before .before .before .before .before .before .write .ensures)
 
 pub take-more-spec : {M : Type 1} → statement M
 take-more-spec =
