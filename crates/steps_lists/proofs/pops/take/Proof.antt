@@ -4,7 +4,9 @@ use Rattle.steps_lists.proofs.pops.take.Statement.{statement}
 use Rattle.steps_lists.proofs.pops.take.Tie as tie
 
 returns : tie.Need-returns
-returns c = cc
+returns c =
+    rw (← (c .before .before .before .before .before .before .before .before .before .before .before .before .popped-place .ensures), ← (c .before .before .before .pop-list .ensures .0), ← (c .before .before .before .before .before .before .before .before .before .before .before .set-task-place .ensures), ← (c .before .before .before .before .before .before .before .hold .ensures))
+    (c .before .before .set-head .ensures)
 
 pub take-spec : {M : Type 1} → statement M
 take-spec =
