@@ -116,8 +116,8 @@ module _ (v : View) (regions t c : ℕ) where
             exchange-takes x word d f e =
                 rw (le-leb _ _ h, le-leb _ _ k, le-leb _ _ l, le-leb _ _ m, eq-eqb _ _ e, ← d, ← f) (popped-by p _ _ _)
 
-            -- x and `word` are what the code takes and writes, w and y the noted head and the next that it reads
-            pub exchange-won : (x word : ℕ) {w y : ℕ} {before after : List ℕ} → after ≡ changed (taken t c p x word) before
-                → x ≡ itemOf (v (TaskHead t)) - 1 → w ≡ v (TaskHead t) → y ≡ v (TaskNext t) → word ≡ advancedWord w y
+            -- x and `word` are what the code takes and writes; w is the noted head that it reads, i the item on it, y the next
+            pub exchange-won : (x word : ℕ) {w i y : ℕ} {before after : List ℕ} → after ≡ changed (taken t c p x word) before
+                → w ≡ v (TaskHead t) → i ≡ itemOf w → x ≡ i - 1 → y ≡ v (TaskNext t) → word ≡ advancedWord w y
                 → v (Head (popList p c)) ≡ v (TaskHead t) → Done (popExchange v regions t c p) before after Accepted
-            exchange-won x word s d i j f e = done (exchange-takes x word d (rw (← i, ← j) f) e) refl s refl
+            exchange-won x word s n i d j f e = done (exchange-takes x word (rw (← n, ← i) d) (rw (← n, ← j) f) e) refl s refl

@@ -27,7 +27,7 @@ returns-5 c =
 
 returns-6 : tie.Need-returns-6
 returns-6 c =
-    exchange-won _ _ _ _ _ (omega arith) (omega arith) (omega arith) (omega arith) _ _ (c .before .before .take .ensures) (omega arith) (c .before .before .before .before .before .before .before .before .before .before .before .before .before .before .before .before .task-head .ensures) (c .before .before .before .before .before .before .before .before .before .before .before .task-next .ensures) (c .before .before .before .advanced .ensures) (omega arith)
+    exchange-won _ _ _ _ _ (omega arith) (omega arith) (omega arith) (omega arith) _ _ (c .before .before .take .ensures) (c .before .before .before .before .before .before .before .before .before .before .before .before .before .before .before .before .task-head .ensures) (c .before .before .before .before .before .before .before .before .before .before .before .before .before .before .before .item-of .ensures) refl (c .before .before .before .before .before .before .before .before .before .before .before .task-next .ensures) (c .before .before .before .advanced .ensures) (omega arith)
 
 pub exchange-spec : {M : Type 1} → statement M
 exchange-spec =
