@@ -40,11 +40,12 @@ module _ (v : View) (link : ℕ → ℕ) (regions t c : ℕ) where
   unfolding f3Read
   read-large h l m = rw (lt-ltb _ _ h, le-leb _ _ l, lt-leb _ _ m)
 
-  pub read-entry : {e g : ℕ} → e ≡ v (Map (v (TaskRegion t))) → g ≡ v (GroupCount t)
+  -- r, e and g are what is read
+  pub read-entry : {r e g : ℕ} → r ≡ v (TaskRegion t) → e ≡ v (Map r) → g ≡ v (GroupCount t)
       → v (TaskRegion t) < regions → 1 ≤ v (GroupCount t) → v (GroupCount t) ≤ perRegion c
       → f3Read v link regions t c ≡ f3ReadBy v link regions t c e g
   unfolding f3Read
-  read-entry p q h l m = rw (p, q, lt-ltb _ _ h, le-leb _ _ l, le-leb _ _ m)
+  read-entry d p q h l m = rw (p, d, q, lt-ltb _ _ h, le-leb _ _ l, le-leb _ _ m)
 
   -- ---- f3ReadBy
 

@@ -17,7 +17,10 @@ returns-3 : tie.Need-returns-3
 returns-3 c = λ link. done (read-large _ link _ _ _ (omega arith) (omega arith) (omega arith)) refl refl refl
 
 returns-4 : tie.Need-returns-4
-returns-4 c = λ link. does (read-entry _ link _ _ _ (cc) (c .before .before .before .before .before .before .before .before .before .group-count .ensures) (omega arith) (omega arith) (omega arith)) (c .before .before .read-by .ensures link)
+returns-4 c = λ link.
+    does
+    (read-entry _ link _ _ _ (c .before .before .before .before .before .before .before .before .before .before .before .before .task-region .ensures) (c .before .before .before .before .map .ensures) (c .before .before .before .before .before .before .before .before .before .group-count .ensures) (omega arith) (omega arith) (omega arith))
+    (c .before .before .read-by .ensures link)
 
 pub read-spec : {M : Type 1} → statement M
 read-spec =
