@@ -22,7 +22,7 @@ add-set : tie.Need-add-set
 add-set c = omega (arith, perRegion-high (c .before .before .before .before .before .before .before .before .before .before .before .before .before .before .before .args .class))
 
 returns-3 : tie.Need-returns-3
-returns-3 c = done-in (is-put _ _ _ _ _ _ _ _ (passed (c .before .before .before .before .before .before .before .before .before .before .before .before .before .before .before .is-block .ensures) (c .before .before .before .before .before .before .before .before .before .before .before .before .before .before .if1 .left)) (passed (c .before .before .before .before .before .before .before .before .before .before .before .before .before .is-top .ensures) (c .before .before .before .before .before .before .before .before .before .before .before .before .if2 .left))) refl (rw (← (c .before .before .before .before .before .before .set-task-place .ensures)) (c .before .before .set .ensures)) (c .before .before .before .before .before .before .before .before .before .before .write .ensures)
+returns-3 c = done-in (is-put _ _ _ _ _ _ _ _ (passed (c .before .before .before .before .before .before .before .before .before .before .before .before .before .before .before .is-block .ensures) (c .before .before .before .before .before .before .before .before .before .before .before .before .before .before .if1 .left)) (passed (c .before .before .before .before .before .before .before .before .before .before .before .before .before .is-top .ensures) (c .before .before .before .before .before .before .before .before .before .before .before .before .if2 .left))) refl (rw (c .before .before .before .before .before .before .set-task-place .ensures) at (c .before .before .set .ensures)) (c .before .before .before .before .before .before .before .before .before .before .write .ensures)
 
 pub put-block-spec : {M : Type 1} → statement M
 put-block-spec =

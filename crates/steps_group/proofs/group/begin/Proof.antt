@@ -4,7 +4,7 @@ use Rattle.steps_group.proofs.group.begin.Statement.{statement}
 use Rattle.steps_group.proofs.group.begin.Tie as tie
 
 returns : tie.Need-returns
-returns c = rw (← (c .before .before .before .before .before .before .set-task-place .ensures)) (c .before .before .set-group-count .ensures)
+returns c = rw (c .before .before .before .before .before .before .set-task-place .ensures) at (c .before .before .set-group-count .ensures)
 
 pub begin-spec : {M : Type 1} → statement M
 begin-spec =

@@ -5,8 +5,7 @@ use Rattle.steps_group.proofs.group.start_with.Tie as tie
 
 returns : tie.Need-returns
 returns c =
-    rw (← (c .before .before .before .before .before .before .before .before .before .before .before .before .before .before .set-task-region .ensures), ← (c .before .before .before .before .before .before .before .before .before .before .set-group-first .ensures), ← (c .before .before .before .before .before .before .set-group-last .ensures))
-    (c .before .before .set-group-count .ensures)
+    rw (c .before .before .before .before .before .before .before .before .before .before .before .before .before .before .set-task-region .ensures) at (rw (c .before .before .before .before .before .before .before .before .before .before .set-group-first .ensures) at (rw (c .before .before .before .before .before .before .set-group-last .ensures) at (c .before .before .set-group-count .ensures)))
 
 pub start-with-spec : {M : Type 1} → statement M
 start-with-spec =

@@ -23,7 +23,7 @@ returns-2 : tie.Need-returns-2
 returns-2 c =
     done
     (first-taken _ _ _ _ _ _ _ (c .before .before .before .before .before .before .before .before .before .before .before .before .read .ensures) (c .before .before .before .before .before .before .before .before .before .region-of .ensures) (c .before .before .before .before .before .before .before .before .index-of .ensures) (passed (c .before .before .before .before .before .before .before .before .before .before .before .is-top .ensures) (c .before .before .before .before .before .before .before .before .before .before .if1 .left)))
-    refl (rw (← (c .before .before .before .before .before .before .start-with .ensures)) (c .before .before .set .ensures)) refl
+    refl (rw (c .before .before .before .before .before .before .start-with .ensures) at (c .before .before .set .ensures)) refl
 
 pub take-first-spec : {M : Type 1} → statement M
 take-first-spec =

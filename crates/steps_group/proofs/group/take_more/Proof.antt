@@ -42,7 +42,7 @@ returns-4 c =
     done-in
     (more-taken _ _ _ _ _ _ _ _ _ (omega arith) (omega arith) (c .before .before .before .before .before .before .before .before .before .before .before .before .before .before .before .before .read .ensures) (c .before .before .before .before .before .before .before .before .before .before .before .before .before .index-of .ensures) (c .before .before .before .before .before .before .before .before .before .before .before .before .before .before .before .before .before .before .before .group-last .ensures) (c .before .before .before .before .before .before .before .before .before .before .before .before .first-unit .ensures)
     (passed (c .before .before .before .before .before .before .before .before .before .before .before .before .before .before .before .is-top .ensures) (c .before .before .before .before .before .before .before .before .before .before .before .before .before .before .if3 .left)))
-    refl (rw (← (c .before .before .before .before .before .before .extend .ensures)) (c .before .before .set .ensures)) (c .before .before .before .before .before .before .before .before .before .before .write .ensures)
+    refl (rw (c .before .before .before .before .before .before .extend .ensures) at (c .before .before .set .ensures)) (c .before .before .before .before .before .before .before .before .before .before .write .ensures)
 
 pub take-more-spec : {M : Type 1} → statement M
 take-more-spec =

@@ -12,7 +12,7 @@ returns c = λ class. done (next-bad _ _ _ class _ _ (omega arith)) refl refl re
 
 returns-2 : tie.Need-returns-2
 returns-2 c = λ class.
-    done (next-noted _ _ _ class _ _ (c .before .before .before .before .before .before .before .pop-place .ensures .0) (c .before .before .before .before .before .before .before .before .before .before .before .next .ensures) (omega arith)) refl (rw (← (c .before .before .before .before .before .before .set-task-place .ensures)) (c .before .before .set-task-next .ensures)) refl
+    done (next-noted _ _ _ class _ _ (c .before .before .before .before .before .before .before .pop-place .ensures .0) (c .before .before .before .before .before .before .before .before .before .before .before .next .ensures) (omega arith)) refl (rw (c .before .before .before .before .before .before .set-task-place .ensures) at (c .before .before .set-task-next .ensures)) refl
 
 pub next-of-spec : {M : Type 1} → statement M
 next-of-spec =

@@ -15,7 +15,7 @@ returns-2 c = done (read-bad _ _ _ _ _ (λ e. omega arith) (omega arith)) refl r
 
 returns-3 : tie.Need-returns-3
 returns-3 c =
-    done (read-noted _ _ _ _ _ (c .before .before .before .before .before .before .before .pop-place .ensures .0) (c .before .before .before .before .before .before .before .before .before .before .before .before .before .head .ensures) (λ e. omega arith) (omega arith)) refl (rw (← (c .before .before .before .before .before .before .set-task-place2 .ensures)) (c .before .before .set-task-head .ensures)) refl
+    done (read-noted _ _ _ _ _ (c .before .before .before .before .before .before .before .pop-place .ensures .0) (c .before .before .before .before .before .before .before .before .before .before .before .before .before .head .ensures) (λ e. omega arith) (omega arith)) refl (rw (c .before .before .before .before .before .before .set-task-place2 .ensures) at (c .before .before .set-task-head .ensures)) refl
 
 pub read-spec : {M : Type 1} → statement M
 read-spec =

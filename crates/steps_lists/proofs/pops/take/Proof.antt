@@ -5,8 +5,7 @@ use Rattle.steps_lists.proofs.pops.take.Tie as tie
 
 returns : tie.Need-returns
 returns c =
-    rw (← (c .before .before .before .before .before .before .before .before .before .before .before .before .popped-place .ensures), ← (c .before .before .before .pop-list .ensures .0), ← (c .before .before .before .before .before .before .before .before .before .before .before .set-task-place .ensures), ← (c .before .before .before .before .before .before .before .hold .ensures))
-    (c .before .before .set-head .ensures)
+    rw (c .before .before .before .before .before .before .before .before .before .before .before .before .popped-place .ensures) at (rw (c .before .before .before .pop-list .ensures .0) at (rw (c .before .before .before .before .before .before .before .before .before .before .before .set-task-place .ensures) at (rw (c .before .before .before .before .before .before .before .hold .ensures) at (c .before .before .set-head .ensures))))
 
 pub take-spec : {M : Type 1} → statement M
 take-spec =

@@ -17,7 +17,7 @@ returns-3 : tie.Need-returns-3
 returns-3 c = λ class.
     done
     (next-written _ _ _ class _ (omega arith) (c .before .before .before .before .before .before .before .push-place .ensures .0) (c .before .before .before .before .before .before .before .before .before .before .before .before .before .before .held .ensures) (c .before .before .before .before .before .before .before .before .before .before .before .task-head .ensures) (c .before .before .before .before .before .before .before .before .before .before .item-of .ensures) (omega arith))
-    refl (rw (← (c .before .before .before .before .before .before .set-task-place .ensures)) (c .before .before .set-next .ensures)) refl
+    refl (rw (c .before .before .before .before .before .before .set-task-place .ensures) at (c .before .before .set-next .ensures)) refl
 
 pub next-spec : {M : Type 1} → statement M
 next-spec =

@@ -13,10 +13,10 @@ returns : tie.Need-returns
 returns c = λ regions e. rw (c .before .before .before .enum-told3 .given .1) (done (released-bad (seen (now (c .before .before .before .before .before .before .args .control))) regions _ _ e _ (omega arith)) refl refl refl)
 
 returns-2 : tie.Need-returns-2
-returns-2 c = λ regions e. rw (c .before .before .before .before .before .before .before .before .enum-told .given .1) (record { answer = refl; control = rw (← (c .before .before .before .before .before .before .set-task-place .ensures)) (c .before .before .set-head .ensures); links = refl })
+returns-2 c = λ regions e. rw (c .before .before .before .before .before .before .before .before .enum-told .given .1) (record { answer = refl; control = rw (c .before .before .before .before .before .before .set-task-place .ensures) at (c .before .before .set-head .ensures); links = refl })
 
 returns-3 : tie.Need-returns-3
-returns-3 c = λ regions e. rw (c .before .before .before .before .before .before .before .before .enum-told2 .given .1) (record { answer = refl; control = rw (← (c .before .before .before .before .before .before .set-task-place2 .ensures)) (c .before .before .set-head2 .ensures); links = refl })
+returns-3 c = λ regions e. rw (c .before .before .before .before .before .before .before .before .enum-told2 .given .1) (record { answer = refl; control = rw (c .before .before .before .before .before .before .set-task-place2 .ensures) at (c .before .before .set-head2 .ensures); links = refl })
 
 returns-4 : tie.Need-returns-4
 returns-4 c = λ regions e. rw (c .before .before .before .before .before .before .before .before .before .enum-told3 .given .1) (released (seen (now (c .before .before .before .before .before .before .before .before .before .before .before .before .args .control))) regions _ _ e _ (c .before .before .before .before .five .result) (c .before .before .go-on .ensures e) (omega arith) (c .before .before .before .before .before .before .before .task-state .ensures) (c .before .before .before .before .five .ensures))

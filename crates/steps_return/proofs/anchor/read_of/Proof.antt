@@ -23,7 +23,7 @@ returns-3 c = λ link.
     done
     (read-noted _ link _ _ _ _ _ (c .before .before .before .before .before .before .before .before .before .before .before .before .before .before .before .before .before .anchor .ensures) (passed-at isAnchor (c .before .before .before .before .before .before .before .before .before .before .before .before .before .before .before .before .before .anchor .ensures) (c .before .before .before .before .before .before .before .before .before .before .before .before .before .before .before .before .is-anchor .ensures) (c .before .before .before .before .before .before .before .before .before .before .before .before .before .before .before .if1 .left))
     (room (c .before .before .before .before .before .before .before .before .before .before .before .before .before .before .per-region .ensures) refl (c .before .before .before .before .before .before .before .before .before .before .before .before .before .before .before .before .before .anchor .ensures) (c .before .before .before .before .before .before .before .before .before .before .before .before .before .has-room .ensures) (c .before .before .before .before .before .before .before .before .before .before .before .before .if2 .left)))
-    refl (rw (← (c .before .before .before .before .before .before .before .before .before .before .set-task-place .ensures), ← (c .before .before .before .before .before .before .set-task-descriptor .ensures)) (c .before .before .set-task-anchor .ensures)) refl
+    refl (rw (c .before .before .before .before .before .before .before .before .before .before .set-task-place .ensures) at (rw (c .before .before .before .before .before .before .set-task-descriptor .ensures) at (c .before .before .set-task-anchor .ensures))) refl
 
 pub read-of-spec : {M : Type 1} → statement M
 read-of-spec =

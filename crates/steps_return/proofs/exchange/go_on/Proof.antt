@@ -9,17 +9,17 @@ use Rattle.steps_return.proofs.exchange.go_on.Tie as tie
 returns : tie.Need-returns
 returns c =
     done (goes-one _ (λ u. 0) _ _ _ _ _ _ (sym (c .before .before .before .before .before .before .before .before .enum-told .given .1) ∙ (c .before .before .before .before .before .before .before .before .before .before .five .ensures)))
-    refl (rw (← (c .before .before .before .before .before .before .set-task-place .ensures)) (c .before .before .store .ensures)) refl
+    refl (rw (c .before .before .before .before .before .before .set-task-place .ensures) at (c .before .before .store .ensures)) refl
 
 returns-2 : tie.Need-returns-2
 returns-2 c =
     done (goes-two _ (λ u. 0) _ _ _ _ _ _ (sym (c .before .before .before .before .before .before .before .before .enum-told2 .given .1) ∙ (c .before .before .before .before .before .before .before .before .before .before .five .ensures)))
-    refl (rw (← (c .before .before .before .before .before .before .begin .ensures)) (c .before .before .store2 .ensures)) refl
+    refl (rw (c .before .before .before .before .before .before .begin .ensures) at (c .before .before .store2 .ensures)) refl
 
 returns-3 : tie.Need-returns-3
 returns-3 c =
     done (goes-offer _ (λ u. 0) _ _ _ _ _ _ (sym (c .before .before .before .before .before .before .before .before .enum-told3 .given .1) ∙ (c .before .before .before .before .before .before .before .before .before .before .five .ensures)))
-    refl (rw (← (c .before .before .before .before .before .before .set-task-place2 .ensures)) (c .before .before .store3 .ensures)) refl
+    refl (rw (c .before .before .before .before .before .before .set-task-place2 .ensures) at (c .before .before .store3 .ensures)) refl
 
 returns-4 : tie.Need-returns-4
 returns-4 c = done (goes-bad _ (λ u. 0) _ _ _ _ _ _ (sym (c .enum-told4 .given .1) ∙ (c .before .before .five .ensures))) refl refl refl

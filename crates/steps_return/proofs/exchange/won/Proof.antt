@@ -11,7 +11,7 @@ returns : tie.Need-returns
 returns c = λ link.
     done
     (won-empty _ link _ _ _ _ _ _ _ (c .before .before .before .before .before .before .before .before .before .before .before .before .per-region .ensures) (c .before .before .before .before .before .before .before .before .before .before .returned-word .ensures) (c .before .before .before .before .before .before .before .before .before .before .before .state-of .ensures) (omega arith))
-    refl (rw (← (c .before .before .before .before .before .before .set-task-place .ensures)) (c .before .before .store .ensures)) refl
+    refl (rw (c .before .before .before .before .before .before .set-task-place .ensures) at (c .before .before .store .ensures)) refl
 
 returns-2 : tie.Need-returns-2
 returns-2 c = λ link.
