@@ -5,7 +5,7 @@ use Rattle.steps_allocate.proofs.anchor.hold_chain.Statement.{statement
 use Rattle.steps_allocate.proofs.anchor.hold_chain.Tie as tie
 
 returns : tie.Need-returns
-returns c = record { answer = refl; control = (cc); links = refl }
+returns c = record { answer = refl; control = (rw (c .before .before .before .before .before .before .before .before .before .before .before .before .before .before .before .before .before .before .set-task-place .ensures) at (rw (c .before .before .before .before .before .before .before .before .before .before .before .before .before .before .set-anchor .ensures) at (rw (c .before .before .before .before .before .before .before .before .before .before .set-task-region .ensures) at (rw (c .before .before .before .before .before .before .set-task-index .ensures) at (c .before .before .set-task-left .ensures))))); links = refl }
 
 pub hold-chain-spec : {M : Type 1} → statement M
 hold-chain-spec =
