@@ -5,7 +5,7 @@ use Rattle.steps_fill.proofs.region.write_descriptor.Statement.{stateme
 use Rattle.steps_fill.proofs.region.write_descriptor.Tie as tie
 
 returns : tie.Need-returns
-returns c = record { answer = refl; control = (cc); links = refl }
+returns c = record { answer = refl; control = (rw (c .before .before .before .before .before .before .before .before .before .before .before .before .before .before .before .before .before .before .before .before .before .before .set-task-place .ensures) at (rw (c .before .before .before .before .before .before .before .before .before .before .before .before .before .before .before .before .before .before .set-task-index .ensures) at (rw (c .before .before .before .before .before .before .before .before .before .before .before .before .before .before .set-anchor .ensures) at (rw (c .before .before .before .before .before .before .before .before .before .before .set-descriptor-region .ensures) at (rw (c .before .before .before .before .before .before .set-descriptor-class .ensures) at (c .before .before .set-map .ensures)))))); links = refl }
 
 pub write-descriptor-spec : {M : Type 1} → statement M
 write-descriptor-spec =
