@@ -22,7 +22,15 @@ add-set : tie.Need-add-set
 add-set c = omega (arith, perRegion-high (c .before .before .before .before .before .before .before .before .before .before .before .before .before .before .before .args .class))
 
 returns-3 : tie.Need-returns-3
-returns-3 c = done-in (is-put _ _ _ _ _ _ _ _ (passed (c .before .before .before .before .before .before .before .before .before .before .before .before .before .before .before .is-block .ensures) (c .before .before .before .before .before .before .before .before .before .before .before .before .before .before .if1 .left)) (passed (c .before .before .before .before .before .before .before .before .before .before .before .before .before .is-top .ensures) (c .before .before .before .before .before .before .before .before .before .before .before .before .if2 .left))) refl (rw (c .before .before .before .before .before .before .set-task-place .ensures) at (c .before .before .set .ensures)) (c .before .before .before .before .before .before .before .before .before .before .write .ensures)
+returns-3 c =
+    let c2 = c .before .before in
+    let c6 = c2 .before .before .before .before in
+    let c10 = c6 .before .before .before .before in
+    let c12 = c10 .before .before in
+    let c13 = c12 .before in
+    let c14 = c13 .before in
+    let c15 = c14 .before in
+    done-in (is-put _ _ _ _ _ _ _ _ (passed (c15 .is-block .ensures) (c14 .if1 .left)) (passed (c13 .is-top .ensures) (c12 .if2 .left))) refl (rw (c6 .set-task-place .ensures) at (c2 .set .ensures)) (c10 .write .ensures)
 
 pub put-block-spec : {M : Type 1} → statement M
 put-block-spec =

@@ -21,9 +21,16 @@ cast-set c = let h = top-small (c .before .before .before .before .before .befor
 
 returns-2 : tie.Need-returns-2
 returns-2 c =
+    let c2 = c .before .before in
+    let c6 = c2 .before .before .before .before in
+    let c8 = c6 .before .before in
+    let c9 = c8 .before in
+    let c10 = c9 .before in
+    let c11 = c10 .before in
+    let c12 = c11 .before in
     done
-    (first-taken _ _ _ _ _ _ _ (c .before .before .before .before .before .before .before .before .before .before .before .before .read .ensures) (c .before .before .before .before .before .before .before .before .before .region-of .ensures) (c .before .before .before .before .before .before .before .before .index-of .ensures) (passed (c .before .before .before .before .before .before .before .before .before .before .before .is-top .ensures) (c .before .before .before .before .before .before .before .before .before .before .if1 .left)))
-    refl (rw (c .before .before .before .before .before .before .start-with .ensures) at (c .before .before .set .ensures)) refl
+    (first-taken _ _ _ _ _ _ _ (c12 .read .ensures) (c9 .region-of .ensures) (c8 .index-of .ensures) (passed (c11 .is-top .ensures) (c10 .if1 .left)))
+    refl (rw (c6 .start-with .ensures) at (c2 .set .ensures)) refl
 
 pub take-first-spec : {M : Type 1} → statement M
 take-first-spec =

@@ -19,11 +19,21 @@ returns-2 c = λ link.
     refl refl refl
 
 returns-3 : tie.Need-returns-3
-returns-3 c = λ link.
+returns-3 c =
+    let c2 = c .before .before in
+    let c6 = c2 .before .before .before .before in
+    let c10 = c6 .before .before .before .before in
+    let c12 = c10 .before .before in
+    let c13 = c12 .before in
+    let c14 = c13 .before in
+    let c15 = c14 .before in
+    let c16 = c15 .before in
+    let c17 = c16 .before in
+    λ link.
     done
-    (read-noted _ link _ _ _ _ _ (c .before .before .before .before .before .before .before .before .before .before .before .before .before .before .before .before .before .anchor .ensures) (passed-at isAnchor (c .before .before .before .before .before .before .before .before .before .before .before .before .before .before .before .before .before .anchor .ensures) (c .before .before .before .before .before .before .before .before .before .before .before .before .before .before .before .before .is-anchor .ensures) (c .before .before .before .before .before .before .before .before .before .before .before .before .before .before .before .if1 .left))
-    (room (c .before .before .before .before .before .before .before .before .before .before .before .before .before .before .per-region .ensures) refl (c .before .before .before .before .before .before .before .before .before .before .before .before .before .before .before .before .before .anchor .ensures) (c .before .before .before .before .before .before .before .before .before .before .before .before .before .has-room .ensures) (c .before .before .before .before .before .before .before .before .before .before .before .before .if2 .left)))
-    refl (rw (c .before .before .before .before .before .before .before .before .before .before .set-task-place .ensures) at (rw (c .before .before .before .before .before .before .set-task-descriptor .ensures) at (c .before .before .set-task-anchor .ensures))) refl
+    (read-noted _ link _ _ _ _ _ (c17 .anchor .ensures) (passed-at isAnchor (c17 .anchor .ensures) (c16 .is-anchor .ensures) (c15 .if1 .left))
+    (room (c14 .per-region .ensures) refl (c17 .anchor .ensures) (c13 .has-room .ensures) (c12 .if2 .left)))
+    refl (rw (c10 .set-task-place .ensures) at (rw (c6 .set-task-descriptor .ensures) at (c2 .set-task-anchor .ensures))) refl
 
 pub read-of-spec : {M : Type 1} → statement M
 read-of-spec =
