@@ -1,9 +1,9 @@
 // The steps of a free that are no list moves, but for the first, by place.
 use control::answer::Answer;
-use steps_free::anchor;
-use steps_free::exchange;
-use steps_free::group;
-use steps_free::map;
+use steps_group::group;
+use steps_return::anchor;
+use steps_return::exchange;
+use steps_return::map;
 ghost use Prim.Native.Nat.{_≤_};
 ghost use Rattle.links.specs.Link.{link};
 ghost use Rattle.control.specs.Layout.{seen};

@@ -28,7 +28,7 @@ fn at(
         return steps_allocate::cache::take(control, area, regions, task, class);
     }
     if place == 28 {
-        return steps_free::cache::put(control, area, regions, task, class);
+        return steps_group::cache::put(control, area, regions, task, class);
     }
     if place < 11 {
         return moves::pop(control, regions, task, class, place);

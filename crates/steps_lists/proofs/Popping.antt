@@ -36,21 +36,23 @@ module _ (v : View) (regions t c : ℕ) where
   module _ (p : Pop) where
     -- ---- the head read
 
-    pub read-empty : itemOf (v (Head (popList p c))) ≡ 0 → popRead v regions t c p
-        ≡ close (emptyAnswer p) (found-empty (popList p c)) (TaskPlace t := emptyPlace p ∷ []) []
+    -- a is the place that the code goes on to
+    pub read-empty : {a : ℕ} → a ≡ emptyPlace p → itemOf (v (Head (popList p c))) ≡ 0 → popRead v regions t c p
+        ≡ close (emptyAnswer p) (found-empty (popList p c)) (TaskPlace t := a ∷ []) []
     unfolding popRead
-    read-empty h = rw (eq-eqb _ _ h) (empty-by p _)
+    read-empty d h = rw (d, eq-eqb _ _ h) (empty-by p _)
 
     pub read-bad : itemOf (v (Head (popList p c))) ≢ 0 → popItems p regions < itemOf (v (Head (popList p c)))
         → popRead v regions t c p ≡ bad
     unfolding popRead
     read-bad h k = rw (ne-eqb _ _ h, lt-leb _ _ k)
 
-    pub read-noted : itemOf (v (Head (popList p c))) ≢ 0 → itemOf (v (Head (popList p c))) ≤ popItems p regions
-        → popRead v regions t c p
-        ≡ accept nothing (TaskPlace t := (popPlace p + 1) ∷ TaskHead t := v (Head (popList p c)) ∷ []) []
+    -- a is the place of the head read, w the head that is read
+    pub read-noted : {a w : ℕ} → a ≡ popPlace p → w ≡ v (Head (popList p c)) → itemOf (v (Head (popList p c))) ≢ 0
+        → itemOf (v (Head (popList p c))) ≤ popItems p regions
+        → popRead v regions t c p ≡ accept nothing (TaskPlace t := (a + 1) ∷ TaskHead t := w ∷ []) []
     unfolding popRead
-    read-noted h k = rw (ne-eqb _ _ h, le-leb _ _ k)
+    read-noted d e h k = rw (d, e, ne-eqb _ _ h, le-leb _ _ k)
 
     -- ---- the next read
 
@@ -58,10 +60,11 @@ module _ (v : View) (regions t c : ℕ) where
     unfolding popNextOf
     next-bad x h = rw (lt-leb _ _ h)
 
-    pub next-noted : (x : ℕ) → v (popNextField p x) ≤ popItems p regions → popNextOf v regions t c p x
-        ≡ accept nothing (TaskPlace t := (popPlace p + 2) ∷ TaskNext t := v (popNextField p x) ∷ []) []
+    -- a is the place of the head read, y the next that is read
+    pub next-noted : (x : ℕ) {a y : ℕ} → a ≡ popPlace p → y ≡ v (popNextField p x) → v (popNextField p x) ≤ popItems p regions
+        → popNextOf v regions t c p x ≡ accept nothing (TaskPlace t := (a + 2) ∷ TaskNext t := y ∷ []) []
     unfolding popNextOf
-    next-noted x h = rw (le-leb _ _ h)
+    next-noted x d e h = rw (d, e, le-leb _ _ h)
 
     pub item-none : itemOf (v (TaskHead t)) < 1 → popNext v regions t c p ≡ bad
     unfolding popNext
@@ -100,10 +103,11 @@ module _ (v : View) (regions t c : ℕ) where
           head-large m = rw (le-leb _ _ h, le-leb _ _ k, le-leb _ _ l, lt-leb _ _ m)
 
           module _ (m : itemOf (v (Head (popList p c))) ≤ popItems p regions) where
-            pub exchange-lost : v (Head (popList p c)) ≢ v (TaskHead t) → popExchange v regions t c p
-                ≡ accept (lost (popList p c)) (TaskPlace t := popPlace p ∷ []) []
+            -- a is the place of the head read
+            pub exchange-lost : {a : ℕ} → a ≡ popPlace p → v (Head (popList p c)) ≢ v (TaskHead t) → popExchange v regions t c p
+                ≡ accept (lost (popList p c)) (TaskPlace t := a ∷ []) []
             unfolding popExchange
-            exchange-lost n = rw (le-leb _ _ h, le-leb _ _ k, le-leb _ _ l, le-leb _ _ m, ne-eqb _ _ n)
+            exchange-lost d n = rw (d, le-leb _ _ h, le-leb _ _ k, le-leb _ _ l, le-leb _ _ m, ne-eqb _ _ n)
 
             exchange-takes : (x word : ℕ) → x ≡ itemOf (v (TaskHead t)) - 1
                 → word ≡ advancedWord (v (TaskHead t)) (v (TaskNext t)) → v (Head (popList p c)) ≡ v (TaskHead t)
@@ -112,8 +116,8 @@ module _ (v : View) (regions t c : ℕ) where
             exchange-takes x word d f e =
                 rw (le-leb _ _ h, le-leb _ _ k, le-leb _ _ l, le-leb _ _ m, eq-eqb _ _ e, ← d, ← f) (popped-by p _ _ _)
 
-            -- x and `word` are what the code takes and writes
-            pub exchange-won : (x word : ℕ) {before after : List ℕ} → after ≡ changed (taken t c p x word) before
-                → x ≡ itemOf (v (TaskHead t)) - 1 → word ≡ advancedWord (v (TaskHead t)) (v (TaskNext t))
+            -- x and `word` are what the code takes and writes; w is the noted head that it reads, i the item on it, y the next
+            pub exchange-won : (x word : ℕ) {w i y : ℕ} {before after : List ℕ} → after ≡ changed (taken t c p x word) before
+                → w ≡ v (TaskHead t) → i ≡ itemOf w → x ≡ i - 1 → y ≡ v (TaskNext t) → word ≡ advancedWord w y
                 → v (Head (popList p c)) ≡ v (TaskHead t) → Done (popExchange v regions t c p) before after Accepted
-            exchange-won x word w d f e = done (exchange-takes x word d f e) refl w refl
+            exchange-won x word s n i d j f e = done (exchange-takes x word (rw (← n, ← i) d) (rw (← n, ← j) f) e) refl s refl

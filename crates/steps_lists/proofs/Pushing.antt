@@ -25,10 +25,10 @@ module _ (v : View) (regions t c : ℕ) (e : Decided) (ws : List Write) where
   pub released-bad : 2 < v (TaskState t) → whenPushed v regions t c Release e ws ≡ bad
   released-bad h = rw (lt-leb _ _ h)
 
-  -- r is where the code goes on
-  pub released : (r : Follow) {before after : List ℕ} {a : Answer} → Done (following r t e ws) before after a
-      → v (TaskState t) ≤ 2 → r ≡ fifth v t c (v (TaskState t)) → Done (whenPushed v regions t c Release e ws) before after a
-  released r d h k = rw (le-leb _ _ h) (does (f5-at v regions t c e ws _ r k) d)
+  -- r is where the code goes on, s the state that it reads
+  pub released : (r : Follow) {s : ℕ} {before after : List ℕ} {a : Answer} → Done (following r t e ws) before after a
+      → v (TaskState t) ≤ 2 → s ≡ v (TaskState t) → r ≡ fifth v t c s → Done (whenPushed v regions t c Release e ws) before after a
+  released r d h m k = rw (le-leb _ _ h, ← m) (does (f5-at v regions t c e ws _ r k) d)
 
   pub offered : (r : Follow) {before after : List ℕ} {a : Answer} → Done (following r t e ws) before after a
       → r ≡ sixth v t c → Done (whenPushed v regions t c Offer e ws) before after a
@@ -41,10 +41,11 @@ module _ (v : View) (regions t c : ℕ) (p : Push) where
   unfolding pushRead
   read-bad h = rw (lt-leb _ _ h)
 
-  pub read-noted : itemOf (v (Head (pushList p c))) ≤ pushItems p regions → pushRead v regions t c p
-      ≡ accept nothing (TaskPlace t := (pushPlace p + 1) ∷ TaskHead t := v (Head (pushList p c)) ∷ []) []
+  -- a is the place of the head read, w the head that is read
+  pub read-noted : {a w : ℕ} → a ≡ pushPlace p → w ≡ v (Head (pushList p c)) → itemOf (v (Head (pushList p c))) ≤ pushItems p regions
+      → pushRead v regions t c p ≡ accept nothing (TaskPlace t := (a + 1) ∷ TaskHead t := w ∷ []) []
   unfolding pushRead
-  read-noted h = rw (le-leb _ _ h)
+  read-noted d e h = rw (d, e, le-leb _ _ h)
 
   -- ---- the next's write
 
@@ -57,12 +58,12 @@ module _ (v : View) (regions t c : ℕ) (p : Push) where
     unfolding pushNext
     below-large k = rw (lt-ltb _ _ h, lt-leb _ _ k)
 
-    pub next-written : itemOf (v (TaskHead t)) ≤ pushItems p regions → pushNext v regions t c p
-        ≡ accept nothing
-        (TaskPlace t := (pushPlace p + 2) ∷ pushNextField p (v (itemField p t)) := itemOf (v (TaskHead t)) ∷ [])
-        []
+    -- a is the place of the head read, x the item and w the noted head, on which b is on top
+    pub next-written : {a x w b : ℕ} → a ≡ pushPlace p → x ≡ v (itemField p t) → w ≡ v (TaskHead t) → b ≡ itemOf w
+        → itemOf (v (TaskHead t)) ≤ pushItems p regions
+        → pushNext v regions t c p ≡ accept nothing (TaskPlace t := (a + 2) ∷ pushNextField p x := b ∷ []) []
     unfolding pushNext
-    next-written k = rw (lt-ltb _ _ h, le-leb _ _ k)
+    next-written d e f g k = rw (g, d, e, f, lt-ltb _ _ h, le-leb _ _ k)
 
   -- ---- the exchange
 
@@ -81,10 +82,11 @@ module _ (v : View) (regions t c : ℕ) (p : Push) where
       head-large m = rw (lt-ltb _ _ h, le-leb _ _ k, lt-leb _ _ m)
 
       module _ (m : itemOf (v (Head (pushList p c))) ≤ pushItems p regions) where
-        pub exchange-lost : v (Head (pushList p c)) ≢ v (TaskHead t) → pushExchange v regions t c p
-            ≡ accept (lost (pushList p c)) (TaskPlace t := pushPlace p ∷ []) []
+        -- a is the place of the head read
+        pub exchange-lost : {a : ℕ} → a ≡ pushPlace p → v (Head (pushList p c)) ≢ v (TaskHead t) → pushExchange v regions t c p
+            ≡ accept (lost (pushList p c)) (TaskPlace t := a ∷ []) []
         unfolding pushExchange
-        exchange-lost n = rw (lt-ltb _ _ h, le-leb _ _ k, le-leb _ _ m, ne-eqb _ _ n)
+        exchange-lost d n = rw (d, lt-ltb _ _ h, le-leb _ _ k, le-leb _ _ m, ne-eqb _ _ n)
 
         exchange-leads : (ℓ word : ℕ) → ℓ ≡ pushList p c → word ≡ advancedWord (v (TaskHead t)) (v (itemField p t) + 1)
             → v (Head (pushList p c)) ≡ v (TaskHead t) → pushExchange v regions t c p
@@ -92,9 +94,9 @@ module _ (v : View) (regions t c : ℕ) (p : Push) where
         unfolding pushExchange
         exchange-leads ℓ word d f e = rw (lt-ltb _ _ h, le-leb _ _ k, le-leb _ _ m, eq-eqb _ _ e, d, f)
 
-        -- ℓ and `word` are where the code writes and what
-        pub exchange-won : (ℓ word : ℕ) {before after : List ℕ} {r : Answer}
+        -- ℓ and `word` are where the code writes and what, w and x the noted head and the item that it reads
+        pub exchange-won : (ℓ word : ℕ) {w x : ℕ} {before after : List ℕ} {r : Answer}
             → Done (whenPushed v regions t c p (pushed (pushList p c) (v (itemField p t))) (Head ℓ := word ∷ [])) before after r
-            → ℓ ≡ pushList p c → word ≡ advancedWord (v (TaskHead t)) (v (itemField p t) + 1)
+            → ℓ ≡ pushList p c → w ≡ v (TaskHead t) → x ≡ v (itemField p t) → word ≡ advancedWord w (x + 1)
             → v (Head (pushList p c)) ≡ v (TaskHead t) → Done (pushExchange v regions t c p) before after r
-        exchange-won ℓ word done d f e = does (exchange-leads ℓ word d f e) done
+        exchange-won ℓ word done d i j f e = does (exchange-leads ℓ word d (rw (← i, ← j) f) e) done

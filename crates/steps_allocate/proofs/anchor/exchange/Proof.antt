@@ -10,10 +10,10 @@ use Rattle.steps_allocate.proofs.anchor.exchange.Statement.{statement}
 use Rattle.steps_allocate.proofs.anchor.exchange.Tie as tie
 
 returns : tie.Need-returns
-returns c link = done (a3Exchange-none _ _ _ _ _ (omega arith)) refl (cc) refl
+returns c link = done (a3Exchange-none _ _ _ _ _ (omega arith)) refl refl refl
 
 returns-2 : tie.Need-returns-2
-returns-2 c link = done (a3Exchange-chain _ _ _ _ _ (omega arith) (search (failed-for hasChain))) refl (cc) refl
+returns-2 c link = done (a3Exchange-chain _ _ _ _ _ (omega arith) (search (failed-for hasChain))) refl refl refl
 
 returns-3 : tie.Need-returns-3
 returns-3 c link =

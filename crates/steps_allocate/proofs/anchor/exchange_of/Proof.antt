@@ -10,14 +10,14 @@ use Rattle.steps_allocate.proofs.anchor.exchange_of.Statement.{statemen
 use Rattle.steps_allocate.proofs.anchor.exchange_of.Tie as tie
 
 returns : tie.Need-returns
-returns c link = done (a3ExchangeOf-none _ _ _ _ _ _ _ (search (failed-at isAnchor))) refl (cc) refl
+returns c link = done (a3ExchangeOf-none _ _ _ _ _ _ _ (search (failed-at isAnchor))) refl refl refl
 
 returns-2 : tie.Need-returns-2
-returns-2 c link = done (a3ExchangeOf-lost _ _ _ _ _ _ _ (search (passed-at isAnchor)) (omega arith)) refl (cc) refl
+returns-2 c link = done (a3ExchangeOf-lost _ _ _ _ _ _ _ (search (passed-at isAnchor)) (omega arith)) refl (c .before .before .set-task-place .ensures) refl
 
 returns-3 : tie.Need-returns-3
 returns-3 c link =
-    done (a3ExchangeOf-region _ _ _ _ _ _ _ (search (passed-at isAnchor)) (omega arith) (omega arith)) refl (cc) refl
+    done (a3ExchangeOf-region _ _ _ _ _ _ _ (search (passed-at isAnchor)) (omega arith) (omega arith)) refl refl refl
 
 first-of-requires : tie.Need-first-of-requires
 first-of-requires c κs = search (passed-at isAnchor)

@@ -8,7 +8,7 @@ use Rattle.steps_allocate.proofs.anchor.read.Statement.{statement}
 use Rattle.steps_allocate.proofs.anchor.read.Tie as tie
 
 returns : tie.Need-returns
-returns c regions link = done (a3Read-none _ _ _ _ _ (omega arith)) refl (cc) refl
+returns c regions link = done (a3Read-none _ _ _ _ _ (omega arith)) refl refl refl
 
 returns-2 : tie.Need-returns-2
 returns-2 c regions link =

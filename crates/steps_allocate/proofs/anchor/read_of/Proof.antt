@@ -10,21 +10,21 @@ use Rattle.steps_allocate.proofs.anchor.read_of.Statement.{statement}
 use Rattle.steps_allocate.proofs.anchor.read_of.Tie as tie
 
 returns : tie.Need-returns
-returns c regions link = done (a3ReadOf-none _ _ _ _ _ _ (search (failed-at isAnchor))) refl (cc) refl
+returns c regions link = done (a3ReadOf-none _ _ _ _ _ _ (search (failed-at isAnchor))) refl refl refl
 
 returns-2 : tie.Need-returns-2
 returns-2 c regions link =
-    done (a3ReadOf-empty _ _ _ _ _ _ (search (passed-at isAnchor)) (search (shown-at isEmpty))) refl (cc) refl
+    done (a3ReadOf-empty _ _ _ _ _ _ (search (passed-at isAnchor)) (search (shown-at isEmpty))) refl (c .before .before .set-task-place .ensures) refl
 
 returns-3 : tie.Need-returns-3
 returns-3 c regions link =
     done (a3ReadOf-chain _ _ _ _ _ _ (search (passed-at isAnchor)) (search (shown-at isEmpty))
-    (search (failed-for hasChain))) refl (cc) refl
+    (search (failed-for hasChain))) refl refl refl
 
 returns-4 : tie.Need-returns-4
 returns-4 c regions link =
     done (a3ReadOf-noted _ _ _ _ _ _ (search (passed-at isAnchor)) (search (shown-at isEmpty))
-    (search (passed-for hasChain))) refl (cc) refl
+    (search (passed-for hasChain))) refl (rw (c .before .before .before .before .before .before .before .before .before .before .before .before .before .before .before .anchor .ensures) at (rw (c .before .before .before .before .before .before .set-task-place2 .ensures) at (c .before .before .set-task-anchor .ensures))) refl
 
 pub read-of-spec : {M : Type 1} → statement M
 read-of-spec =

@@ -8,10 +8,10 @@ use Rattle.steps_allocate.proofs.cache.take.Statement.{statement}
 use Rattle.steps_allocate.proofs.cache.take.Tie as tie
 
 returns : tie.Need-returns
-returns c = done (a1-empty _ _ _ _ _ (omega arith)) refl (cc) refl
+returns c = done (a1-empty _ _ _ _ _ (omega arith)) refl (c .before .before .set-task-place .ensures) refl
 
 returns-2 : tie.Need-returns-2
-returns-2 c = done (a1-many _ _ _ _ _ (omega arith) (omega arith)) refl (cc) refl
+returns-2 c = done (a1-many _ _ _ _ _ (omega arith) (omega arith)) refl refl refl
 
 returns-3 : tie.Need-returns-3
 returns-3 c =

@@ -9,13 +9,13 @@ use Rattle.steps_allocate.proofs.cache.take_top.Statement.{statement}
 use Rattle.steps_allocate.proofs.cache.take_top.Tie as tie
 
 returns : tie.Need-returns
-returns c = done (a1Take-block _ _ _ _ _ _ _ (search failed)) refl (cc) refl
+returns c = done (a1Take-block _ _ _ _ _ _ _ (search failed)) refl refl refl
 
 read-requires : tie.Need-read-requires
 read-requires c κs = search (needs, block-link, passed)
 
 returns-2 : tie.Need-returns-2
-returns-2 c = done (a1Take-below _ _ _ _ _ _ _ (c .before .before .read .ensures) (search passed) (search failed)) refl (cc) refl
+returns-2 c = done (a1Take-below _ _ _ _ _ _ _ (c .before .before .read .ensures) (search passed) (search failed)) refl refl refl
 
 cast-finish : tie.Need-cast-finish
 cast-finish c = search (needs, top-fits)

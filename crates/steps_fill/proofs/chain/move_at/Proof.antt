@@ -10,11 +10,11 @@ use Rattle.steps_fill.proofs.chain.move_at.Statement.{statement}
 use Rattle.steps_fill.proofs.chain.move_at.Tie as tie
 
 returns : tie.Need-returns
-returns c = done-in (a4-full _ _ _ _ _ (omega arith) (omega arith) (omega arith) (omega arith) (omega arith)) refl (cc) (cc)
+returns c = done-in (a4-full _ _ _ _ _ (omega arith) (omega arith) (omega arith) (omega arith) (omega arith)) refl refl refl
 
 returns-2 : tie.Need-returns-2
 returns-2 c =
-    done-in (a4-top _ _ _ _ _ (omega arith) (omega arith) (omega arith) (omega arith) (omega arith) (search failed-top)) refl (cc) (cc)
+    done-in (a4-top _ _ _ _ _ (omega arith) (omega arith) (omega arith) (omega arith) (omega arith) (search failed-top)) refl refl refl
 
 returns-3 : tie.Need-returns-3
 returns-3 c =

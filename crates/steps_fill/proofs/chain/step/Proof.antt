@@ -9,16 +9,16 @@ use Rattle.steps_fill.proofs.chain.step.Statement.{statement}
 use Rattle.steps_fill.proofs.chain.step.Tie as tie
 
 returns : tie.Need-returns
-returns c = done-in (a4-region _ _ _ _ _ (omega arith)) refl (cc) (cc)
+returns c = done-in (a4-region _ _ _ _ _ (omega arith)) refl refl refl
 
 returns-2 : tie.Need-returns-2
-returns-2 c = done-in (a4-index _ _ _ _ _ (omega arith) (omega arith)) refl (cc) (cc)
+returns-2 c = done-in (a4-index _ _ _ _ _ (omega arith) (omega arith)) refl refl refl
 
 returns-3 : tie.Need-returns-3
-returns-3 c = done-in (a4-none _ _ _ _ _ (omega arith) (omega arith) (omega arith)) refl (cc) (cc)
+returns-3 c = done-in (a4-none _ _ _ _ _ (omega arith) (omega arith) (omega arith)) refl refl refl
 
 returns-4 : tie.Need-returns-4
-returns-4 c = done-in (a4-many _ _ _ _ _ (omega arith) (omega arith) (omega arith) (omega arith)) refl (cc) (cc)
+returns-4 c = done-in (a4-many _ _ _ _ _ (omega arith) (omega arith) (omega arith) (omega arith)) refl refl refl
 
 move-at-requires : tie.Need-move-at-requires
 move-at-requires c κs = (

@@ -10,16 +10,16 @@ use Rattle.steps_fill.proofs.region.carve.Statement.{statement}
 use Rattle.steps_fill.proofs.region.carve.Tie as tie
 
 returns : tie.Need-returns
-returns c = done-in (a8-region _ _ _ _ _ (omega arith)) refl (cc) (cc)
+returns c = done-in (a8-region _ _ _ _ _ (omega arith)) refl refl refl
 
 returns-2 : tie.Need-returns-2
-returns-2 c = done-in (a8-index _ _ _ _ _ (omega arith) (omega arith)) refl (cc) (cc)
+returns-2 c = done-in (a8-index _ _ _ _ _ (omega arith) (omega arith)) refl refl refl
 
 returns-3 : tie.Need-returns-3
-returns-3 c = done-in (a8-full _ _ _ _ _ (omega arith) (omega arith) (omega arith)) refl (cc) (cc)
+returns-3 c = done-in (a8-full _ _ _ _ _ (omega arith) (omega arith) (omega arith)) refl refl refl
 
 returns-4 : tie.Need-returns-4
-returns-4 c = done-in (a8-top _ _ _ _ _ (omega arith) (omega arith) (omega arith) (search failed-top)) refl (cc) (cc)
+returns-4 c = done-in (a8-top _ _ _ _ _ (omega arith) (omega arith) (omega arith) (search failed-top)) refl refl refl
 
 returns-5 : tie.Need-returns-5
 returns-5 c =

@@ -9,10 +9,10 @@ use Rattle.steps_fill.proofs.region.open.Statement.{statement}
 use Rattle.steps_fill.proofs.region.open.Tie as tie
 
 returns : tie.Need-returns
-returns c link = done (a7-none _ _ _ _ _ (omega arith)) refl (cc) refl
+returns c link = done (a7-none _ _ _ _ _ (omega arith)) refl refl refl
 
 returns-2 : tie.Need-returns-2
-returns-2 c link = done (a7-region _ _ _ _ _ (omega arith) (omega arith)) refl (cc) refl
+returns-2 c link = done (a7-region _ _ _ _ _ (omega arith) (omega arith)) refl refl refl
 
 returns-3 : tie.Need-returns-3
 returns-3 c link =

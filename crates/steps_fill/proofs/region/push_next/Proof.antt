@@ -4,7 +4,7 @@ use Rattle.steps_fill.proofs.region.push_next.Statement.{statement}
 use Rattle.steps_fill.proofs.region.push_next.Tie as tie
 
 returns : tie.Need-returns
-returns c = cc
+returns c = rw (c .before .before .before .before .before .before .before .before .before .before .set-task-index .ensures) at (rw (c .before .before .before .before .before .before .set-cache-top .ensures) at (c .before .before .set-cache-count .ensures))
 
 pub push-next-spec : {M : Type 1} → statement M
 push-next-spec =

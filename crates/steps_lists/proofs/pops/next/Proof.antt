@@ -8,10 +8,10 @@ use Rattle.steps_lists.proofs.pops.next.Statement.{statement}
 use Rattle.steps_lists.proofs.pops.next.Tie as tie
 
 returns : tie.Need-returns
-returns c = λ class. done (item-none _ _ _ class _ (omega arith)) refl (cc) refl
+returns c = λ class. done (item-none _ _ _ class _ (omega arith)) refl refl refl
 
 returns-2 : tie.Need-returns-2
-returns-2 c = λ class. done (item-large _ _ _ class _ (omega arith) (omega arith)) refl (cc) refl
+returns-2 c = λ class. done (item-large _ _ _ class _ (omega arith) (omega arith)) refl refl refl
 
 returns-3 : tie.Need-returns-3
 returns-3 c = λ class.

@@ -8,10 +8,11 @@ use Rattle.steps_lists.proofs.pops.next_of.Statement.{statement}
 use Rattle.steps_lists.proofs.pops.next_of.Tie as tie
 
 returns : tie.Need-returns
-returns c = λ class. done (next-bad _ _ _ class _ _ (omega arith)) refl (cc) refl
+returns c = λ class. done (next-bad _ _ _ class _ _ (omega arith)) refl refl refl
 
 returns-2 : tie.Need-returns-2
-returns-2 c = λ class. done (next-noted _ _ _ class _ _ (omega arith)) refl (cc) refl
+returns-2 c = λ class.
+    done (next-noted _ _ _ class _ _ (c .before .before .before .before .before .before .before .pop-place .ensures .0) (c .before .before .before .before .before .before .before .before .before .before .before .next .ensures) (omega arith)) refl (rw (c .before .before .before .before .before .before .set-task-place .ensures) at (c .before .before .set-task-next .ensures)) refl
 
 pub next-of-spec : {M : Type 1} → statement M
 next-of-spec =

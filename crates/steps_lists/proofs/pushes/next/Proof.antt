@@ -8,13 +8,16 @@ use Rattle.steps_lists.proofs.pushes.next.Statement.{statement}
 use Rattle.steps_lists.proofs.pushes.next.Tie as tie
 
 returns : tie.Need-returns
-returns c = λ class. done (item-large _ _ _ class _ (omega arith)) refl (cc) refl
+returns c = λ class. done (item-large _ _ _ class _ (omega arith)) refl refl refl
 
 returns-2 : tie.Need-returns-2
-returns-2 c = λ class. done (below-large _ _ _ class _ (omega arith) (omega arith)) refl (cc) refl
+returns-2 c = λ class. done (below-large _ _ _ class _ (omega arith) (omega arith)) refl refl refl
 
 returns-3 : tie.Need-returns-3
-returns-3 c = λ class. done (next-written _ _ _ class _ (omega arith) (omega arith)) refl (cc) refl
+returns-3 c = λ class.
+    done
+    (next-written _ _ _ class _ (omega arith) (c .before .before .before .before .before .before .before .push-place .ensures .0) (c .before .before .before .before .before .before .before .before .before .before .before .before .before .before .held .ensures) (c .before .before .before .before .before .before .before .before .before .before .before .task-head .ensures) (c .before .before .before .before .before .before .before .before .before .before .item-of .ensures) (omega arith))
+    refl (rw (c .before .before .before .before .before .before .set-task-place .ensures) at (c .before .before .set-next .ensures)) refl
 
 pub next-spec : {M : Type 1} → statement M
 next-spec =

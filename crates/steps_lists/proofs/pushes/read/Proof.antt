@@ -8,10 +8,11 @@ use Rattle.steps_lists.proofs.pushes.read.Statement.{statement}
 use Rattle.steps_lists.proofs.pushes.read.Tie as tie
 
 returns : tie.Need-returns
-returns c = done (read-bad _ _ _ _ _ (omega arith)) refl (cc) refl
+returns c = done (read-bad _ _ _ _ _ (omega arith)) refl refl refl
 
 returns-2 : tie.Need-returns-2
-returns-2 c = done (read-noted _ _ _ _ _ (omega arith)) refl (cc) refl
+returns-2 c =
+    done (read-noted _ _ _ _ _ (c .before .before .before .before .before .before .before .push-place .ensures .0) (c .before .before .before .before .before .before .before .before .before .before .before .before .head .ensures) (omega arith)) refl (rw (c .before .before .before .before .before .before .set-task-place .ensures) at (c .before .before .set-task-head .ensures)) refl
 
 pub read-spec : {M : Type 1} → statement M
 read-spec =

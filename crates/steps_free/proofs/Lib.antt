@@ -1,5 +1,0 @@
-pub mod Putting
-pub mod Grouping
-pub mod Returning
-pub mod Clearing
-pub mod Fitting

@@ -1,0 +1,4 @@
+-- The steps' ways out.
+pub mod Putting
+pub mod Grouping
+pub mod Fitting

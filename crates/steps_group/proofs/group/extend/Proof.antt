@@ -1,0 +1,11 @@
+-- The stores are the writes, in their order.
+use borrow.Author.Needs.{needs}
+use Rattle.steps_group.proofs.group.extend.Statement.{statement}
+use Rattle.steps_group.proofs.group.extend.Tie as tie
+
+returns : tie.Need-returns
+returns c = rw (c .before .before .before .before .before .before .set-group-last .ensures) at (c .before .before .set-group-count .ensures)
+
+pub extend-spec : {M : Type 1} → statement M
+extend-spec =
+    tie.close (tie.spec (λ c κs. search needs) (λ c κs. search needs) (λ c. search needs) returns)

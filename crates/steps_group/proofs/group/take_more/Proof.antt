@@ -1,0 +1,77 @@
+-- The tests are those of the definition, in its order.
+use borrow.Author.Needs.{needs}
+use Prim.Native.Nat.{_-_}
+use Rattle.classes.proofs.Tables.{perRegion-high}
+use native.Mathlib.Omega.{arith}
+use mathlib.Core.Path.{refl}
+use Rattle.stepped.proofs.Doing.{done-in}
+use Rattle.ranges.proofs.Passed.{failed, passed}
+use Rattle.steps_group.proofs.Grouping.{more-full, last-bad, below-bad, more-taken}
+use Rattle.steps_group.proofs.Fitting.{link-inside, index-small, top-small}
+use Rattle.steps_group.proofs.group.take_more.Statement.{statement}
+use Rattle.steps_group.proofs.group.take_more.Tie as tie
+
+returns : tie.Need-returns
+returns c = done-in (more-full _ _ _ _ _ _ _ _ _ (omega arith)) refl refl refl
+
+returns-2 : tie.Need-returns-2
+returns-2 c = done-in (last-bad _ _ _ _ _ _ _ _ _ (omega arith) (omega arith)) refl refl refl
+
+returns-3 : tie.Need-returns-3
+returns-3 c =
+    done-in
+    (below-bad _ _ _ _ _ _ _ _ _ (omega arith) (omega arith) (c .before .before .read .ensures) (failed (c .before .is-top .ensures) (c .if3 .taken))) refl refl refl
+
+cast-index : tie.Need-cast-index
+cast-index c = let h = index-small _ _ (c .index-of .ensures) in omega arith
+
+cast-write : tie.Need-cast-write
+cast-write c = let h = index-small _ _ (c .before .before .index-of .ensures) in omega arith
+
+write-requires : tie.Need-write-requires
+write-requires c κs = link-inside (c .before .before .before .before .before .before .before .before .before .before .before .before .before .before .args .regions) (c .before .before .before .before .before .before .before .before .before .before .before .before .before .before .args .region) (c .before .before .before .before .before .before .before .before .before .before .before .before .before .before .args .class) (c .before .before .before .before .before .before .before .before .group-last .result) (c .before .first-unit .ensures) (omega arith) (omega arith) (search needs)
+
+add-extend : tie.Need-add-extend
+add-extend c = omega (arith, perRegion-high (c .before .before .before .before .before .before .before .before .before .before .before .before .before .before .before .before .before .before .args .class))
+
+cast-set : tie.Need-cast-set
+cast-set c = let h = top-small (c .before .before .before .before .before .before .before .before .before .before .before .before .before .before .before .before .before .before .before .before .before .before .args .regions) (c .before .before .before .before .before .before .before .before .before .before .before .before .before .before .before .before .before .before .before .before .before .before .args .class) (c .before .before .before .before .before .before .before .before .before .before .before .before .before .before .before .before .before .before .before .before .before .before .args .count - 1) (c .before .before .before .before .before .before .before .before .before .before .before .before .before .read .result) (omega arith) (passed (c .before .before .before .before .before .before .before .before .before .before .before .before .is-top .ensures) (c .before .before .before .before .before .before .before .before .before .before .before .if3 .left)) in omega arith
+
+returns-4 : tie.Need-returns-4
+returns-4 c =
+    done-in
+    (more-taken _ _ _ _ _ _ _ _ _ (omega arith) (omega arith) (c .before .before .before .before .before .before .before .before .before .before .before .before .before .before .before .before .read .ensures) (c .before .before .before .before .before .before .before .before .before .before .before .before .before .index-of .ensures) (c .before .before .before .before .before .before .before .before .before .before .before .before .before .before .before .before .before .before .before .group-last .ensures) (c .before .before .before .before .before .before .before .before .before .before .before .before .first-unit .ensures)
+    (passed (c .before .before .before .before .before .before .before .before .before .before .before .before .before .before .before .is-top .ensures) (c .before .before .before .before .before .before .before .before .before .before .before .before .before .before .if3 .left)))
+    refl (rw (c .before .before .before .before .before .before .extend .ensures) at (c .before .before .set .ensures)) (c .before .before .before .before .before .before .before .before .before .before .write .ensures)
+
+pub take-more-spec : {M : Type 1} → statement M
+take-more-spec =
+    tie.close
+    (tie.spec
+    (λ c κs. search needs)
+    returns
+    (λ c κs. search needs)
+    (λ c. search needs)
+    (λ c. search needs)
+    returns-2
+    (λ c κs. search needs)
+    (λ c. search needs)
+    (λ c. search needs)
+    (λ c. search needs)
+    (λ c κs. search needs)
+    (λ c. search needs)
+    (λ c. search needs)
+    returns-3
+    (λ c κs. search needs)
+    cast-index
+    (λ c κs. search needs)
+    cast-write
+    write-requires
+    add-extend
+    (λ c κs. search needs)
+    cast-set
+    (λ c. search needs)
+    (λ c κs. search needs)
+    (λ c. search needs)
+    (λ c. search needs)
+    returns-4)

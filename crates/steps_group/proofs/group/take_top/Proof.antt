@@ -1,0 +1,50 @@
+-- The tests are those of the definition, in its order.
+use borrow.Author.Needs.{needs}
+use native.Mathlib.Omega.{arith}
+use mathlib.Core.Path.{refl}
+use Rattle.stepped.proofs.Doing.{done-in, does-in, lends}
+use Rattle.ranges.proofs.Passed.{failed, passed, block-passed}
+use Rattle.steps_group.proofs.Grouping.{top-bad, top-first, region-bad, top-other, top-more}
+use Rattle.steps_group.proofs.group.take_top.Statement.{statement}
+use Rattle.steps_group.proofs.group.take_top.Tie as tie
+
+returns : tie.Need-returns
+returns c = done-in (top-bad _ _ _ _ _ _ _ _ (failed (c .before .is-block .ensures) (c .if1 .taken))) refl refl refl
+
+take-first-requires : tie.Need-take-first-requires
+take-first-requires c κs = let h = block-passed (c .before .before .before .before .before .before .before .args .regions) (c .before .before .before .before .before .before .before .args .class) (c .before .before .before .before .before .before .before .args .unit) (passed (c .before .before .before .before .is-block .ensures) (c .before .before .before .if1 .left)) in search needs
+
+returns-2 : tie.Need-returns-2
+returns-2 c = does-in (top-first _ _ _ _ _ _ _ _ (passed (c .before .before .before .before .before .before .before .is-block .ensures) (c .before .before .before .before .before .before .if1 .left)) (omega arith)) (lends (c .before .before .take-first .ensures))
+
+returns-3 : tie.Need-returns-3
+returns-3 c = done-in (region-bad _ _ _ _ _ _ _ _ (passed (c .before .before .before .before .before .is-block .ensures) (c .before .before .before .before .if1 .left)) (omega arith) (omega arith)) refl refl refl
+
+returns-4 : tie.Need-returns-4
+returns-4 c = done-in (top-other _ _ _ _ _ _ _ _ (passed (c .before .before .before .before .before .before .before .before .before .before .before .is-block .ensures) (c .before .before .before .before .before .before .before .before .before .before .if1 .left)) (omega arith) (omega arith) (omega arith)) refl (c .before .before .set-task-place .ensures) refl
+
+returns-5 : tie.Need-returns-5
+returns-5 c = does-in (top-more _ _ _ _ _ _ _ _ (passed (c .before .before .before .before .before .before .before .before .before .before .before .before .before .before .is-block .ensures) (c .before .before .before .before .before .before .before .before .before .before .before .before .before .if1 .left)) (omega arith) (c .before .before .before .before .before .before .before .before .before .before .task-region .ensures) (omega arith) (omega arith)) (c .before .before .before .before .take-more .ensures)
+
+pub take-top-spec : {M : Type 1} → statement M
+take-top-spec =
+    tie.close
+    (tie.spec
+    (λ c κs. search needs)
+    returns
+    take-first-requires
+    (λ c. search needs)
+    (λ c. search needs)
+    returns-2
+    (λ c κs. search needs)
+    (λ c. search needs)
+    (λ c. search needs)
+    returns-3
+    (λ c κs. search needs)
+    (λ c κs. search needs)
+    (λ c. search needs)
+    returns-4
+    (λ c κs. search needs)
+    (λ c. search needs)
+    (λ c. search needs)
+    returns-5)

@@ -1,0 +1,3 @@
+-- The steps' ways out.
+pub mod Returning
+pub mod Clearing

@@ -1,0 +1,36 @@
+-- The tests are those of the definition, in its order.
+use borrow.Author.Needs.{needs}
+use native.Mathlib.Omega.{arith}
+use mathlib.Core.Path.{refl}
+use Rattle.stepped.proofs.Doing.{done, does}
+use Rattle.stepped.specs.Ranges.{isAnchor}
+use Rattle.ranges.proofs.Passed.{failed-at, passed-at}
+use Rattle.steps_return.proofs.Returning.{anchor-bad, anchor-changed, anchor-noted}
+use Rattle.steps_return.proofs.exchange.exchange_of.Statement.{statement}
+use Rattle.steps_return.proofs.exchange.exchange_of.Tie as tie
+
+returns : tie.Need-returns
+returns c = λ link. done (anchor-bad _ link _ _ _ _ _ _ _ (failed-at isAnchor (c .before .before .anchor .ensures) (c .before .is-anchor .ensures) (c .if1 .taken))) refl refl refl
+
+returns-2 : tie.Need-returns-2
+returns-2 c = λ link.
+    done (anchor-changed _ link _ _ _ _ _ _ _ (passed-at isAnchor (c .before .before .before .before .before .before .before .anchor .ensures) (c .before .before .before .before .before .before .is-anchor .ensures) (c .before .before .before .before .before .if1 .left)) (omega arith)) refl (c .before .before .set-task-place .ensures) refl
+
+returns-3 : tie.Need-returns-3
+returns-3 c = λ link.
+    does (anchor-noted _ link _ _ _ _ _ _ _ (passed-at isAnchor (c .before .before .before .before .before .before .before .anchor .ensures) (c .before .before .before .before .before .before .is-anchor .ensures) (c .before .before .before .before .before .if1 .left)) (omega arith)) (c .before .before .won .ensures link)
+
+pub exchange-of-spec : {M : Type 1} → statement M
+exchange-of-spec =
+    tie.close
+    (tie.spec
+    (λ c κs. search needs)
+    (λ c κs. search needs)
+    (λ c. search needs)
+    returns
+    (λ c κs. search needs)
+    (λ c. search needs)
+    returns-2
+    (λ c κs. search needs)
+    (λ c. search needs)
+    returns-3)

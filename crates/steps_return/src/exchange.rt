@@ -1,0 +1,161 @@
+// Step 3: the group is returned to its region's chain, by an exchange of the anchor of the region's descriptor.
+use crate::parts;
+use control::answer::Answer;
+use steps_group::group;
+use steps_lists::follow;
+use steps_lists::follow::Follow;
+ghost use mathlib.Core.Path.{_≡_};
+ghost use mathlib.Core.List.{[], _∷_};
+ghost use Prim.Native.Nat.{ℕ, _<_};
+ghost use Rattle.fields.specs.Columns.{_:=_};
+ghost use Rattle.words.specs.Anchor.{anchorOf, Room};
+ghost use Rattle.classes.specs.Classes.{perRegion};
+ghost use Rattle.plain.specs.Moves.{gave};
+ghost use Rattle.control.specs.Layout.{Control, seen, changed, Anchor, TaskState};
+ghost use Rattle.stepped.specs.Done.{Given, Done};
+ghost use Rattle.stepped.specs.Lists.{f5};
+ghost use Rattle.stepped.specs.Free.{f3ExchangeOf, f3Won, f3Exchange};
+
+// What every won exchange stores: the anchor, and the state in which it was found. Callers: `won` and `go_on`.
+fn store(control: &mut [u8], task: usize, descriptor: usize, anchor: u64, state: u8)
+    requires { ⌜ Control (now control) × (task < 8) × (descriptor < 64) ⌝ }
+    ensures { λ r. ⌜ now (control .exit) ≡ changed (Anchor descriptor := anchor ∷ TaskState task := state ∷ []) (now (control .entry)) ⌝ }
+{
+    control::regions::set_anchor(control, descriptor, anchor);
+    control::tasks::set_task_state(control, task, state);
+}
+
+// A won exchange after which the region is not EMPTY goes on by the state before: step 5, else 6. Caller: `won`.
+fn go_on(
+    control: &mut [u8],
+    regions: usize,
+    task: usize,
+    class: usize,
+    descriptor: usize,
+    anchor: u64,
+    state: u8,
+) -> Answer
+    requires { ⌜ Given (now control) regions task class × (descriptor < 64) ⌝ }
+    ensures { λ r. ⌜ Done (f5 (seen (now (control .entry))) regions task class state (gave descriptor) (Anchor descriptor := anchor ∷ TaskState task := state ∷ [])) (now (control .entry)) (now (control .exit)) r ⌝ }
+{
+    let next = follow::five(control, task, class, state as u32);
+    match next {
+        Follow::One => {
+            control::tasks::set_task_place(control, task, 28);
+            store(control, task, descriptor, anchor, state);
+            Answer::Accepted
+        }
+        Follow::Two => {
+            group::begin(control, task);
+            store(control, task, descriptor, anchor, state);
+            Answer::Accepted
+        }
+        Follow::Offer => {
+            control::tasks::set_task_place(control, task, 20);
+            store(control, task, descriptor, anchor, state);
+            Answer::Accepted
+        }
+        Follow::Bad => Answer::Refused(14),
+    }
+}
+
+// The won exchange: step 4 if the region is now EMPTY, else by the state before. Caller: `exchange_of`, for an exchange whose
+// noted anchor has been found to have room for the group.
+fn won(
+    control: &mut [u8],
+    regions: usize,
+    task: usize,
+    class: usize,
+    descriptor: usize,
+    word: u64,
+    first: u16,
+    group: u16,
+) -> Answer
+    requires { ⌜ Given (now control) regions task class × (descriptor < 64) × Room (anchorOf word) group (perRegion class) ⌝ }
+    ensures { λ r. ⌜ ((link : ℕ → ℕ) → Done (f3Won (seen (now (control .entry))) link regions task class descriptor word first group) (now (control .entry)) (now (control .exit)) r) ⌝ }
+{
+    let n = classes::table::per_region(class) as u32;
+    let state = parts::state_of(word);
+    let next = parts::returned_word(word, first, group, n);
+    if parts::count_of(word) + (group as u32) == n {
+        control::tasks::set_task_place(control, task, 33);
+        store(control, task, descriptor, next, state);
+        return Answer::Accepted;
+    }
+    go_on(control, regions, task, class, descriptor, next, state)
+}
+
+// The exchange: won where the anchor is the noted one, else the anchor is read again. Caller: `exchange`, which has tested
+// the descriptor, and that the noted anchor has room for the group.
+fn exchange_of(
+    control: &mut [u8],
+    regions: usize,
+    task: usize,
+    class: usize,
+    descriptor: usize,
+    word: u64,
+    first: u16,
+    group: u16,
+) -> Answer
+    requires { ⌜ Given (now control) regions task class × (descriptor < 64) × Room (anchorOf word) group (perRegion class) ⌝ }
+    ensures { λ r. ⌜ ((link : ℕ → ℕ) → Done (f3ExchangeOf (seen (now (control .entry))) link regions task class descriptor word first group) (now (control .entry)) (now (control .exit)) r) ⌝ }
+{
+    let current = control::regions::anchor(control, descriptor);
+    if !ranges::is_anchor(current) {
+        return Answer::Refused(14);
+    }
+    if current != word {
+        control::tasks::set_task_place(control, task, 30);
+        return Answer::Accepted;
+    }
+    won(
+        control,
+        regions,
+        task,
+        class,
+        descriptor,
+        word,
+        first,
+        group,
+    )
+}
+
+// Step 3, the exchange.
+pub fn exchange(control: &mut [u8], regions: usize, task: usize, class: usize) -> Answer
+    requires { ⌜ Given (now control) regions task class ⌝ }
+    ensures { λ r. ⌜ ((link : ℕ → ℕ) → Done (f3Exchange (seen (now (control .entry))) link regions task class) (now (control .entry)) (now (control .exit)) r) ⌝ }
+{
+    let n = classes::table::per_region(class);
+    let descriptor = control::tasks::task_descriptor(control, task) as usize;
+    if 64 <= descriptor {
+        return Answer::Refused(14);
+    }
+    let first = control::notes::group_first(control, task);
+    if n <= (first as usize) {
+        return Answer::Refused(14);
+    }
+    let group = control::notes::group_count(control, task);
+    if group < 1 {
+        return Answer::Refused(14);
+    }
+    if n < (group as usize) {
+        return Answer::Refused(14);
+    }
+    let word = control::notes::task_anchor(control, task);
+    if !ranges::is_anchor(word) {
+        return Answer::Refused(14);
+    }
+    if !ranges::has_room(n, group as usize, word) {
+        return Answer::Refused(14);
+    }
+    exchange_of(
+        control,
+        regions,
+        task,
+        class,
+        descriptor,
+        word,
+        first,
+        group,
+    )
+}
