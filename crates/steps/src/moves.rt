@@ -2,8 +2,8 @@
 use control::answer::Answer;
 use control::moves::Pop;
 use control::moves::Push;
-use steps_lists::pops;
-use steps_lists::pushes;
+use steps_pops::pops;
+use steps_pushes::pushes;
 ghost use Prim.Native.Nat.{ℕ, _+_, _≤_, _<_};
 ghost use Rattle.control.specs.Layout.{seen};
 ghost use Rattle.stepped.specs.Done.{Given, Done};

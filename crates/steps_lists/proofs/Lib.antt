@@ -1,5 +1,3 @@
--- The steps' ways out.
+-- Laws of what the list moves share.
 pub mod Reasons
 pub mod Following
-pub mod Popping
-pub mod Pushing

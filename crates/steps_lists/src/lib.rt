@@ -1,7 +1,6 @@
-// The pops and pushes of the step list, one function for each step, and where a free goes on after a won exchange.
+// What the pops and the pushes of the step list share: what the reason of a move decides, head words, items, and where a free
+// goes on after a won exchange.
 pub mod follow;
-mod heads;
-mod items;
-pub mod pops;
-pub mod pushes;
-mod reason;
+pub mod heads;
+pub mod items;
+pub mod reason;

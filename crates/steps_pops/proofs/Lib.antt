@@ -1,0 +1,2 @@
+-- Laws of the pops.
+pub mod Popping

@@ -1,0 +1,2 @@
+-- Laws of the pushes.
+pub mod Pushing

@@ -1,0 +1,45 @@
+-- In each case the stores are the writes of that place's outcome.
+use borrow.Author.Needs.{needs}
+use mathlib.Core.Path.{refl}
+use Rattle.steps_pushes.proofs.pushes.go_on.Statement.{statement}
+use Rattle.steps_pushes.proofs.pushes.go_on.Tie as tie
+
+returns : tie.Need-returns
+returns c = λ e. rw (c .before .before .before .before .before .before .before .before .enum-told .given .1) (record { answer = refl; control = rw (c .before .before .before .before .before .before .set-task-place .ensures) at (c .before .before .set-head .ensures); links = refl })
+
+returns-2 : tie.Need-returns-2
+returns-2 c =
+    let c2 = c .before .before in
+    let c6 = c2 .before .before .before .before in
+    let c10 = c6 .before .before .before .before in
+    let c12 = c10 .before .before in
+    λ e. rw (c12 .enum-told2 .given .1) (record { answer = refl; control = rw (c10 .set-task-place2 .ensures) at (rw (c6 .set-group-count .ensures) at (c2 .set-head2 .ensures)); links = refl })
+
+returns-3 : tie.Need-returns-3
+returns-3 c = λ e. rw (c .before .before .before .before .before .before .before .before .enum-told3 .given .1) (record { answer = refl; control = rw (c .before .before .before .before .before .before .set-task-place3 .ensures) at (c .before .before .set-head3 .ensures); links = refl })
+
+returns-4 : tie.Need-returns-4
+returns-4 c = λ e. rw (c .enum-told4 .given .1) (record { answer = refl; control = refl; links = refl })
+
+pub go-on-spec : {M : Type 1} → statement M
+go-on-spec =
+    tie.close
+    (tie.spec
+    (λ c. search needs)
+    (λ c κs. search needs)
+    (λ c κs. search needs)
+    (λ c. search needs)
+    (λ c κs. search needs)
+    (λ c κs. search needs)
+    (λ c κs. search needs)
+    (λ c. search needs)
+    (λ c κs. search needs)
+    (λ c κs. search needs)
+    (λ c. search needs)
+    (λ c. search needs)
+    returns
+    (λ c. search needs)
+    returns-2
+    (λ c. search needs)
+    returns-3
+    returns-4)

@@ -1,0 +1,148 @@
+// The steps of a push: read the head, write the item's next, exchange. The caller is the step of a call that has tested its
+// memories and its task; the place tells the reason.
+use control::answer::Answer;
+use control::lists;
+use control::moves::Push;
+use control::notes;
+use control::tasks;
+use steps_lists::follow;
+use steps_lists::follow::Follow;
+use steps_lists::heads;
+use steps_lists::items;
+use steps_lists::reason;
+ghost use mathlib.Core.Path.{_≡_};
+ghost use mathlib.Core.List.{[], _∷_};
+ghost use Prim.Native.Nat.{ℕ, _<_, _≤_};
+ghost use Rattle.fields.specs.Columns.{_:=_};
+ghost use Rattle.plain.specs.Moves.{Decided};
+ghost use Rattle.control.specs.Layout.{Control, seen, Head};
+ghost use Rattle.stepped.specs.Done.{Given, Done};
+ghost use Rattle.stepped.specs.Lists.{pushList, pushRead, pushNext, whenPushed, pushExchange};
+ghost use Rattle.steps_lists.specs.Following.{following};
+
+// The head word of the list that is pushed on.
+fn head(control: &[u8], class: usize, push: Push) -> u64
+    requires { ⌜ Control (now control) × (class < 16) ⌝ }
+    ensures { λ r. ⌜ r ≡ seen (now (control .entry)) (Head (pushList push class)) ⌝ }
+{
+    lists::head(control, reason::push_list(push, class))
+}
+
+// Notes the head.
+pub fn read(control: &mut [u8], regions: usize, task: usize, class: usize, push: Push) -> Answer
+    requires { ⌜ Given (now control) regions task class ⌝ }
+    ensures { λ r. ⌜ Done (pushRead (seen (now (control .entry))) regions task class push) (now (control .entry)) (now (control .exit)) r ⌝ }
+{
+    let word = head(control, class, push);
+    if reason::push_items(push, regions) < heads::item_of(word) {
+        return Answer::Refused(14);
+    }
+    tasks::set_task_place(control, task, reason::push_place(push) + 1);
+    notes::set_task_head(control, task, word);
+    Answer::Accepted
+}
+
+// Writes the item's next: the item on top of the noted head. The class of the request does not matter.
+pub fn next(control: &mut [u8], regions: usize, task: usize, push: Push) -> Answer
+    requires { ⌜ Control (now control) × (regions ≤ 16) × (task < 8) ⌝ }
+    ensures { λ r. ⌜ ((class : ℕ) → Done (pushNext (seen (now (control .entry))) regions task class push) (now (control .entry)) (now (control .exit)) r) ⌝ }
+{
+    let most = reason::push_items(push, regions);
+    let item = items::held(control, task, push) as usize;
+    if most <= item {
+        return Answer::Refused(14);
+    }
+    let below = heads::item_of(notes::task_head(control, task));
+    if most < below {
+        return Answer::Refused(14);
+    }
+    tasks::set_task_place(control, task, reason::push_place(push) + 2);
+    items::set_next(control, push, item, below as u8);
+    Answer::Accepted
+}
+
+// The writes of a won push of a free, by where the free goes on. A count outside its range is refused before any write.
+fn go_on(control: &mut [u8], task: usize, follow: Follow, list: usize, word: u64) -> Answer
+    requires { ⌜ Control (now control) × (task < 8) × (list < 18) ⌝ }
+    ensures { λ r. ⌜ ((e : Decided) → Done (following follow task e (Head list := word ∷ [])) (now (control .entry)) (now (control .exit)) r) ⌝ }
+{
+    match follow {
+        Follow::One => {
+            tasks::set_task_place(control, task, 28);
+            lists::set_head(control, list, word);
+            Answer::Accepted
+        }
+        Follow::Two => {
+            tasks::set_task_place(control, task, 29);
+            notes::set_group_count(control, task, 0);
+            lists::set_head(control, list, word);
+            Answer::Accepted
+        }
+        Follow::Offer => {
+            tasks::set_task_place(control, task, 20);
+            lists::set_head(control, list, word);
+            Answer::Accepted
+        }
+        Follow::Bad => Answer::Refused(14),
+    }
+}
+
+// The writes of a won push, and where it leads; `word` is the list's new head.
+fn won(control: &mut [u8], task: usize, class: usize, push: Push, list: usize, word: u64) -> Answer
+    requires { ⌜ Control (now control) × (task < 8) × (class < 16) × (list < 18) ⌝ }
+    ensures { λ r. ⌜ ((regions : ℕ) (e : Decided) → Done (whenPushed (seen (now (control .entry))) regions task class push e (Head list := word ∷ [])) (now (control .entry)) (now (control .exit)) r) ⌝ }
+{
+    match push {
+        Push::Retire => {
+            tasks::set_task_place(control, task, 2);
+            lists::set_head(control, list, word);
+            Answer::Accepted
+        }
+        Push::Back => {
+            tasks::set_task_place(control, task, 0);
+            lists::set_head(control, list, word);
+            Answer::NoRegion
+        }
+        Push::Release => {
+            let state = tasks::task_state(control, task);
+            if 2 < state {
+                return Answer::Refused(14);
+            }
+            let follow = follow::five(control, task, class, state as u32);
+            go_on(control, task, follow, list, word)
+        }
+        Push::Offer => {
+            let follow = follow::six(control, task, class);
+            go_on(control, task, follow, list, word)
+        }
+    }
+}
+
+// Exchanges the head for the item: won where the head is the noted one, tag and all.
+pub fn exchange(control: &mut [u8], regions: usize, task: usize, class: usize, push: Push) -> Answer
+    requires { ⌜ Given (now control) regions task class ⌝ }
+    ensures { λ r. ⌜ Done (pushExchange (seen (now (control .entry))) regions task class push) (now (control .entry)) (now (control .exit)) r ⌝ }
+{
+    let most = reason::push_items(push, regions);
+    let item = items::held(control, task, push) as usize;
+    if most <= item {
+        return Answer::Refused(14);
+    }
+    let noted = notes::task_head(control, task);
+    let below = heads::item_of(noted);
+    if most < below {
+        return Answer::Refused(14);
+    }
+    let word = head(control, class, push);
+    let top = heads::item_of(word);
+    if most < top {
+        return Answer::Refused(14);
+    }
+    if word != noted {
+        tasks::set_task_place(control, task, reason::push_place(push));
+        return Answer::Accepted;
+    }
+    let advanced = heads::advanced(noted, (item + 1) as u32);
+    let list = reason::push_list(push, class);
+    won(control, task, class, push, list, advanced)
+}
