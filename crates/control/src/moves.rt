@@ -1,4 +1,4 @@
-// The list moves of the step list, by their reasons. A pop and a push with the same phase do the same work; the reason
+// The list moves of the step list, by their reasons. The pops in one phase do the same work, and so do the pushes; the reason
 // says on which list, and what follows.
 
 // The pops: of the class's partial list (allocate, step 2), of a spare descriptor (step 5), of a spare region (step 6).

@@ -3,14 +3,15 @@ use mathlib.Core.Path.{_≡_, refl, sym, ap, subst, _∙_}
 use mathlib.Core.Logic.{_≢_, _⊎_, inl, inr, ⊎-elim}
 use mathlib.Core.Bool.{Bool, true, false, cond, false≢true}
 use mathlib.Core.List.{List, [], _∷_}
-use Prim.Native.Nat.{ℕ, _*_}
+use Prim.Native.Nat.{ℕ, _*_, _<_}
 use native.Mathlib.Omega.{arith}
-use borrow.Author.Tests.{eq-eqb, ne-eqb}
+use borrow.Author.Tests.{eq-eqb, ne-eqb, le-leb}
 use lib.Dec.{eqb}
 use lib.ListN.{length}
 use Rattle.links.specs.Link.{link}
-use Rattle.control.specs.Layout.{Regions, seen}
-use Rattle.control.specs.Answers.{numberOf}
+use Rattle.fields.specs.Columns.{View}
+use Rattle.control.specs.Layout.{Tasks, Regions, seen}
+use Rattle.control.specs.Answers.{codeOf, numberOf}
 use Rattle.control.specs.declared.answer.Answer.{Answer}
 use Rattle.control.specs.declared.answer.Answer.the-variants.{Accepted, Allocated, Freed, NoDescriptor, NoRegion, Refused}
 use Rattle.stepped.specs.Outcome.{Outcome, refuse, Effect, effect}
@@ -21,8 +22,8 @@ use Rattle.stepped.proofs.Ways.{tests, accepted-no}
 use Rattle.stepped.proofs.Ends.{start-ends}
 use Rattle.stepped.proofs.Lent.{allocate-is, free-is, go-is, other-control, other-area, start-elsewhere}
 use Rattle.pool.specs.Call.{Call, start, allocate, free, step, effectOf, CallIs}
-use Rattle.pool.specs.Runs.{Act, own, other, write, Contract, OtherLength, Happens, afterOther, after, eventOf, event, numberIn, Answered}
-use Rattle.pool.proofs.Numbers.{number-is}
+use Rattle.pool.specs.Runs.{Act, own, other, write, Contract, OtherLength, Happens, afterOther, after, eventOf, event, Number, Answered}
+use Rattle.pool.proofs.Numbers.{code-small, told-as}
 
 -- the stepped run at the event of an act: the memories and the number are the act's
 pub record Shows (a : Act) (s : Memories) : Type 0 where
@@ -37,20 +38,25 @@ call-is (allocate t size) s = allocate-is s t size
 call-is (free t u) s = free-is s t u
 call-is (step t) s = go-is s t
 
-module _ {e : Effect} {left : Memories} {r : ℕ} (C : CallIs e (left .control) (left .area) r) where
-  left-is : ran e .0 ≡ left
-  left-is = sym (λ i. record { control = C .control-is i; area = C .area-is i })
-
-  number-told : r ≡ numberIn (ran e .1)
-  number-told = C .number ∙ number-is (e .answer)
+left-is : {e : Effect} {left : Memories} {r : ℕ} → CallIs e (left .control) (left .area) r → ran e .0 ≡ left
+left-is C = sym (λ i. record { control = C .control-is i; area = C .area-is i })
 
 own-shows : (k : Call) (left : Memories) (r : ℕ) (s : Memories) → Contract k s left r → Shows (own k left r) s
 own-shows k left r s C = record {
   leaves = ap (λ x. x .0) (call-is k s) ∙ left-is C;
-  answers = number-told C ∙ sym (ap (λ x. numberIn (x .1)) (call-is k s));
+  answers =
+      let e = effectOf k (s .control) (s .area) in
+      subst (λ x. Number r (x .1)) (sym (call-is k s))
+      (told-as (e .answer) (e .answer) (e .decided) (C .number) refl (code-small k (s .control) (s .area)));
 }
 
 -- ---- calls on other memories
+
+-- a pool that is not started: neither the area nor what is behind the tests matters
+not-started : (control area : ℕ) (v : View) (t : ℕ) (x y : Outcome) → v Tasks ≡ 0
+    → Calls.tested control area v t x ≡ Calls.tested control area v t y
+unfolding Calls.tested
+not-started control area v t x y h = rw (le-leb (v Tasks) 8 (omega (arith, h)), eq-eqb (v Tasks) 0 h) refl
 
 -- a call on other lengths is refused by the same number, whatever the control memory holds and whatever is behind the tests
 refused-alike : (s lent : Memories) (t : ℕ) (x y : Outcome) → OtherLength s lent
@@ -62,44 +68,44 @@ refused-alike s lent t x y (inr h) =
     let c = length (lent .control) in
     let a = length (lent .area) in
     let v = seen (s .control) in
-    let R = tests (λ z. (n : ℕ) × (z ≡ refuse n)) c a v t (refuse 5) (λ n g. (n, refl)) (λ T. (5, refl)) in (
+    let R = tests (λ z. (n : ℕ) × (z ≡ refuse n)) c a v t (refuse 5) (λ n g. (n, refl)) (λ T. (5, refl)) in
+    let unseen : (z : Outcome) → Calls.tested c a v t z ≡ Calls.tested c a v t (refuse 5) =
+    λ z. ⊎-elim (λ g. other-area c a v t z (refuse 5) g) (λ g. not-started c a v t z (refuse 5) g) (h .1) in (
       R .0,
       (
-        other-area c a v t x (refuse 5) (h .1) ∙ R .1,
-        ap (λ (k : List ℕ). Calls.tested c a (seen k) t y) (h .0) ∙ other-area c a v t y (refuse 5) (h .1) ∙ R .1,
+        unseen x ∙ R .1,
+        ap (λ (k : List ℕ). Calls.tested c a (seen k) t y) (h .0) ∙ unseen y ∙ R .1,
       ),
     )
 
 module _ (s lent left : Memories) (r : ℕ) where
   -- two outcomes that refuse by the same number: the pool's memories stay, and the answers are the same
-  both-refused : {o o′ : Outcome} {n : ℕ} → o ≡ refuse n → o′ ≡ refuse n → r ≡ numberOf (o′ .answer)
-      → (ran (effect o (s .control) (s .area)) .0 ≡ s) × (r ≡ numberIn (ran (effect o (s .control) (s .area)) .1))
-  both-refused {o} {o′} {n} p q e = (
+  both-refused : {o o′ : Outcome} {n : ℕ} → o ≡ refuse n → o′ ≡ refuse n → r ≡ numberOf (o′ .answer) → codeOf (o′ .answer) < 256
+      → (ran (effect o (s .control) (s .area)) .0 ≡ s) × Number r (ran (effect o (s .control) (s .area)) .1)
+  both-refused {o} {o′} {n} p q e l = (
     ap (λ (z : Outcome). ran (effect z (s .control) (s .area)) .0) p,
-    e
-        ∙ ap (λ (z : Outcome). numberOf (z .answer)) (q ∙ sym p)
-        ∙ number-is (o .answer),
+    told-as (o .answer) (o′ .answer) (o .decided) e (ap (λ (z : Outcome). z .answer) (q ∙ sym p)) l,
   )
 
   allocate-shows : (t size : ℕ) → Contract (allocate t size) lent left r → OtherLength s lent → Shows (other (allocate t size) lent left r) s
   unfolding Calls.allocateOutcome Calls.allocate
   allocate-shows t size C h =
       let R = refused-alike s lent t _ _ h in
-      let B = both-refused (R .1 .0) (R .1 .1) (C .number) in
+      let B = both-refused (R .1 .0) (R .1 .1) (C .number) (code-small (allocate t size) (lent .control) (lent .area)) in
       record { leaves = B .0; answers = B .1 }
 
   free-shows : (t u : ℕ) → Contract (free t u) lent left r → OtherLength s lent → Shows (other (free t u) lent left r) s
   unfolding Calls.freeOutcome Calls.free
   free-shows t u C h =
       let R = refused-alike s lent t _ _ h in
-      let B = both-refused (R .1 .0) (R .1 .1) (C .number) in
+      let B = both-refused (R .1 .0) (R .1 .1) (C .number) (code-small (free t u) (lent .control) (lent .area)) in
       record { leaves = B .0; answers = B .1 }
 
   step-shows : (t : ℕ) → Contract (step t) lent left r → OtherLength s lent → Shows (other (step t) lent left r) s
   unfolding Calls.stepOutcome Calls.go
   step-shows t C h =
       let R = refused-alike s lent t _ _ h in
-      let B = both-refused (R .1 .0) (R .1 .1) (C .number) in
+      let B = both-refused (R .1 .0) (R .1 .1) (C .number) (code-small (step t) (lent .control) (lent .area)) in
       record { leaves = B .0; answers = B .1 }
 
   module _ (tasks : ℕ) (C : Contract (start tasks) lent left r) where
@@ -122,7 +128,7 @@ module _ (s lent left : Memories) (r : ℕ) where
           leaves =
               (λ i. record { control = L .0 i; area = L .1 i })
               ∙ sym (ap (λ (b : Bool). cond b left s) (ne-eqb r 0 (λ h. z (sym (C .number ∙ ap numberOf q) ∙ h))));
-          answers = C .number ∙ ap numberOf (q ∙ sym p) ∙ number-is (e .answer);
+          answers = told-as (e .answer) (e′ .answer) (e .decided) (C .number) (q ∙ sym p) (code-small (start tasks) (lent .control) (lent .area));
         }
 
     -- an accepted start takes the memories that it is lent
@@ -132,7 +138,7 @@ module _ (s lent left : Memories) (r : ℕ) where
           ap (λ (z : Effect). ran z .0) p
           ∙ left-is C
           ∙ sym (ap (λ (b : Bool). cond b left s) (eq-eqb r 0 (C .number ∙ ap numberOf q)));
-      answers = C .number ∙ ap (λ (z : Effect). numberOf (z .answer)) (sym p) ∙ number-is (e .answer);
+      answers = told-as (e .answer) (e′ .answer) (e .decided) (C .number) (ap (λ (z : Effect). z .answer) (sym p)) (code-small (start tasks) (lent .control) (lent .area));
     }
 
     equal-shows : e ≡ e′ → (a : Answer) → e′ .answer ≡ a → Begins startRefusals a → StartShown

@@ -4,7 +4,7 @@
 -- Assumes nothing.
 use mathlib.Core.Path.{_≡_, refl, sym, ap, subst, _∙_}
 use mathlib.Core.Logic.{_↔_}
-use mathlib.Core.Bool.{false≢true}
+use mathlib.Core.Bool.{true, false≢true}
 use mathlib.Core.List.{List, [], _∷_}
 use Prim.Native.Nat.{ℕ, _%_, _≤_, _<_}
 use borrow.Author.Tests.{eq-eqb, le-leb}
@@ -25,7 +25,7 @@ use Rattle.control.specs.declared.moves.Push.the-variants.{Back}
 use Rattle.stepped.specs.Steps.{stepAt}
 use Rattle.stepped.specs.Outcome.{Outcome}
 use Rattle.stepped.specs.Calls as Calls
-use Rattle.stepped.specs.Ends.{Leaves, Tested, FindsEmpty, WinsPush, InPush, placeAfter, allocateRefusals}
+use Rattle.stepped.specs.Ends.{Leaves, oneOf, Goes, Tested, FindsEmpty, WinsPush, InPush, placeAfter, allocateRefusals, stepRefusals}
 use Rattle.stepped.specs.Events.{Memories, stepped, whole, Premises}
 use Rattle.stepped.specs.Events as Events
 use Rattle.stepped.specs.Agreement.{Unstarted, Agree, Agrees, Unchanged, Untouched}
@@ -34,7 +34,7 @@ use Rattle.stepped.proofs.Ends.{start-ends, allocate-ends, step-ends, allocate-
 use Rattle.stepped.proofs.Theorem.{agreement, agreement-from-start}
 use Rattle.pool.specs.Call.{Call, start, allocate, free, step, effectOf, Refusal, Begun}
 use Rattle.pool.specs.Tests.{firstFailed, startTests, allocateTests, freeTests, stepTests}
-use Rattle.pool.specs.Runs.{Act, own, Contract, Run, after, eventOf, event, events, Answered, Tells, Told}
+use Rattle.pool.specs.Runs.{Act, own, other, write, Contract, Happens, Run, after, eventOf, event, events, Answered, OtherLeft, Tells, Told}
 use Rattle.pool.proofs.Numbers.{refused, accepted, ends-told}
 use Rattle.pool.proofs.Failing.{start-first, allocate-first, free-first, step-first}
 use Rattle.pool.proofs.Acting.{Shows, shows}
@@ -99,6 +99,15 @@ module _ (lent left : Memories) (r : ℕ) where
   unfolding Calls.go
   step-refused-first t C = C .number ∙ step-first control area (seen (lent .control)) t (link (lent .area))
 
+  -- .. and a step is refused by the numbers of its tests alone, and by 14, where the step at its place reads a bad value
+  pub step-refused-by : (t : ℕ) → Contract (step t) lent left r → Refusal r → oneOf stepRefusals r ≡ true
+  unfolding Calls.go
+  step-refused-by t C h =
+      let o = Calls.stepOutcome control area (seen (lent .control)) (link (lent .area)) t in
+      let R = refused (o .answer) (subst Refusal (C .number) h) in
+      let G = subst (Goes stepRefusals) (R .1) (step-ends control area (seen (lent .control)) (link (lent .area)) t .answers) in
+      ap (oneOf stepRefusals) (C .number ∙ ap numberOf (R .1)) ∙ G
+
   -- "A size gets the smallest class that holds it."
   pub allocate-begins : (t size : ℕ) → Contract (allocate t size) lent left r → r ≡ 0
       → Begun t size (lent .control) (lent .area) (left .control) (left .area)
@@ -136,7 +145,8 @@ module _ (lent left : Memories) (r : ℕ) where
         (λ h. E .0 (N .0 (sym answer-number ∙ h)), λ f. answer-number ∙ ap numberOf (E .1 f))
 
     -- "and 'no region'": 13 is answered exactly where the task wins the push of its descriptor back on the spare list; and a task
-    -- that is not in that push comes to it exactly where it reads the head of the list of spare regions and finds it empty.
+    -- that is not in that push comes to it, by the fields that its step writes, exactly where it reads the head of the list of spare
+    -- regions and finds it empty.
     pub thirteen : (r ≡ 13) ↔ (Tested control area (seen (lent .control)) t × WinsPush Back (seen (lent .control)) t)
     thirteen =
         let E = no-region control area (seen (lent .control)) (link (lent .area)) t in
@@ -150,13 +160,20 @@ module _ (lent left : Memories) (r : ℕ) where
 
 -- ---- demand 3
 
+-- a refused call on other memories leaves them
+left-by : (a : Act) (s : Memories) → Happens a s → OtherLeft a
+left-by (own k left r) s H = tt
+left-by (other k lent left r) s H = refused-changes-nothing k lent left r (H .0)
+left-by (write at b) s H = tt
+
 -- one act, from what the stepped run and the whole run have at its event
-tells : (a : Act) (s : Memories) (p : Pool) → Shows a s → Agree (event a s ∷ []) s p → Tells a s p
-tells a s p S A =
+tells : (a : Act) (s : Memories) (p : Pool) → Happens a s → Shows a s → Agree (event a s ∷ []) s p → Tells a s p
+tells a s p H S A =
     let y = stepped (event a s) s .1 in
     record {
       answered = subst (Answered a) (A .0 .0 .says) (S .answers);
       agrees = subst (λ (z : Memories). Agrees (z, y) (whole (event a s) p)) (S .leaves) (A .0 .0);
+      other-left = left-by a s H;
       unchanged = subst (λ (z : Memories). Unchanged s (z, y)) (S .leaves) (A .0 .1);
       untouched = subst (λ (z : Memories). Untouched (event a s) s (z, y) p) (S .leaves) (A .0 .2);
     }
@@ -165,7 +182,7 @@ told : (rest : List Act) (s : Memories) (p : Pool) → Run rest s → Agree (eve
 told [] s p R A = tt
 told (a ∷ rest) s p R A =
     let S = shows a s (R .0) in (
-      tells a s p S (A .0, tt),
+      tells a s p (R .0) S (A .0, tt),
       told rest (after a s) (whole (event a s) p .0) (R .1)
           (subst (λ z. Agree (events rest (after a s)) z (whole (event a s) p .0)) (S .leaves) (A .1)),
     )
@@ -189,19 +206,16 @@ accepted-tests control area tasks l a t = rw (
   le-leb tasks 8 (t .1),
 )
 
--- The same after a start on any memories whose lengths and number of tasks are right.
+-- The same from a start on any memories, whose lengths and number of tasks are right; it is accepted.
 pub run-told-from-start : (acts : List Act) (s left : Memories) (tasks r : ℕ) (p : Pool) → length (s .control) ≡ 8192
-    → Plain.Area (length (s .area)) → Plain.Tasks tasks → Contract (start tasks) s left r → Run acts left
-    → let p′ = whole (eventOf (start tasks) s) p .0 in
-    Premises (events acts left) p′ → (r ≡ 0) × Told acts left p′
-run-told-from-start acts s left tasks r p l a t C R P =
-    let S = shows (own (start tasks) left r) s C in
+    → Plain.Area (length (s .area)) → Plain.Tasks tasks → Run (own (start tasks) left r ∷ acts) s
+    → Premises (events acts left) (whole (eventOf (start tasks) s) p .0) → (r ≡ 0) × Told (own (start tasks) left r ∷ acts) s p
+run-told-from-start acts s left tasks r p l a t R P =
     let es = events acts left in
-    let A = subst
-    (λ (n : ℕ). Premises es (whole (Events.start n (s .area) tasks) p .0)
-    → Agree es (stepped (Events.start n (s .area) tasks) s .0) (whole (Events.start n (s .area) tasks) p .0))
-    (sym l) (λ Q. agreement-from-start es s p (s .area) tasks a t Q .1) in (
-      start-refused-first s left r tasks C ∙ accepted-tests (length (s .control)) (length (s .area)) tasks l a t,
-      told acts left (whole (eventOf (start tasks) s) p .0) R
-          (subst (λ (z : Memories). Agree es z (whole (eventOf (start tasks) s) p .0)) (S .leaves) (A P)),
+    let A =
+    subst
+    (λ (n : ℕ). Premises es (whole (Events.start n (s .area) tasks) p .0) → Agree (Events.start n (s .area) tasks ∷ es) s p)
+    (sym l) (λ Q. agreement-from-start es s p (s .area) tasks a t Q) in (
+      start-refused-first s left r tasks (R .0) ∙ accepted-tests (length (s .control)) (length (s .area)) tasks l a t,
+      told (own (start tasks) left r ∷ acts) s p R (A P),
     )

@@ -4,16 +4,16 @@ use mathlib.Core.Path.{_≡_}
 use mathlib.Core.Logic.{_≢_, _⊎_}
 use mathlib.Core.Bool.{cond}
 use mathlib.Core.List.{List, [], _∷_}
-use Prim.Native.Nat.{ℕ, _+_, _*_}
+use Prim.Native.Nat.{ℕ, _*_, _/_, _%_}
 use lib.Dec.{eqb}
 use lib.ListN.{length, set}
 use Rattle.plain.specs.Moves.{Answer}
 use Rattle.plain.specs.Calls.{Pool}
-use Rattle.control.specs.Layout.{Regions, seen}
+use Rattle.control.specs.Layout.{Tasks, Regions, seen}
 use Rattle.stepped.specs.Events.{Event, Memories, stepped, whole}
 use Rattle.stepped.specs.Events as Events
 use Rattle.stepped.specs.Agreement.{Agrees, Unchanged, Untouched}
-use Rattle.pool.specs.Call.{Call, start, allocate, free, step, Ensures}
+use Rattle.pool.specs.Call.{Call, start, allocate, free, step, Ensures, Refusal}
 
 -- What happens to a pool: a call on its memories leaves the memories `left` and answers `number`; a call on other memories, lent
 -- as `lent`; a user writes the byte b at the place `at` of the area.
@@ -27,11 +27,12 @@ abbrev pub Contract : Call → Memories → Memories → ℕ → Type 0
 Contract k lent left number = Ensures k (lent .control) (lent .area) (left .control) (left .area) number
 
 -- "A call that is lent another length": a control memory that is not of 8,192 bytes, or the pool's with an area that is not of the
--- started length
+-- started length; while the pool is not started, any area.
 abbrev pub OtherLength : Memories → Memories → Type 0
 OtherLength s lent =
     (length (lent .control) ≢ 8192)
-    ⊎ ((lent .control ≡ s .control) × (length (lent .area) ≢ 4096 * seen (s .control) Regions))
+    ⊎ ((lent .control ≡ s .control)
+    × ((length (lent .area) ≢ 4096 * seen (s .control) Regions) ⊎ (seen (s .control) Tasks ≡ 0)))
 
 -- Other memories that a call may be lent: a start any, every other call those of another length.
 abbrev pub Lendable : Call → Memories → Memories → Type 0
@@ -81,15 +82,22 @@ abbrev pub events : List Act → Memories → List Event
 events [] s = []
 events (a ∷ rest) s = event a s ∷ events rest (after a s)
 
--- "the result is code + 256 × value"
-abbrev pub numberIn : Answer → ℕ
-numberIn y = y .code + 256 * y .value
+-- "code + 256 × value": the number tells the code and the value of y
+pub record Number (number : ℕ) (y : Answer) : Type 0 where
+  pub code : number % 256 ≡ y .code
+  pub value : number / 256 ≡ y .value
 
 -- the number that a call answered is that of y; a user's write answers nothing
 abbrev pub Answered : Act → Answer → Type 0
-Answered (own k left number) y = number ≡ numberIn y
-Answered (other k lent left number) y = number ≡ numberIn y
+Answered (own k left number) y = Number number y
+Answered (other k lent left number) y = Number number y
 Answered (write at b) y = Unit {0}
+
+-- a call on other memories that was refused left them as they were, too
+abbrev pub OtherLeft : Act → Type 0
+OtherLeft (own k left number) = Unit {0}
+OtherLeft (other k lent left number) = Refusal number → left ≡ lent
+OtherLeft (write at b) = Unit {0}
 
 -- the memories after an act, and beside them the answer and the decided move by the definitions: the move is no byte
 abbrev pub shown : Act → Memories → Memories × Answer
@@ -97,11 +105,13 @@ shown a s = (after a s, stepped (event a s) s .1)
 
 -- What demand 3, and demand 1's last sentence, say of one act: the plain pool p gives the same code and value and decides the same
 -- move, never 14; afterwards both have the same lists, chains and holders, each block of an open region in exactly one place; a
--- refused call left the pool's memories as they were, and no call changed a byte of a block in a user's hands.
+-- refused call left the pool's memories as they were, and the memories that it was lent; and no call changed a byte of a block in a
+-- user's hands.
 pub record Tells (a : Act) (s : Memories) (p : Pool) : Type 0 where
   pub answered : Answered a (whole (event a s) p .1)
   pub agrees : Agrees (shown a s) (whole (event a s) p)
   pub unchanged : Unchanged s (shown a s)
+  pub other-left : OtherLeft a
   pub untouched : Untouched (event a s) s (shown a s) p
 
 -- every act of the run, in its order

@@ -12,6 +12,7 @@ use borrow.Rule.Slice.PartMut.{midOf, putMid, put-same}
 use lib.ListN.{length}
 use Rattle.links.specs.Link.{link}
 use Rattle.links.proofs.Links.{length-linked}
+use Rattle.plain.specs.Moves.{Answer}
 use Rattle.plain.specs.Codes.{AtMost}
 use Rattle.plain.specs.Calls.{Pool}
 use Rattle.plain.specs.Calls as Calls
@@ -26,11 +27,11 @@ use Rattle.stepped.proofs.Runs.{short}
 use Rattle.stepped.proofs.Theorem.{alike}
 use Rattle.pool.specs.Call.{Call, effectOf}
 use Rattle.pool.specs.Call as Call
-use Rattle.pool.specs.Runs.{own, other, eventOf, numberIn}
+use Rattle.pool.specs.Runs.{own, eventOf, Number}
 use Rattle.pool.proofs.Acting.{shows}
 use Rattle.schedule.specs.Stand.{Request, start, allocate, free, step}
 use Rattle.schedule.specs.Bytes.{lentRegions, lending, onBytes}
-use Rattle.schedule.specs.Plain.{feeding, startedRegions, onPlain}
+use Rattle.schedule.specs.Plain.{numberIn, feeding, startedRegions, onPlain}
 use Rattle.schedule.proofs.Parts.{part-length, part-back, back-length}
 use Rattle.schedule.proofs.Fed.{SameStart, allocate-keeps, free-keeps, go-keeps, same-regions, StartIs, accepted, refused, start-is}
 
@@ -48,6 +49,10 @@ pub record Beside (n : ℕ) (s : Memories) (p : Pool) : Type 0 where
 -- after more calls
 pub later : {n m : ℕ} {s : Memories} {p : Pool} → n ≤ m → Beside n s p → Beside m s p
 later h B = record { area-is = B .area-is; few = B .few; sim = B .sim; most-won = λ k ℓ. omega (arith, h, B .most-won k ℓ) }
+
+-- a number is its code and 256 times its value
+pub sum : {n : ℕ} {y : Answer} → Number n y → n ≡ numberIn y
+sum N = omega (arith, N .code, N .value)
 
 -- the same answer, and beside each other again
 pub record Same (n : ℕ) (x : Memories × ℕ) (y : Pool × ℕ) : Type 0 where
@@ -93,7 +98,7 @@ module _ {n : ℕ} {s : Memories} {p : Pool} (B : Beside n s p) (small : n < 429
         let s′ : Memories = lending q (4096 * regions) s .0 in
         let back : partOf regions s′ ≡ left = λ i. record { control = e .control; area = part-back (4096 * regions) (s .area) (e .area) (long ∙ part-is) i } in
         record {
-          number = S .answers ∙ ap numberIn (A .says) ∙ ap (λ x. numberIn (x .1)) is;
+          number = sum (S .answers) ∙ ap numberIn (A .says) ∙ ap (λ x. numberIn (x .1)) is;
           beside = record {
             area-is = back-length (4096 * regions) (s .area) (e .area) (omega (arith, B .few, B .area-is)) (long ∙ part-is) ∙ B .area-is;
             few = omega (arith, B .few, r);

@@ -26,14 +26,14 @@ use Rattle.stepped.proofs.Lent.{start-leaves}
 use Rattle.stepped.proofs.Theorem.{alike}
 use Rattle.pool.specs.Call.{Call, effectOf}
 use Rattle.pool.specs.Call as Call
-use Rattle.pool.specs.Runs.{other, eventOf, numberIn}
+use Rattle.pool.specs.Runs.{other, eventOf}
 use Rattle.pool.proofs.Acting.{shows}
 use Rattle.schedule.specs.Stand.{start}
 use Rattle.schedule.specs.Bytes.{lending, onBytes}
-use Rattle.schedule.specs.Plain.{feeding, startedRegions, onPlain}
+use Rattle.schedule.specs.Plain.{numberIn, feeding, startedRegions, onPlain}
 use Rattle.schedule.proofs.Parts.{part-length, part-back, back-length}
 use Rattle.schedule.proofs.Fed.{StartIs, accepted, refused, start-is}
-use Rattle.schedule.proofs.Beside.{partOf, Beside, later, Same}
+use Rattle.schedule.proofs.Beside.{partOf, Beside, later, sum, Same}
 
 -- a number that is 0 has the code 0, and the code of a beginning tells its number
 code-zero : (y : Answer) → numberIn y ≡ 0 → y .code ≡ 0
@@ -88,7 +88,7 @@ module _ {n : ℕ} {s : Memories} {p : Pool} (B : Beside n s p) (tasks regions :
   number-same =
       let S = shows (other (Call.start tasks) lent left r) before (record { number = refl; control-is = refl; area-is = refl }, tt) in
       let A = alike (eventOf (Call.start tasks) lent) before p (B .sim) tt in
-      S .answers ∙ ap numberIn (A .says) ∙ ap (λ x. numberIn (x .1)) fed
+      sum (S .answers) ∙ ap numberIn (A .says) ∙ ap (λ x. numberIn (x .1)) fed
 
   sim-after : Sim (cond (eqb r 0) left before) (Calls.call c p .0)
   sim-after =

@@ -10,8 +10,7 @@ use Rattle.plain.specs.Steps.{Result}
 use Rattle.plain.specs.Calls.{Pool}
 use Rattle.plain.specs.Calls as Calls
 use Rattle.plain.proofs.Tests.{either}
-use Rattle.pool.specs.Runs.{numberIn}
-use Rattle.schedule.specs.Plain.{startedRegions}
+use Rattle.schedule.specs.Plain.{numberIn, startedRegions}
 
 -- the same number of tasks and of regions
 abbrev pub SameStart : Pool → Pool → Type 0

@@ -5,8 +5,12 @@ use mathlib.Core.Bool.{cond}
 use lib.Dec.{eqb, ltb}
 use Rattle.plain.specs.Calls.{Pool}
 use Rattle.plain.specs.Calls as Calls
-use Rattle.pool.specs.Runs.{numberIn}
+use Rattle.plain.specs.Moves.{Answer}
 use Rattle.schedule.specs.Stand.{Request, start, allocate, free, step}
+
+-- the code, and 256 times the value
+abbrev pub numberIn : Answer → ℕ
+numberIn y = y .code + 256 * y .value
 
 -- the answer of a call as one number
 abbrev pub feeding : Calls.Call → Pool → Pool × ℕ

@@ -181,13 +181,12 @@ agree (e ∷ es) s₁ s S p =
 pub agreement : (es : List Event) (s₁ : Memories) → Unstarted s₁ → Premises es unstarted → Agree es s₁ unstarted
 agreement es s₁ U p = agree es s₁ unstarted (unstarted-sim U) p
 
--- The same from an accepted start on any memories and in any pool: the control memory before it may look like a started pool, or
--- hold anything.
+-- The same from an accepted start on any memories and in any pool, the start itself with it: the control memory before it may look
+-- like a started pool, or hold anything.
 pub agreement-from-start : (es : List Event) (s₁ : Memories) (s : Pool) (area : List ℕ) (tasks : ℕ) → Plain.Area (length area)
-    → Plain.Tasks tasks → Premises es (whole (start 8192 area tasks) s .0)
-    → (stepped (start 8192 area tasks) s₁ .1 ≡ whole (start 8192 area tasks) s .1)
-    × Agree es (stepped (start 8192 area tasks) s₁ .0) (whole (start 8192 area tasks) s .0)
+    → Plain.Tasks tasks → Premises es (whole (start 8192 area tasks) s .0) → Agree (start 8192 area tasks ∷ es) s₁ s
 unfolding Plain.call
 agreement-from-start es s₁ s area tasks a t p =
+    let e = start 8192 area tasks in
     let A = accepted-start s₁ s area tasks a t in
-    (A .says, agree es (stepped (start 8192 area tasks) s₁ .0) (whole (start 8192 area tasks) s .0) (A .sim) p)
+    ((agrees e s₁ s A, unchanged e s₁, untouched e s₁ s tt), agree es (stepped e s₁ .0) (whole e s .0) (A .sim) p)
