@@ -3,7 +3,7 @@
 -- the proofs of the functions say: they ask nothing of their caller.
 -- Assumes nothing.
 use mathlib.Core.Path.{_≡_, refl, sym, ap, subst, _∙_}
-use mathlib.Core.Logic.{_↔_}
+use mathlib.Core.Logic.{_↔_, _⊎_, ⊎-elim, inl, inr}
 use mathlib.Core.Bool.{true, false≢true}
 use mathlib.Core.List.{List, [], _∷_}
 use Prim.Native.Nat.{ℕ, _%_, _≤_, _<_}
@@ -38,6 +38,7 @@ use Rattle.pool.specs.Runs.{Act, own, other, write, Contract, Happens, R
 use Rattle.pool.proofs.Numbers.{refused, accepted, ends-told}
 use Rattle.pool.proofs.Failing.{start-first, allocate-first, free-first, step-first}
 use Rattle.pool.proofs.Acting.{Shows, shows}
+use Rattle.pool.proofs.Backing.{stays-back}
 
 -- ---- demand 1
 
@@ -157,6 +158,12 @@ module _ (lent left : Memories) (r : ℕ) where
         → InPush Back (placeAfter o (seen (lent .control)) t)
         ↔ (Tested control area (seen (lent .control)) t × FindsEmpty Region (seen (lent .control)) t)
     to-thirteen = put-back control area (seen (lent .control)) (link (lent .area)) t
+
+    -- .. and a task that is in that push stays in it, by the fields that its step writes, until it answers 13
+    pub stays-thirteen : InPush Back (seen (lent .control) (TaskPlace t))
+        → (r ≡ 13) ⊎ InPush Back (placeAfter o (seen (lent .control)) t)
+    stays-thirteen here =
+        ⊎-elim (λ e. inl (answer-number ∙ ap numberOf e)) (λ i. inr i) (stays-back control area (seen (lent .control)) (link (lent .area)) t here)
 
 -- ---- demand 3
 

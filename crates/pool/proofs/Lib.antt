@@ -4,4 +4,5 @@ pub mod Started
 pub mod Numbers
 pub mod Failing
 pub mod Acting
+pub mod Backing
 pub mod Demands

@@ -8,3 +8,4 @@ pub mod Fed
 pub mod Beside
 pub mod BesideStart
 pub mod Table
+pub mod Example
