@@ -31,8 +31,8 @@
  *
  *   - users write only inside blocks that they hold. A block is held from the step that finishes with its unit to the
  *     accepted beginning of its free, or to the next accepted start;
- *   - only the calls write the control memory. Before the first start it may hold anything; all zero is a pool that is
- *     not started;
+ *   - only the calls write the control memory. Before the first accepted start it may hold anything, but the claims hold
+ *     from that start on; before it, they hold from a control memory that is not started, as one of zeros;
  *   - calls do not overlap in time: a step is one call, and the next call comes after it has returned. Where tasks
  *     interrupt each other, the firmware keeps them apart;
  *   - fewer than 2^32 changes of a list come between a task's read of its head and the same task's exchange.
@@ -95,8 +95,8 @@ enum pool_code {
     POOL_NOT_IN_USE = 11,     /* a free of such a unit that is in nobody's hands, as after a first free */
 
     /* Caused by other tasks, by holding blocks: the end of an allocation. */
-    POOL_NO_DESCRIPTOR = 12, /* the list of spare descriptors was read and is empty */
-    POOL_NO_REGION = 13,     /* the list of spare regions was read and is empty; the descriptor is back on its list */
+    POOL_NO_DESCRIPTOR = 12, /* the list of spare descriptors was empty when it was read */
+    POOL_NO_REGION = 13,     /* the list of spare regions was empty when it was read; the descriptor is back on its list */
 
     /* Caused by whoever writes outside their own blocks. The task keeps its request; only a start mends the pool. */
     POOL_DAMAGED = 14 /* a value that was read for this call is none that the pool could have left there */
