@@ -1,0 +1,3 @@
+-- Laws of the stand's text.
+pub mod Digits
+pub mod Writing
