@@ -1,0 +1,2 @@
+-- Laws of the stand's program.
+pub mod Playing
