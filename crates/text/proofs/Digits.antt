@@ -8,6 +8,7 @@ use native.Mathlib.Decide.{decLt}
 use borrow.Author.Tests.{lt-ltb, le-ltb}
 use lib.ListN.{length, length-append}
 use Rattle.text.specs.Numbers.{digits, decimal}
+use Rattle.text.specs.Lines.{lineText}
 
 -- more places than a number needs change nothing
 enough : (f g n : ℕ) → n < f → n < g → digits f n ≡ digits g n
@@ -49,3 +50,17 @@ short (suc f) k n h = elim (decLt n 10) [
 -- a number of 64 bits has at most 20 digits
 pub twenty : (n : ℕ) → n < 2 ^ 64 → length (decimal n) ≤ 20
 twenty n h = short (suc n) 19 n (omega arith)
+
+-- the line of a record of the stand has at most 32 bytes: its four numbers have 5, 3, 3 and 17 digits at most
+pub short-line : (number kind code value : ℕ) → number < 10 ^ 5 → kind < 10 ^ 3 → code < 10 ^ 3 → value < 10 ^ 17
+    → length (lineText number kind code value) ≤ 32
+unfolding lineText
+short-line number kind code value a b c d =
+    simp length-append
+    (omega (
+      arith,
+      short (suc number) 4 number a,
+      short (suc kind) 2 kind b,
+      short (suc code) 2 code c,
+      short (suc value) 16 value d,
+    ))

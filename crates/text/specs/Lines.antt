@@ -8,6 +8,15 @@ use Rattle.text.specs.Numbers.{decimal}
 abbrev pub field : ℕ → ℕ → List ℕ
 field n behind = decimal n ++ (behind ∷ [])
 
+-- "After a line of column names": `record kind code value`
+abbrev pub columnsText : List ℕ
+columnsText =
+    114 ∷ 101 ∷ 99 ∷ 111 ∷ 114 ∷ 100 ∷ 32
+    ∷ 107 ∷ 105 ∷ 110 ∷ 100 ∷ 32
+    ∷ 99 ∷ 111 ∷ 100 ∷ 101 ∷ 32
+    ∷ 118 ∷ 97 ∷ 108 ∷ 117 ∷ 101 ∷ 10
+    ∷ []
+
 -- "each line, in decimal: record from 0, kind byte, code, value"
 unfoldable pub lineText : ℕ → ℕ → ℕ → ℕ → List ℕ
 lineText number kind code value = field number 32 ++ field kind 32 ++ field code 32 ++ field value 10

@@ -4,7 +4,7 @@ ghost use mathlib.Core.Path.{_≡_};
 ghost use Prim.Native.Nat.{_+_, _≤_};
 ghost use lib.ListN.{length};
 ghost use Rattle.text.specs.Numbers.{decimal as decimalText, Appended};
-ghost use Rattle.text.specs.Lines.{field as fieldText, lineText, totalText};
+ghost use Rattle.text.specs.Lines.{field as fieldText, columnsText, lineText, totalText};
 
 // Callers: `field`, and itself with all digits but the last.
 fn decimal(out: &mut [u8], at: usize, number: u64) -> usize
@@ -30,7 +30,7 @@ fn field(out: &mut [u8], at: usize, number: u64, behind: u8) -> usize
     end + 1
 }
 
-// Callers: `total`, for its first word.
+// Callers: `columns`, and `total` for its first word.
 fn word(out: &mut [u8], at: usize, text: &[u8]) -> usize
     requires { ⌜ at + length (now text) ≤ length (now out) ⌝ }
     ensures { λ r. ⌜ Appended (now (out .entry)) (now (out .exit)) at (now (text .entry)) r ⌝ }
@@ -41,6 +41,14 @@ fn word(out: &mut [u8], at: usize, text: &[u8]) -> usize
         i += 1;
     }
     at + i
+}
+
+// The line of column names.
+pub fn columns(out: &mut [u8]) -> usize
+    requires { ⌜ 96 ≤ length (now out) ⌝ }
+    ensures { λ r. ⌜ Appended (now (out .entry)) (now (out .exit)) 0 columnsText r ⌝ }
+{
+    word(out, 0, b"record kind code value\n")
 }
 
 // The line of a record.
