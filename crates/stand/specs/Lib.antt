@@ -1,2 +1,2 @@
 -- Definitions of the stand's program.
-pub mod Totals
+pub mod Output
