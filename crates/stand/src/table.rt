@@ -22,22 +22,18 @@ pub fn write(control: &mut [u8], area: &mut [u8], input: &[u8], out: &mut [u8]) 
     while at < input.len() {
         let entry = record::read(input, at);
         let answer = treat::treat(control, area, entry);
-        used += text::line(
-            &mut out[used..],
-            number,
-            input[at] as u64,
-            answer % 256,
-            answer / 256,
-        );
-        counts = tally::count(counts, answer % 256);
+        let code = answer % 256;
+        let value = answer / 256;
+        used += text::line(&mut out[used..], number, input[at] as u64, code, value);
+        counts = tally::count(counts, code);
         at = record::end(entry, at, input.len());
         number += 1;
     }
-    used
-        + text::total(
-            &mut out[used..],
-            counts.finished,
-            counts.accepted,
-            counts.others,
-        )
+    let last = text::total(
+        &mut out[used..],
+        counts.finished,
+        counts.accepted,
+        counts.others,
+    );
+    used + last
 }
