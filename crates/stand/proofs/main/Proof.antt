@@ -17,31 +17,25 @@ slice-aggregate-read-full c = search needs
 read-full-requires : tie.Need-read-full-requires
 read-full-requires c κs = search needs
 
-slice-aggregate-write : tie.Need-slice-aggregate-write
-slice-aggregate-write c = search needs
-
-slice-aggregate-write-2 : tie.Need-slice-aggregate-write-2
-slice-aggregate-write-2 c = search needs
-
 array-share-prefix-input : tie.Need-array-share-prefix-input
 array-share-prefix-input c = search needs
 
-slice-aggregate-write-3 : tie.Need-slice-aggregate-write-3
-slice-aggregate-write-3 c = search needs
+slice-aggregate-play : tie.Need-slice-aggregate-play
+slice-aggregate-play c = search needs
 
-slice-aggregate-write-4 : tie.Need-slice-aggregate-write-4
-slice-aggregate-write-4 c = search needs
+slice-aggregate-play-2 : tie.Need-slice-aggregate-play-2
+slice-aggregate-play-2 c = search needs
 
-write-requires : tie.Need-write-requires
-write-requires c κs = search needs
+play-requires : tie.Need-play-requires
+play-requires c κs = search needs
 
 array-share-prefix-out : tie.Need-array-share-prefix-out
 array-share-prefix-out c = search needs
 
 slice-aggregate-write-all : tie.Need-slice-aggregate-write-all
 slice-aggregate-write-all c =
-    let table = c .before .before .before .before .write in
-    sym (length-take-le (table .result) (table .last .1 .1 .1 .0) (table .ensures .within))
+    let played = c .before .before .play in
+    sym (length-take-le (played .result) (played .last .1 .0) (played .ensures .within))
 
 write-all-requires : tie.Need-write-all-requires
 write-all-requires c κs = search needs
@@ -57,12 +51,10 @@ main-spec =
     large-buffer-requires
     slice-aggregate-read-full
     read-full-requires
-    slice-aggregate-write
-    slice-aggregate-write-2
     array-share-prefix-input
-    slice-aggregate-write-3
-    slice-aggregate-write-4
-    write-requires
+    slice-aggregate-play
+    slice-aggregate-play-2
+    play-requires
     array-share-prefix-out
     slice-aggregate-write-all
     write-all-requires

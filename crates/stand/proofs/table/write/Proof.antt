@@ -94,12 +94,17 @@ loop-again c =
     let inv = at-loop .loop .inv in
     let fits : at-loop .loop .used ≤ length (at-loop .loop .out) =
     omega (arith, inv .0 .room, inv .0 .most, inv .3, start .pre, begun .columns .ensures .same-length) in
-    let written = at-part (at-loop .loop .out) (line .line .last .0) _ (at-loop .loop .used) (line .line .result) fits (line .line .ensures) in
+    let line-is = line .line in
+    let written =
+    at-part (at-loop .loop .out) (line-is .last .0) _ (at-loop .loop .used) (line-is .result) fits (line-is .ensures) in
+    let kind = getD input (at-loop .loop .at) 0 in
     let byte = line .before .shared-slice-known2 .given (at-loop .loop .at) in
     let answer = treated .treat .result in
     let short =
-    short-line (at-loop .loop .number) (getD input (at-loop .loop .at) 0) (answer % 256) (answer / 256) (omega (arith, inv .0 .few, start .pre)) (omega (arith, byte)) (omega arith) (omega (arith, treated .treat .ok)) in (
-      goes-on input (inv .0) (omega arith) (read .read .ensures) (treated .treat .ensures) (written, short) (c .before .count .ensures) (c .end .ensures),
+    short-line (at-loop .loop .number) kind (answer % 256) (answer / 256) (omega (arith, inv .0 .few, start .pre))
+    (omega (arith, byte)) (omega arith) (omega (arith, treated .treat .ok)) in
+    let entry = read .read .ensures in (
+      goes-on input (inv .0) (omega arith) entry (treated .treat .ensures) (written, short) (c .before .count .ensures) (c .end .ensures),
       search (needs, inv .1),
       search (needs, inv .2),
       written .same-length ∙ inv .3,
@@ -135,14 +140,20 @@ same-length-2 c = c .before .before .before .before .before .loop .inv .2
 same-length-3 : tie.Need-same-length-3 Inv-loop μ-loop
 same-length-3 c =
     let at-loop = c .before .before .before .before .before in
-    at-part (at-loop .loop .out) (c .before .before .total .last .0) _ (at-loop .loop .used) (c .before .before .total .result) (omega arith) (c .before .before .total .ensures) .same-length
-    ∙ at-loop .loop .inv .3 ∙ at-loop .before .before .before .before .columns .ensures .same-length
+    let columns = at-loop .before .before .before .before .columns in
+    let total = c .before .before .total in
+    let out = at-loop .loop .out in
+    let written = at-part out (total .last .0) _ (at-loop .loop .used) (total .result) (omega arith) (total .ensures) in
+    written .same-length ∙ at-loop .loop .inv .3 ∙ columns .ensures .same-length
 
 returns : tie.Need-returns Inv-loop μ-loop
 returns c =
     let at-loop = c .before .before .before .before .before in
-    ends _ (at-loop .loop .inv .0) (omega arith) (at-loop .loop .inv .3 ∙ at-loop .before .before .before .before .columns .ensures .same-length)
-    (at-part (at-loop .loop .out) (c .before .before .total .last .0) _ (at-loop .loop .used) (c .before .before .total .result) (omega arith) (c .before .before .total .ensures))
+    let columns = at-loop .before .before .before .before .columns in
+    let total = c .before .before .total in
+    let out = at-loop .loop .out in
+    let written = at-part out (total .last .0) _ (at-loop .loop .used) (total .result) (omega arith) (total .ensures) in
+    ends _ (at-loop .loop .inv .0) (omega arith) (at-loop .loop .inv .3 ∙ columns .ensures .same-length) written
 
 pub write-spec : {M : Type 1} → statement M
 write-spec =
