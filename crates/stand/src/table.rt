@@ -13,7 +13,8 @@ ghost use Rattle.stand.specs.Output.{output};
 // last line fit into the rest.
 pub fn write(control: &mut [u8], area: &mut [u8], input: &[u8], out: &mut [u8]) -> usize
     requires { ⌜ Kept (now control) (now area) × (length (now input) ≤ 65536) × (2097280 ≤ length (now out)) ⌝ }
-    ensures { λ r. ⌜ Appended (now (out .entry)) (now (out .exit)) 0 (output (now (input .entry)) (record { control = now (control .entry); area = now (area .entry) })) r ⌝ }
+    ensures { λ r. ⌜ Appended (now (out .entry)) (now (out .exit)) 0
+        (output (now (input .entry)) (record { control = now (control .entry); area = now (area .entry) })) r ⌝ }
 {
     let mut used = text::columns(out);
     let mut counts = tally::empty();
