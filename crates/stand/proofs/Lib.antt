@@ -1,0 +1,3 @@
+-- Laws of the stand's program.
+pub mod Playing
+pub mod Whole

@@ -1,0 +1,120 @@
+-- The records treated one after the other: what is written and what is still ahead make up the whole output.
+-- Assumes nothing.
+use Prim.Native.Nat.{ℕ, zero, suc, _+_, _*_, _-_, _/_, _%_, _≤_, _<_}
+use mathlib.Core.Path.{_≡_, refl, sym, ap, _∙_}
+use mathlib.Core.List.{List, _++_, append-assoc}
+use native.Mathlib.Omega.{arith}
+use borrow.Author.Tests.{lt-ltb, le-ltb}
+use lib.ListN.{length, take, getD}
+use lib.Seq.{length-take-le}
+use Rattle.stepped.specs.Events.{Memories}
+use Rattle.schedule.specs.declared.record.Record.{Record}
+use Rattle.schedule.specs.declared.record.Record.the-variants.{Start, Allocate, Free, Step, Run, Bad}
+use Rattle.schedule.specs.declared.tally.Tally.{Tally}
+use Rattle.schedule.specs.Records.{recordAt, endOf}
+use Rattle.schedule.specs.Tally.{none, counted}
+use Rattle.schedule.specs.Stand.{treated, table}
+use Rattle.schedule.specs.Bytes.{onBytes, Does}
+use Rattle.text.specs.Numbers.{Appended}
+use Rattle.text.specs.Lines.{columnsText, lineText, totalText}
+use Rattle.stand.specs.Output.{rowsText, tableText, output}
+
+-- the next record begins at least one byte further
+pub further : (r : Record) (at end : ℕ) → at < end → at < endOf r at end
+further (Start a b) at end h = omega arith
+further (Allocate a b) at end h = omega arith
+further (Free a b) at end h = omega arith
+further (Step a) at end h = omega arith
+further (Run a b) at end h = omega arith
+further Bad at end h = h
+
+-- the text of the last line
+abbrev lastText : Tally → List ℕ
+lastText y = totalText (y .finished) (y .accepted) (y .others)
+
+module _ (input : List ℕ) where
+  -- the text from the record n at the byte `at` on, for at most f records
+  abbrev ahead : ℕ → ℕ → ℕ → Tally → Memories → List ℕ
+  ahead f at n y s = let t = table onBytes f input at n y s in rowsText (t .0) (t .1)
+
+  -- behind the last record only the last line is ahead
+  ended : (f at n : ℕ) (y : Tally) (s : Memories) → length input ≤ at → ahead f at n y s ≡ lastText y
+  unfolding table rowsText
+  ended zero at n y s h = refl
+  ended (suc f) at n y s h = rw (le-ltb at (length input) h) refl
+
+  -- the line of the record at the byte `at`, and what is ahead once it is treated and counted
+  treats : (f at n : ℕ) (y : Tally) (s : Memories) → at < length input →
+      let r = recordAt input at in
+      let x = treated onBytes r s in
+      ahead (suc f) at n y s
+      ≡ lineText n (getD input at 0) (x .1 % 256) (x .1 / 256) ++ ahead f (endOf r at (length input)) (n + 1) (counted y (x .1 % 256)) (x .0)
+  unfolding table rowsText
+  treats f at n y s h = rw (lt-ltb at (length input) h) refl
+
+  -- Before the record n at the byte `at`, with the counts y and the memories s: the first bytes of `out`, as many as are used, and
+  -- what is ahead make up the output from s₀.
+  pub record Ahead (s₀ : Memories) (used at n : ℕ) (y : Tally) (s : Memories) (out : List ℕ) : Type 0 where
+    pub fuel : ℕ
+    pub enough : length input - at ≤ fuel
+    pub few : n ≤ at
+    pub most : n ≤ length input
+    pub room : used ≤ 23 + 32 * n
+    pub said : output input s₀ ≡ take used out ++ ahead fuel at n y s
+
+  -- the column names are written
+  pub begins : {before out : List ℕ} {used : ℕ} {y : Tally} (s : Memories) → Appended before out 0 columnsText used → y ≡ none
+      → Ahead s used 0 0 y s out
+  unfolding output tableText
+  begins s w e = record {
+    fuel = length input;
+    enough = omega arith;
+    few = omega arith;
+    most = omega arith;
+    room = omega (arith, w .end);
+    said = rw (e, w .text-is) refl;
+  }
+
+  -- a line more is written
+  module _ {s₀ s : Memories} {used at n : ℕ} {y : Tally} {out : List ℕ} (A : Ahead s₀ used at n y s out) (h : at < length input) where
+    pub goes-on : {r : Record} → r ≡ recordAt input at
+        → {control area : List ℕ} {answer : ℕ} → Does (treated onBytes r) (s .control) (s .area) control area answer
+        → {out′ : List ℕ} {used′ : ℕ} → (let line = lineText n (getD input at 0) (answer % 256) (answer / 256) in
+        Appended out out′ used line used′ × (length line ≤ 32))
+        → {next : ℕ} {z : Tally} → z ≡ counted y (answer % 256) → next ≡ endOf r at (length input)
+        → Ahead s₀ used′ next (n + 1) z (record { control = control; area = area }) out′
+    goes-on {r} e {control} {area} {answer} D {out′} {used′} w {next} {z} counts end = by (A .fuel) (A .enough) (A .said)
+      where
+        by : (f : ℕ) → length input - at ≤ f → output input s₀ ≡ take used out ++ ahead f at n y s
+            → Ahead s₀ used′ next (n + 1) z (record { control = control; area = area }) out′
+        by zero l q = absurd (omega arith)
+        by (suc f) l q = record {
+          fuel = f;
+          enough = omega (arith, further r at (length input) h);
+          few = omega (arith, further r at (length input) h, A .few);
+          most = omega (arith, A .few);
+          room = omega (arith, A .room, w .0 .end, w .1);
+          said =
+              let entry = recordAt input at in
+              let x = treated onBytes entry s in
+              let line = lineText n (getD input at 0) (x .1 % 256) (x .1 / 256) in
+              let rest = ahead f (endOf entry at (length input)) (n + 1) (counted y (x .1 % 256)) (x .0) in
+              rw (end, counts, D .number, D .control-is, D .area-is, e)
+              (q
+              ∙ ap (λ (t : List ℕ). take used out ++ t) (treats f at n y s h)
+              ∙ sym (append-assoc (take used out) line rest)
+              ∙ ap (λ (t : List ℕ). t ++ rest) (sym (rw (D .number, e) at (w .0 .text-is))));
+        }
+
+  -- the last line is written
+  pub ends : {s₀ s : Memories} {used at n : ℕ} {y : Tally} {before out : List ℕ} → Ahead s₀ used at n y s out → length input ≤ at
+      → length out ≡ length before → {last : List ℕ} {r : ℕ} → Appended out last used (lastText y) r
+      → Appended before last 0 (output input s₀) r
+  ends {s₀} {s} {used} {at} {n} {y} {before} {out} A h l {last} {r} w =
+      let text = w .text-is ∙ sym (A .said ∙ ap (λ (t : List ℕ). take used out ++ t) (ended (A .fuel) at n y s h)) in
+      record {
+        same-length = w .same-length ∙ l;
+        end = omega (arith, length-take-le r last (w .within), ap length text);
+        within = w .within;
+        text-is = text;
+      }

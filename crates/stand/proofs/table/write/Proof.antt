@@ -1,0 +1,189 @@
+-- At the head of the loop what is written and what is still ahead make up the whole output. Assumes nothing.
+use Prim.Native.Nat.{_-_, _/_, _%_, _≤_}
+use mathlib.Core.Path.{_≡_, refl, _∙_}
+use native.Mathlib.Omega.{arith}
+use lib.ListN.{length, getD}
+use borrow.Author.Needs.{needs}
+use borrow.Rule.Slice.PartMut.{mid-len}
+use Rattle.text.proofs.Digits.{short-line}
+use Rattle.text.proofs.Writing.{at-part}
+use Rattle.stand.proofs.Playing.{Ahead, begins, goes-on, ends, further}
+use Rattle.stand.proofs.table.write.Statement.{statement}
+use Rattle.stand.proofs.table.write.Tie as tie
+
+abbrev Inv-loop : tie.InvT-loop
+Inv-loop control₀ area₀ input out₀ used₀ counts₀ number₀ at₀ control area out used counts number at =
+    Ahead input (record { control = control₀; area = area₀ }) used at number counts (record { control = control; area = area }) out
+    × (length control ≡ length control₀) × (length area ≡ length area₀) × (length out ≡ length out₀)
+
+abbrev μ-loop : tie.MeasureT-loop
+μ-loop control₀ area₀ input out₀ used₀ counts₀ number₀ at₀ control area out used counts number at = length input - at
+
+columns-requires : tie.Need-columns-requires Inv-loop μ-loop
+columns-requires c κs = search needs
+
+empty-requires : tie.Need-empty-requires Inv-loop μ-loop
+empty-requires c κs = tt
+
+loop-holds : tie.Need-loop-holds Inv-loop μ-loop
+loop-holds c = (begins _ _ (c .before .before .before .columns .ensures) (c .empty .ensures), refl, refl, refl)
+
+read-requires : tie.Need-read-requires Inv-loop μ-loop
+read-requires c κs = search needs
+
+treat-requires : tie.Need-treat-requires Inv-loop μ-loop
+treat-requires c κs =
+    let at-loop = c .before .before .before .before in
+    let K = at-loop .before .before .before .before .before .before .before .before .before .before .pre .0 in
+    record { control-is = at-loop .loop .inv .1 ∙ K .control-is; area-is = at-loop .loop .inv .2 ∙ K .area-is }
+
+sub-line : tie.Need-sub-line Inv-loop μ-loop
+sub-line c = omega arith
+
+part-line-start : tie.Need-part-line-start Inv-loop μ-loop
+part-line-start c = omega arith
+
+part-line-end : tie.Need-part-line-end Inv-loop μ-loop
+part-line-end c = omega arith
+
+shared-slice-read-line : tie.Need-shared-slice-read-line Inv-loop μ-loop
+shared-slice-read-line c = omega arith
+
+cast-line : tie.Need-cast-line Inv-loop μ-loop
+cast-line c =
+    let at-loop = c .before .before .before .before .before .before .before .before .before .before .before in
+    omega (arith, c .shared-slice-known2 .given (at-loop .loop .at))
+
+line-requires : tie.Need-line-requires Inv-loop μ-loop
+line-requires c κs =
+    let at-loop = c .before .before .before .before .before .before .before .before .before .before .before in
+    omega (arith, mid-len (at-loop .loop .used) (length (at-loop .loop .out)) (at-loop .loop .out) (omega arith))
+
+add-used : tie.Need-add-used Inv-loop μ-loop
+add-used c =
+    let at-loop = c .before .before .before .before .before .before .before .before .before .before .before .before .before .before in
+    let written = c .before .before .line .ensures in
+    let used = at-loop .loop .used in
+    omega (arith, written .within, written .same-length, mid-len used (length (at-loop .loop .out)) (at-loop .loop .out) (omega arith))
+
+count-requires : tie.Need-count-requires Inv-loop μ-loop
+count-requires c κs = tt
+
+end-requires : tie.Need-end-requires Inv-loop μ-loop
+end-requires c κs = search needs
+
+add-number : tie.Need-add-number Inv-loop μ-loop
+add-number c = omega arith
+
+loop-less : tie.Need-loop-less Inv-loop μ-loop
+loop-less c =
+    let read = c .before .before .before .before .before .before .before .before .before .before .before .before .before .before in
+    let at-loop = read .before .before in
+    let input = at-loop .before .before .before .before .before .before .before .before .before .before .args .input .now in
+    omega (arith, c .end .ensures, further (read .read .result) (at-loop .loop .at) (length input) (omega arith))
+
+loop-again : tie.Need-loop-again Inv-loop μ-loop
+loop-again c =
+    let line = c .before .before .before .before in
+    let treated = line .before .before .before .before .before .before .before in
+    let read = treated .before .before .before in
+    let at-loop = read .before .before in
+    let begun = at-loop .before .before .before .before in
+    let start = begun .before .before .before .before .before .before in
+    let input = start .args .input .now in
+    let inv = at-loop .loop .inv in
+    let fits : at-loop .loop .used ≤ length (at-loop .loop .out) =
+    omega (arith, inv .0 .room, inv .0 .most, inv .3, start .pre, begun .columns .ensures .same-length) in
+    let line-is = line .line in
+    let written =
+    at-part (at-loop .loop .out) (line-is .last .0) _ (at-loop .loop .used) (line-is .result) fits (line-is .ensures) in
+    let kind = getD input (at-loop .loop .at) 0 in
+    let byte = line .before .shared-slice-known2 .given (at-loop .loop .at) in
+    let answer = treated .treat .result in
+    let short =
+    short-line (at-loop .loop .number) kind (answer % 256) (answer / 256) (omega (arith, inv .0 .few, start .pre))
+    (omega (arith, byte)) (omega arith) (omega (arith, treated .treat .ok)) in
+    let entry = read .read .ensures in (
+      goes-on input (inv .0) (omega arith) entry (treated .treat .ensures) (written, short) (c .before .count .ensures) (c .end .ensures),
+      search (needs, inv .1),
+      search (needs, inv .2),
+      written .same-length ∙ inv .3,
+    )
+
+sub-total : tie.Need-sub-total Inv-loop μ-loop
+sub-total c = omega arith
+
+part-total-start : tie.Need-part-total-start Inv-loop μ-loop
+part-total-start c = omega arith
+
+part-total-end : tie.Need-part-total-end Inv-loop μ-loop
+part-total-end c = omega arith
+
+total-requires : tie.Need-total-requires Inv-loop μ-loop
+total-requires c κs =
+    let at-loop = c .before .before in
+    omega (arith, mid-len (at-loop .loop .used) (length (at-loop .loop .out)) (at-loop .loop .out) (omega arith))
+
+add-result : tie.Need-add-result Inv-loop μ-loop
+add-result c =
+    let at-loop = c .before .before .before .before .before in
+    let written = c .before .before .total .ensures in
+    let used = at-loop .loop .used in
+    omega (arith, written .within, written .same-length, mid-len used (length (at-loop .loop .out)) (at-loop .loop .out) (omega arith))
+
+same-length : tie.Need-same-length Inv-loop μ-loop
+same-length c = c .before .before .before .before .before .loop .inv .1
+
+same-length-2 : tie.Need-same-length-2 Inv-loop μ-loop
+same-length-2 c = c .before .before .before .before .before .loop .inv .2
+
+same-length-3 : tie.Need-same-length-3 Inv-loop μ-loop
+same-length-3 c =
+    let at-loop = c .before .before .before .before .before in
+    let columns = at-loop .before .before .before .before .columns in
+    let total = c .before .before .total in
+    let out = at-loop .loop .out in
+    let written = at-part out (total .last .0) _ (at-loop .loop .used) (total .result) (omega arith) (total .ensures) in
+    written .same-length ∙ at-loop .loop .inv .3 ∙ columns .ensures .same-length
+
+returns : tie.Need-returns Inv-loop μ-loop
+returns c =
+    let at-loop = c .before .before .before .before .before in
+    let columns = at-loop .before .before .before .before .columns in
+    let total = c .before .before .total in
+    let out = at-loop .loop .out in
+    let written = at-part out (total .last .0) _ (at-loop .loop .used) (total .result) (omega arith) (total .ensures) in
+    ends _ (at-loop .loop .inv .0) (omega arith) (at-loop .loop .inv .3 ∙ columns .ensures .same-length) written
+
+pub write-spec : {M : Type 1} → statement M
+write-spec =
+    tie.close
+    (tie.spec
+    Inv-loop
+    μ-loop
+    columns-requires
+    empty-requires
+    loop-holds
+    read-requires
+    treat-requires
+    sub-line
+    part-line-start
+    part-line-end
+    shared-slice-read-line
+    cast-line
+    line-requires
+    add-used
+    count-requires
+    end-requires
+    add-number
+    loop-less
+    loop-again
+    sub-total
+    part-total-start
+    part-total-end
+    total-requires
+    add-result
+    same-length
+    same-length-2
+    same-length-3
+    returns)

@@ -1,0 +1,2 @@
+-- Definitions of the stand's program.
+pub mod Output

@@ -1,0 +1,30 @@
+-- What the stand writes: the text of the table of its input.
+-- Assumes nothing.
+use Prim.Native.Nat.{ℕ}
+use mathlib.Core.List.{List, [], _∷_, _++_}
+use lib.ListN.{length}
+use Rattle.plain.specs.Calls.{unstarted}
+use Rattle.stepped.specs.Events.{Memories}
+use Rattle.schedule.specs.declared.tally.Tally.{Tally}
+use Rattle.schedule.specs.Tally.{none}
+use Rattle.schedule.specs.Stand.{Line, table}
+use Rattle.schedule.specs.Bytes.{onBytes}
+use Rattle.schedule.specs.Plain.{onPlain}
+use Rattle.text.specs.Lines.{columnsText, lineText, totalText}
+
+-- "each line, in decimal: record from 0, kind byte, code, value", and the last line, which "counts codes 20, codes 0 and the others"
+unfoldable pub rowsText : List Line → Tally → List ℕ
+rowsText [] y = totalText (y .finished) (y .accepted) (y .others)
+rowsText (l ∷ ls) y = lineText (l .number) (l .kind) (l .code) (l .value) ++ rowsText ls y
+
+-- "After a line of column names, each line .."
+unfoldable pub tableText : List Line × Tally → List ℕ
+tableText t = columnsText ++ rowsText (t .0) (t .1)
+
+-- the whole output for an input, with two memories before the first record
+unfoldable pub output : List ℕ → Memories → List ℕ
+output input s = tableText (table onBytes (length input) input 0 0 none s)
+
+-- the same of the plain pool, which is not started before the first record
+unfoldable pub plainOutput : List ℕ → List ℕ
+plainOutput input = tableText (table onPlain (length input) input 0 0 none unstarted)

@@ -1,0 +1,3 @@
+-- Definitions of the stand's text.
+pub mod Numbers
+pub mod Lines

@@ -1,0 +1,30 @@
+-- The lines of the stand's table. The character 32 is a space, 10 the end of a line.
+-- Assumes nothing.
+use Prim.Native.Nat.{ℕ}
+use mathlib.Core.List.{List, [], _∷_, _++_}
+use Rattle.text.specs.Numbers.{decimal}
+
+-- a number and the character behind it
+abbrev pub field : ℕ → ℕ → List ℕ
+field n behind = decimal n ++ (behind ∷ [])
+
+-- "After a line of column names": `record kind code value`
+abbrev pub columnsText : List ℕ
+columnsText =
+    114 ∷ 101 ∷ 99 ∷ 111 ∷ 114 ∷ 100 ∷ 32
+    ∷ 107 ∷ 105 ∷ 110 ∷ 100 ∷ 32
+    ∷ 99 ∷ 111 ∷ 100 ∷ 101 ∷ 32
+    ∷ 118 ∷ 97 ∷ 108 ∷ 117 ∷ 101 ∷ 10
+    ∷ []
+
+-- "each line, in decimal: record from 0, kind byte, code, value"
+unfoldable pub lineText : ℕ → ℕ → ℕ → ℕ → List ℕ
+lineText number kind code value = field number 32 ++ field kind 32 ++ field code 32 ++ field value 10
+
+-- the characters of `total` and a space
+abbrev pub totalWord : List ℕ
+totalWord = 116 ∷ 111 ∷ 116 ∷ 97 ∷ 108 ∷ 32 ∷ []
+
+-- "The last line counts codes 20, codes 0 and the others."
+unfoldable pub totalText : ℕ → ℕ → ℕ → List ℕ
+totalText finished accepted others = totalWord ++ field finished 32 ++ field accepted 32 ++ field others 10
