@@ -25,3 +25,22 @@ pub fn treat_counted(control: &mut [u8], area: &mut [u8], entry: Record, tally: 
     count_in(tally, answer % 256);
     answer
 }
+
+// What the treatment of a record gives a caller that keeps the tally by value: the answer, and the tally with the record counted.
+pub struct Treated {
+    pub number: u64,
+    pub tally: Tally,
+}
+
+// The treatment of a record with a tally by value: a copy of it is lent to the treatment, and returned.
+pub fn treat_with(control: &mut [u8], area: &mut [u8], entry: Record, tally: Tally) -> Treated
+    requires { ⌜ Kept (now control) (now area) ⌝ }
+    ensures { λ r. ⌜ Does (treated onBytes entry) (now (control .entry)) (now (area .entry)) (now (control .exit)) (now (area .exit)) (r .number) × (r .tally ≡ counted tally (r .number % 256)) ⌝ }
+{
+    let mut lent = tally;
+    let number = treat_counted(control, area, entry, &mut lent);
+    Treated {
+        number: number,
+        tally: lent,
+    }
+}
