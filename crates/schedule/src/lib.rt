@@ -2,5 +2,6 @@
 // tally.
 pub mod lend;
 pub mod record;
+pub mod tallied;
 pub mod tally;
 pub mod treat;
