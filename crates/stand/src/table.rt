@@ -1,7 +1,7 @@
 // The table of a schedule, as the bytes that the program writes.
 use schedule::record;
+use schedule::tallied;
 use schedule::tally;
-use schedule::treat;
 ghost use Prim.Native.Nat.{_≤_};
 ghost use lib.ListN.{length};
 ghost use Rattle.schedule.specs.Bytes.{Kept};
@@ -22,11 +22,11 @@ pub fn write(control: &mut [u8], area: &mut [u8], input: &[u8], out: &mut [u8]) 
     let mut at = 0;
     while at < input.len() {
         let entry = record::read(input, at);
-        let answer = treat::treat(control, area, entry);
-        let code = answer % 256;
-        let value = answer / 256;
+        let treated = tallied::treat_with(control, area, entry, counts);
+        let code = treated.number % 256;
+        let value = treated.number / 256;
         used += text::line(&mut out[used..], number, input[at] as u64, code, value);
-        counts = tally::count(counts, code);
+        counts = treated.tally;
         at = record::end(entry, at, input.len());
         number += 1;
     }

@@ -31,8 +31,8 @@ loop-holds c = (begins _ _ (c .before .before .before .columns .ensures) (c .emp
 read-requires : tie.Need-read-requires Inv-loop μ-loop
 read-requires c κs = search needs
 
-treat-requires : tie.Need-treat-requires Inv-loop μ-loop
-treat-requires c κs =
+treat-with-requires : tie.Need-treat-with-requires Inv-loop μ-loop
+treat-with-requires c κs =
     let at-loop = c .before .before .before .before in
     let K = at-loop .before .before .before .before .before .before .before .before .before .before .pre .0 in
     record { control-is = at-loop .loop .inv .1 ∙ K .control-is; area-is = at-loop .loop .inv .2 ∙ K .area-is }
@@ -51,33 +51,38 @@ shared-slice-read-line c = omega arith
 
 cast-line : tie.Need-cast-line Inv-loop μ-loop
 cast-line c =
-    let at-loop = c .before .before .before .before .before .before .before .before .before .before .before in
+    let at-loop = c .before .before .before .before .before .before .before .before .before .before .before .before .before in
     omega (arith, c .shared-slice-known2 .given (at-loop .loop .at))
 
 line-requires : tie.Need-line-requires Inv-loop μ-loop
 line-requires c κs =
-    let at-loop = c .before .before .before .before .before .before .before .before .before .before .before in
+    let at-loop = c .before .before .before .before .before .before .before .before .before .before .before .before .before in
     omega (arith, mid-len (at-loop .loop .used) (length (at-loop .loop .out)) (at-loop .loop .out) (omega arith))
 
 add-used : tie.Need-add-used Inv-loop μ-loop
 add-used c =
-    let at-loop = c .before .before .before .before .before .before .before .before .before .before .before .before .before .before in
-    let written = c .before .before .line .ensures in
-    let used = at-loop .loop .used in
-    omega (arith, written .within, written .same-length, mid-len used (length (at-loop .loop .out)) (at-loop .loop .out) (omega arith))
-
-count-requires : tie.Need-count-requires Inv-loop μ-loop
-count-requires c κs = tt
+    let at-loop = c .before .before .before .before .before .before .before .before .before .before .before .before .before .before .before .before in
+    let begun = at-loop .before .before .before .before in
+    let start = begun .before .before .before .before .before .before in
+    let inv = at-loop .loop .inv in
+    let answer = c .before .before .before .before .before .before .before .before .before .before .before .treat-with in
+    let byte = c .before .before .before .shared-slice-known2 .given (at-loop .loop .at) in
+    let short =
+    short-line (at-loop .loop .number) (getD (start .args .input .now) (at-loop .loop .at) 0) (answer .result .number % 256) (answer .result .number / 256)
+    (omega (arith, inv .0 .few, start .pre)) (omega (arith, byte)) (omega arith) (omega (arith, answer .ok)) in
+    omega (arith, short, c .before .before .line .ensures .end, inv .0 .room, inv .0 .most, start .pre)
 
 end-requires : tie.Need-end-requires Inv-loop μ-loop
-end-requires c κs = search needs
+end-requires c κs = omega (arith, c .before .before .before .before .before .before .before .before .before .before .before .before .before .before .before .before .loop-test .taken, c .before .before .before .before .before .before .before .before .before .before .before .before .before .before .before .before .before .before .before .before .before .before .before .before .before .before .before .pre .1)
 
 add-number : tie.Need-add-number Inv-loop μ-loop
-add-number c = omega arith
+add-number c =
+    let at-loop = c .before .before .before .before .before .before .before .before .before .before .before .before .before .before .before .before .before .before in
+    omega (arith, at-loop .loop .inv .0 .few, at-loop .before .before .before .before .before .before .before .before .before .before .pre .1, c .before .before .before .before .before .before .before .before .before .before .before .before .before .before .before .before .before .loop-test .taken)
 
 loop-less : tie.Need-loop-less Inv-loop μ-loop
 loop-less c =
-    let read = c .before .before .before .before .before .before .before .before .before .before .before .before .before .before in
+    let read = c .before .before .before .before .before .before .before .before .before .before .before .before .before .before .before .before in
     let at-loop = read .before .before in
     let input = at-loop .before .before .before .before .before .before .before .before .before .before .args .input .now in
     omega (arith, c .end .ensures, further (read .read .result) (at-loop .loop .at) (length input) (omega arith))
@@ -85,7 +90,7 @@ loop-less c =
 loop-again : tie.Need-loop-again Inv-loop μ-loop
 loop-again c =
     let line = c .before .before .before .before in
-    let treated = line .before .before .before .before .before .before .before in
+    let treated = line .before .before .before .before .before .before .before .before .before in
     let read = treated .before .before .before in
     let at-loop = read .before .before in
     let begun = at-loop .before .before .before .before in
@@ -99,12 +104,12 @@ loop-again c =
     at-part (at-loop .loop .out) (line-is .last .0) _ (at-loop .loop .used) (line-is .result) fits (line-is .ensures) in
     let kind = getD input (at-loop .loop .at) 0 in
     let byte = line .before .shared-slice-known2 .given (at-loop .loop .at) in
-    let answer = treated .treat .result in
+    let answer = treated .treat-with .result .number in
     let short =
     short-line (at-loop .loop .number) kind (answer % 256) (answer / 256) (omega (arith, inv .0 .few, start .pre))
-    (omega (arith, byte)) (omega arith) (omega (arith, treated .treat .ok)) in
+    (omega (arith, byte)) (omega arith) (omega (arith, treated .treat-with .ok)) in
     let entry = read .read .ensures in (
-      goes-on input (inv .0) (omega arith) entry (treated .treat .ensures) (written, short) (c .before .count .ensures) (c .end .ensures),
+      goes-on input (inv .0) (omega arith) entry (treated .treat-with .ensures .0) (written, short) (treated .treat-with .ensures .1) (c .end .ensures),
       search (needs, inv .1),
       search (needs, inv .2),
       written .same-length ∙ inv .3,
@@ -165,7 +170,7 @@ write-spec =
     empty-requires
     loop-holds
     read-requires
-    treat-requires
+    treat-with-requires
     sub-line
     part-line-start
     part-line-end
@@ -173,7 +178,6 @@ write-spec =
     cast-line
     line-requires
     add-used
-    count-requires
     end-requires
     add-number
     loop-less
