@@ -237,6 +237,7 @@ impl<'a> Driver<'a> {
         self.checks.agree("structure: each task's place", structure::places(pool, &view))?;
         self.checks.agree("structure: each list's items", structure::lists(pool, &view))?;
         self.checks.agree("structure: open regions and classes", structure::open_regions(pool, &view))?;
+        self.checks.agree("structure: map entries", structure::map(pool, &view))?;
         self.checks.agree("structure: chains in order", structure::chains(pool, &view))?;
         self.checks.agree("structure: caches as rows", structure::caches(pool, &view))?;
         self.checks.agree("structure: marks", structure::marks(pool, &view))?;

@@ -2,7 +2,7 @@
 //! class, and, for these, the chain in order and each block's holder."
 
 use crate::classes::{per_region, units, CLASSES, REGION, UNITS_PER_REGION};
-use crate::layout::{outside_fields, View, DESCRIPTOR_CLASS, REGIONS, TASKS, TASK_PLACE};
+use crate::layout::{outside_fields, View, DESCRIPTOR_CLASS, MAP, REGIONS, TASKS, TASK_PLACE};
 use crate::lists::LISTS;
 use crate::pool::{Pool, Under, ALL_UNITS};
 use std::sync::LazyLock;
@@ -50,6 +50,21 @@ pub fn open_regions(pool: &Pool, view: &View) -> Result<(), String> {
         let memory = view.open(region).map(|index| view.get(DESCRIPTOR_CLASS, index) as usize);
         if plain != memory {
             return Err(format!("region {region}: open in {plain:?} in the plain pool, in {memory:?} in the memory"));
+        }
+    }
+    Ok(())
+}
+
+/// "A map entry for each region names its descriptor, or none": also of regions that are not open, where no answer shows
+/// it.
+pub fn map(pool: &Pool, view: &View) -> Result<(), String> {
+    for region in 0..regions_of(pool) {
+        let memory = (view.get(MAP, region) as usize).checked_sub(1);
+        if pool.map[region] != memory {
+            return Err(format!(
+                "region {region}: entry {:?} in the plain pool, {memory:?} in the memory",
+                pool.map[region]
+            ));
         }
     }
     Ok(())
