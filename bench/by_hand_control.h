@@ -51,6 +51,10 @@ enum { EMPTY = 0, PARTIAL = 1, FULL = 2 };
 
 static const uint8_t UNITS[16] = {1, 2, 3, 4, 5, 6, 7, 8, 10, 12, 14, 16, 20, 24, 28, 32};
 static const uint16_t PER_REGION[16] = {512, 256, 170, 128, 102, 85, 73, 64, 51, 42, 36, 32, 25, 21, 18, 16};
+/* The library's factors, by which it tells a first unit without a division: what they save is saved here, too. */
+static const uint32_t FACTOR[16] = {128u, 2147483776u, 1431655894u, 1073741953u, 1717987048u, 3579139543u,
+                                    1227133643u, 536871042u, 3006477238u, 357914074u, 306783512u, 268435588u,
+                                    1503238690u, 178957107u, 460175205u, 134217864u};
 static const uint8_t CLASS_OF_UNITS[33] = {0,  0,  1,  2,  3,  4,  5,  6,  7,  8,  8,  9,  9,  10, 10, 11, 11,
                                            12, 12, 12, 12, 13, 13, 13, 13, 14, 14, 14, 14, 15, 15, 15, 15};
 
@@ -105,8 +109,7 @@ static inline void set_link(uint8_t *area, uint32_t unit, uint32_t link)
 
 static inline int is_first(unsigned class, uint32_t unit)
 {
-    uint32_t offset = unit % 512;
-    return offset % UNITS[class] == 0 && offset / UNITS[class] < PER_REGION[class];
+    return (uint32_t)(unit % 512 * FACTOR[class]) < 65536;
 }
 
 static inline int is_block(unsigned regions, unsigned class, uint32_t unit)

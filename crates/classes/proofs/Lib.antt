@@ -4,3 +4,4 @@ pub mod Series
 pub mod Sizes
 pub mod Bench
 pub mod Places
+pub mod Factors

@@ -1,3 +1,4 @@
 pub mod Classes
 pub mod Sizes
 pub mod Places
+pub mod Factors

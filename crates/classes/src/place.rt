@@ -36,7 +36,5 @@ pub fn is_first(class: usize, unit: usize) -> bool
     requires { ⌜ class < 16 ⌝ }
     ensures { λ r. ⌜ r ≡ isFirst class unit ⌝ }
 {
-    let offset = unit % 512;
-    let units = table::units(class);
-    offset % units == 0 && offset / units < table::per_region(class)
+    unit % 512 * table::factor(class) % 4294967296 < 65536
 }

@@ -3,6 +3,7 @@
 ghost use mathlib.Core.Path.{_≡_};
 ghost use Prim.Native.Nat.{_<_};
 ghost use Rattle.classes.specs.Classes.{units, perRegion};
+ghost use Rattle.classes.specs.Factors.{Factor};
 
 // The units of a block of the class. Callers have the class from a size, or from a descriptor, where they have
 // tested it: the beginning of a free, carving, and the links of a chain.
@@ -53,5 +54,31 @@ pub fn per_region(class: usize) -> usize
         13 => 21,
         14 => 18,
         _ => 16,
+    }
+}
+
+// A number that tells the first units of the class's blocks by one product, without a division. Any with its property
+// would do; docs/DECISIONS.md says how these were found. Callers have the class as those of `units` do: `is_first`.
+pub fn factor(class: usize) -> usize
+    requires { ⌜ class < 16 ⌝ }
+    ensures { λ r. ⌜ Factor class r ⌝ }
+{
+    match class {
+        0 => 128,
+        1 => 2147483776,
+        2 => 1431655894,
+        3 => 1073741953,
+        4 => 1717987048,
+        5 => 3579139543,
+        6 => 1227133643,
+        7 => 536871042,
+        8 => 3006477238,
+        9 => 357914074,
+        10 => 306783512,
+        11 => 268435588,
+        12 => 1503238690,
+        13 => 178957107,
+        14 => 460175205,
+        _ => 134217864,
     }
 }

@@ -16,8 +16,8 @@ use Rattle.stepped.specs.Outcome.{Outcome, refuse, effect}
 use Rattle.stepped.specs.Steps.{step}
 use Rattle.stepped.specs.Calls.{tested, whenIdle, beginAllocate, beginFree, allocateOutcome, freeOutcome, stepOutcome, allocate, free, go}
 use Rattle.stepped.specs.Ends.{Tested}
-use Rattle.stepped.specs.Done.{Done, DoneIn}
-use Rattle.stepped.proofs.Doing.{lends}
+use Rattle.stepped.specs.Done.{Done, NumberIn}
+use Rattle.stepped.proofs.Doing.{lends, numbers}
 use Rattle.begins.specs.Tests.{unlessRefused, TestsAre}
 use Rattle.pool.specs.Call.{CallIs}
 
@@ -26,10 +26,10 @@ pub refused-is : {o : Outcome} (c a : List ℕ) {r : ℕ} → o ≡ refuse r →
 refused-is c a {r} e = subst (λ (x : Outcome). CallIs (effect x c a) c a r) (sym e) (record { number = refl; control-is = refl; area-is = refl })
 
 -- a call that does the outcome x
-pub does-is : {o x : Outcome} {c a c′ a′ : List ℕ} {s : Answer} {r : ℕ} → o ≡ x → DoneIn x c a c′ a′ s → r ≡ numberOf s → CallIs (effect o c a) c′ a′ r
-does-is {c = c} {a = a} {c′ = c′} {a′ = a′} {r = r} e d n =
+pub does-is : {o x : Outcome} {c a c′ a′ : List ℕ} {r : ℕ} → o ≡ x → NumberIn x c a c′ a′ r → CallIs (effect o c a) c′ a′ r
+does-is {c = c} {a = a} {c′ = c′} {a′ = a′} {r = r} e d =
     subst (λ (z : Outcome). CallIs (effect z c a) c′ a′ r) (sym e)
-    (record { number = n ∙ ap numberOf (d .answer); control-is = d .control; area-is = d .area })
+    (record { number = d .number; control-is = d .control; area-is = d .area })
 
 module _ (c a : List ℕ) (t r : ℕ) (T : TestsAre (length c) (length a) (seen c) t r) where
   refuses : r ≢ 0 → (x : Outcome) → tested (length c) (length a) (seen c) t x ≡ refuse r
@@ -45,7 +45,7 @@ module _ (c a : List ℕ) (t r : ℕ) (T : TestsAre (length c) (length a) (seen 
   pub allocate-does : (size : ℕ) → r ≡ 0 → {c′ : List ℕ} {s : Answer} {n : ℕ}
       → Done (whenIdle (seen c) t (beginAllocate t size)) c c′ s → n ≡ numberOf s → CallIs (allocate c a t size) c′ a n
   unfolding allocate allocateOutcome
-  allocate-does size h d n = does-is (passes h _) (lends d) n
+  allocate-does size h d n = does-is (passes h _) (numbers (lends d) n)
 
   pub free-refused : (u : ℕ) → r ≢ 0 → CallIs (free c a t u) c a r
   unfolding free freeOutcome
@@ -55,17 +55,18 @@ module _ (c a : List ℕ) (t r : ℕ) (T : TestsAre (length c) (length a) (seen 
       → Done (whenIdle (seen c) t (beginFree (seen c) regions t u)) c c′ s → n ≡ numberOf s → CallIs (free c a t u) c′ a n
   unfolding free freeOutcome
   free-does u regions h e {c′} {s} d n =
-      does-is (passes h _) (lends (subst (λ (k : ℕ). Done (whenIdle (seen c) t (beginFree (seen c) k t u)) c c′ s) e d)) n
+      does-is (passes h _)
+      (numbers (lends (subst (λ (k : ℕ). Done (whenIdle (seen c) t (beginFree (seen c) k t u)) c c′ s) e d)) n)
 
   pub step-refused : r ≢ 0 → CallIs (go c a t) c a r
   unfolding go stepOutcome
   step-refused h = refused-is c a (refuses h _)
 
-  pub step-does : (regions : ℕ) → r ≡ 0 → regions ≡ seen c Regions → {c′ a′ : List ℕ} {s : Answer} {n : ℕ}
-      → DoneIn (step (seen c) (link a) regions t) c a c′ a′ s → n ≡ numberOf s → CallIs (go c a t) c′ a′ n
+  pub step-does : (regions : ℕ) → r ≡ 0 → regions ≡ seen c Regions → {c′ a′ : List ℕ} {n : ℕ}
+      → NumberIn (step (seen c) (link a) regions t) c a c′ a′ n → CallIs (go c a t) c′ a′ n
   unfolding go stepOutcome
-  step-does regions h e {c′} {a′} {s} d n =
-      does-is (passes h _) (subst (λ (k : ℕ). DoneIn (step (seen c) (link a) k t) c a c′ a′ s) e d) n
+  step-does regions h e {c′} {a′} {n} d =
+      does-is (passes h _) (subst (λ (k : ℕ). NumberIn (step (seen c) (link a) k t) c a c′ a′ n) e d)
 
 -- what the tests tell
 module _ (control area : ℕ) (v : View) (t r : ℕ) (T : TestsAre control area v t r) (h : r ≡ 0) where

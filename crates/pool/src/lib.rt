@@ -71,5 +71,5 @@ pub extern "C" fn pool_step(control: &mut [u8], area: &mut [u8], task: u64) -> u
         return refused as u64;
     }
     let regions = started::regions(control) as usize;
-    answer::number(step::step(control, area, regions, task as usize))
+    step::step(control, area, regions, task as usize)
 }

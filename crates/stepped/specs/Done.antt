@@ -6,6 +6,7 @@ use Prim.Native.Nat.{ℕ, _*_, _≤_, _<_}
 use lib.ListN.{length}
 use Rattle.links.specs.Link.{linked}
 use Rattle.control.specs.Layout.{changed}
+use Rattle.control.specs.Answers.{numberOf}
 use Rattle.control.specs.declared.answer.Answer.{Answer}
 use Rattle.stepped.specs.Outcome.{Outcome}
 
@@ -32,5 +33,11 @@ pub record Done (o : Outcome) (before after : List ℕ) (r : Answer) : Type 0 wh
 -- A function that is handed both memories.
 pub record DoneIn (o : Outcome) (c a c′ a′ : List ℕ) (r : Answer) : Type 0 where
   pub answer : r ≡ o .answer
+  pub control : c′ ≡ changed (o .writes) c
+  pub area : a′ ≡ linked (o .links) a
+
+-- A function that is handed both memories, and answers by one number.
+pub record NumberIn (o : Outcome) (c a c′ a′ : List ℕ) (r : ℕ) : Type 0 where
+  pub number : r ≡ numberOf (o .answer)
   pub control : c′ ≡ changed (o .writes) c
   pub area : a′ ≡ linked (o .links) a

@@ -25,9 +25,9 @@ step-requires c κs =
 
 returns-2 : tie.Need-returns-2
 returns-2 c =
-    let stepped = c .before .before .before .before .before in
+    let stepped = c .before .before .before .before in
     let read = stepped .before .before .before in
-    step-does _ _ _ _ (read .before .before .before .tests .ensures) _ (omega arith) (read .regions .ensures) (stepped .step .ensures) (c .number .ensures)
+    step-does _ _ _ _ (read .before .before .before .tests .ensures) _ (omega arith) (read .regions .ensures) (stepped .step .ensures)
 
 pub pool-step-spec : {M : Type 1} → statement M
 pool-step-spec =
@@ -40,7 +40,6 @@ pool-step-spec =
     regions-requires
     (λ c. search needs)
     step-requires
-    (λ c κs. search needs)
     (λ c. search needs)
     (λ c. search needs)
     returns-2)

@@ -1,47 +1,42 @@
--- The function that is called does the step at the place. Assumes nothing.
+-- The function that is called does the step at the place, and its answer becomes the number. Assumes nothing.
 use mathlib.Core.Path.{refl}
 use native.Mathlib.Omega.{arith}
-use Rattle.stepped.proofs.Doing.{does-in, lends}
+use Rattle.stepped.proofs.Doing.{does-in, lends, numbers}
 use Rattle.steps.proofs.Places.{at}
 use borrow.Author.Needs.{needs}
 use Rattle.steps.proofs.step.at.Statement.{statement}
 use Rattle.steps.proofs.step.at.Tie as tie
 
 returns : tie.Need-returns
-returns c = does-in (at _ _ _ _ _ 1 refl (omega arith)) (lends (c .before .before .take .ensures))
+returns c =
+    numbers (does-in (at _ _ _ _ _ 1 refl (omega arith)) (lends (c .before .before .before .take .ensures)))
+    (c .number .ensures)
 
 returns-2 : tie.Need-returns-2
-returns-2 c = does-in (at _ _ _ _ _ 28 refl (omega arith)) (c .before .before .before .before .put .ensures)
+returns-2 c =
+    numbers
+    (does-in (at _ _ _ _ _ 28 refl (omega arith)) (c .before .before .before .before .before .put .ensures))
+    (c .number2 .ensures)
 
 returns-3 : tie.Need-returns-3
-returns-3 c = lends (c .before .before .pop .ensures _)
-
-returns-4 : tie.Need-returns-4
-returns-4 c = lends (c .before .before .push .ensures _)
+returns-3 c = numbers (c .before .before .before .before .before .later .ensures) (c .number3 .ensures)
 
 pub at-spec : {M : Type 1} → statement M
 at-spec =
     tie.close
     (tie.spec
     (λ c κs. search needs)
+    (λ c κs. search needs)
     (λ c. search needs)
     (λ c. search needs)
     returns
+    (λ c κs. search needs)
     (λ c κs. search needs)
     (λ c. search needs)
     (λ c. search needs)
     returns-2
     (λ c κs. search needs)
-    (λ c. search needs)
-    returns-3
-    (λ c κs. search needs)
-    (λ c. search needs)
-    returns-4
     (λ c κs. search needs)
     (λ c. search needs)
     (λ c. search needs)
-    (λ c. search needs)
-    (λ c κs. search needs)
-    (λ c. search needs)
-    (λ c. search needs)
-    (λ c. search needs))
+    returns-3)

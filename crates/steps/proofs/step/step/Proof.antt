@@ -1,20 +1,22 @@
 -- The tests of a step, then the step at the place. Assumes nothing.
 use mathlib.Core.Path.{refl}
 use native.Mathlib.Omega.{arith}
-use Rattle.stepped.proofs.Doing.{done-in, does-in}
+use Rattle.stepped.proofs.Doing.{done-in, numbers, numbers-in}
 use Rattle.steps.proofs.Places.{idle, no-class, to-place}
 use borrow.Author.Needs.{needs}
 use Rattle.steps.proofs.step.step.Statement.{statement}
 use Rattle.steps.proofs.step.step.Tie as tie
 
 returns : tie.Need-returns
-returns c = done-in (idle _ _ _ _ (omega arith)) refl (cc) (cc)
+returns c = numbers (done-in (idle _ _ _ _ (omega arith)) refl (cc) (cc)) refl
 
 returns-2 : tie.Need-returns-2
-returns-2 c = done-in (no-class _ _ _ _ (omega arith) (omega arith)) refl (cc) (cc)
+returns-2 c = numbers (done-in (no-class _ _ _ _ (omega arith) (omega arith)) refl (cc) (cc)) refl
 
 returns-3 : tie.Need-returns-3
-returns-3 c = does-in (to-place _ _ _ _ (omega arith) (omega arith) (omega arith) (omega arith)) (c .before .before .before .before .at .ensures)
+returns-3 c =
+    numbers-in (to-place _ _ _ _ (omega arith) (omega arith) (omega arith) (omega arith))
+    (c .before .before .before .before .at .ensures)
 
 pub step-spec : {M : Type 1} → statement M
 step-spec =
