@@ -13,9 +13,10 @@ use Rattle.rows.specs.Branch.{both}
 use native.Mathlib.Decide.{ℕ-discrete, decLt, decLe}
 use Rattle.rows.specs.Update.{update}
 use Rattle.schedule.specs.declared.tally.Tally.{Tally}
+use Rattle.schedule.specs.declared.treat.Line.{Line}
 use Rattle.schedule.specs.Records.{wideOf, recordAt}
 use Rattle.schedule.specs.Tally.{none, counted}
-use Rattle.schedule.specs.Stand.{Line, runs, table}
+use Rattle.schedule.specs.Stand.{runs, table}
 use Rattle.schedule.specs.Plain.{onPlain}
 
 -- a line of the table

@@ -35,7 +35,7 @@ module _ (c a : List ℕ) (k : ℕ) (c′ : List ℕ) where
   lent-part q part′ r C = record {
     control-is = C .control-is;
     area-is = ap (putMid 0 k a) (C .area-is);
-    number = C .number;
+    answer = C .number;
   }
 
   -- the part is only read
@@ -49,7 +49,7 @@ pub does-as : {f g : Memories → Memories × ℕ} (c a c′ a′ : List ℕ) (r
 does-as {f} {g} c a c′ a′ r e D = record {
   control-is = D .control-is ∙ sym (ap (λ (x : Memories × ℕ). x .0 .control) e);
   area-is = D .area-is ∙ sym (ap (λ (x : Memories × ℕ). x .0 .area) e);
-  number = D .number ∙ sym (ap (λ (x : Memories × ℕ). x .1) e);
+  answer = D .answer ∙ sym (ap (λ (x : Memories × ℕ). x .1) e);
 }
 
 -- ---- a start
@@ -61,7 +61,7 @@ module _ (tasks regions : ℕ) (c a : List ℕ) where
       let x : Memories × ℕ = (s, 2) in
       does-as {f = λ s. (s, 2)} c a c a 2
       (ap (λ (b : Bool). cond b x (lending (Call.start tasks) (4096 * regions) s)) (lt-ltb 4 regions h))
-      (record { control-is = refl; area-is = refl; number = refl })
+      (record { control-is = refl; area-is = refl; answer = refl })
 
   pub start-does : (c′ : List ℕ) (k r : ℕ) → Ensures (Call.start tasks) c (midOf 0 k a) c′ (midOf 0 k a) r → regions ≤ 4
       → k ≡ 4096 * regions → Does (onBytes (start tasks regions)) c a c′ a r

@@ -2,6 +2,8 @@
 pub mod Reading
 pub mod Lending
 pub mod Running
+pub mod Showing
+pub mod Values
 pub mod Counting
 pub mod Parts
 pub mod Fed

@@ -27,13 +27,13 @@ module _ {t most : ℕ} {c₀ a₀ : List ℕ} {left answer : ℕ} {c a : List �
       record {
         control-is = sym (ap (λ (x : Memories × ℕ). x .0 .control) p);
         area-is = sym (ap (λ (x : Memories × ℕ). x .0 .area) p);
-        number = sym (ap (λ (x : Memories × ℕ). x .1) p);
+        answer = sym (ap (λ (x : Memories × ℕ). x .1) p);
       }
 
   module _ {c′ a′ : List ℕ} {r : ℕ} (h : 1 ≤ left) (D : Does (onBytes (step t)) c a c′ a′ r) where
     -- the step, by what the function ensures
     stepped : onBytes (step t) (record { control = c; area = a }) ≡ (record { control = c′; area = a′ }, r)
-    stepped = sym (λ i. (record { control = D .control-is i; area = D .area-is i }, D .number i))
+    stepped = sym (λ i. (record { control = D .control-is i; area = D .area-is i }, D .answer i))
 
     -- what is left to run, by the answer of the step
     turn : runs onBytes answer t left (record { control = c; area = a })

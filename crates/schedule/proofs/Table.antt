@@ -21,9 +21,10 @@ use Rattle.stepped.proofs.Ways.{branch}
 use Rattle.schedule.specs.declared.record.Record.{Record}
 use Rattle.schedule.specs.declared.record.Record.the-variants.{Start, Allocate, Free, Step, Run, Bad}
 use Rattle.schedule.specs.declared.tally.Tally.{Tally}
+use Rattle.schedule.specs.declared.treat.Line.{Line}
 use Rattle.schedule.specs.Records.{wideOf, recordAt, endOf}
 use Rattle.schedule.specs.Tally.{none, counted}
-use Rattle.schedule.specs.Stand.{Request, start, allocate, free, step, Line, runs, treated, table}
+use Rattle.schedule.specs.Stand.{Request, start, allocate, free, step, runs, treated, table}
 use Rattle.schedule.specs.Bytes.{zeros, onBytes}
 use Rattle.schedule.specs.Plain.{onPlain}
 use Rattle.schedule.proofs.Beside.{Beside, later, Same, same-allocate, same-free, same-step}

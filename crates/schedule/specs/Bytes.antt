@@ -42,7 +42,7 @@ onBytes (free t u) s = lending (Call.free t u) (4096 * lentRegions (seen (s .con
 onBytes (step t) s = lending (Call.step t) (4096 * lentRegions (seen (s .control))) s
 
 -- What a function ensures that does f: the answer and every byte of the two memories are those of f.
-pub record Does (f : Memories → Memories × ℕ) (control area control′ area′ : List ℕ) (r : ℕ) : Type 0 where
+pub record Does {A : Type 0} (f : Memories → Memories × A) (control area control′ area′ : List ℕ) (r : A) : Type 0 where
   pub control-is : control′ ≡ f (record { control = control; area = area }) .0 .control
   pub area-is : area′ ≡ f (record { control = control; area = area }) .0 .area
-  pub number : r ≡ f (record { control = control; area = area }) .1
+  pub answer : r ≡ f (record { control = control; area = area }) .1

@@ -6,6 +6,7 @@ use mathlib.Core.List.{List}
 use lib.Dec.{eqb, leb}
 use lib.ListN.{length, getD}
 use Rattle.fields.specs.Little.{getLE}
+use Rattle.schedule.specs.declared.record.Entry.{Entry}
 use Rattle.schedule.specs.declared.record.Record.{Record}
 use Rattle.schedule.specs.declared.record.Record.the-variants.{Start, Allocate, Free, Step, Run, Bad}
 
@@ -26,6 +27,10 @@ recordAt input at =
     (cond (leb 4 left) (wideOf kind (getD input (at + 1) 0) (getLE input (at + 2) 2)) Bad)))
     Bad)
     Bad
+
+-- the same with what its line repeats: "record from 0, kind byte"
+abbrev pub entryAt : List ℕ → ℕ → ℕ → Entry
+entryAt input at n = record { number = n; kind = getD input at 0; body = recordAt input at }
 
 -- where the next record begins; "After 15 it stops"
 abbrev pub endOf : Record → ℕ → ℕ → ℕ

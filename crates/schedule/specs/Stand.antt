@@ -4,11 +4,13 @@ use Prim.Native.Nat.{ℕ, zero, suc, _+_, _/_, _%_}
 use mathlib.Core.Bool.{cond}
 use mathlib.Core.List.{List, [], _∷_}
 use lib.Dec.{eqb, ltb}
-use lib.ListN.{length, getD}
+use lib.ListN.{length}
+use Rattle.schedule.specs.declared.record.Entry.{Entry}
 use Rattle.schedule.specs.declared.record.Record.{Record}
 use Rattle.schedule.specs.declared.record.Record.the-variants.{Start, Allocate, Free, Step, Run, Bad}
 use Rattle.schedule.specs.declared.tally.Tally.{Tally}
-use Rattle.schedule.specs.Records.{recordAt, endOf}
+use Rattle.schedule.specs.declared.treat.Line.{Line}
+use Rattle.schedule.specs.Records.{recordAt, entryAt, endOf}
 use Rattle.schedule.specs.Tally.{counted}
 
 -- what the stand asks of a pool
@@ -17,13 +19,6 @@ pub data Request : Type 0 where
   allocate : (task size : ℕ) → Request
   free : (task unit : ℕ) → Request
   step : (task : ℕ) → Request
-
--- "each line, in decimal: record from 0, kind byte, code, value"
-pub record Line : Type 0 where
-  pub number : ℕ
-  pub kind : ℕ
-  pub code : ℕ
-  pub value : ℕ
 
 -- a pool: its state, and what a request makes of it, with the answer: the code, and 256 times the value
 module _ {S : Type 0} (call : Request → S → S × ℕ) where
@@ -42,13 +37,16 @@ module _ {S : Type 0} (call : Request → S → S × ℕ) where
   treated (Run t most) s = runs 0 t most s
   treated Bad s = (s, 15)
 
+  -- "each line, in decimal: record from 0, kind byte, code, value": what a record does, and its line
+  abbrev pub shown : Entry → S → S × Line
+  shown e s =
+      let x = treated (e .body) s in
+      (x .0, record { number = e .number; kind = e .kind; code = x .1 % 256; value = x .1 / 256 })
+
   -- the lines from the record at the byte `at` on, which is the record n, and the tally at the end; no more than f records
   unfoldable pub table : ℕ → List ℕ → ℕ → ℕ → Tally → S → List Line × Tally
   table zero input at n y s = ([], y)
   table (suc f) input at n y s =
-      let x = treated (recordAt input at) s in
-      let code = x .1 % 256 in
-      let rest = table f input (endOf (recordAt input at) at (length input)) (n + 1) (counted y code) (x .0) in
-      cond (ltb at (length input))
-      (record { number = n; kind = getD input at 0; code = code; value = x .1 / 256 } ∷ rest .0, rest .1)
-      ([], y)
+      let x = shown (entryAt input at n) s in
+      let rest = table f input (endOf (recordAt input at) at (length input)) (n + 1) (counted y (x .1 .code)) (x .0) in
+      cond (ltb at (length input)) (x .1 ∷ rest .0, rest .1) ([], y)

@@ -4,7 +4,7 @@ ghost use Prim.Native.Nat.{_+_, _≤_, _<_};
 ghost use lib.ListN.{length};
 ghost use lib.ListN.{getD};
 ghost use Rattle.fields.specs.Little.{getLE};
-ghost use Rattle.schedule.specs.Records.{wideOf, recordAt, endOf};
+ghost use Rattle.schedule.specs.Records.{wideOf, recordAt, entryAt, endOf};
 
 pub enum Record {
     // Tasks and regions.
@@ -19,6 +19,13 @@ pub enum Record {
     Run(u8, u16),
     // An unknown kind, or a record that the end of the input cuts short.
     Bad,
+}
+
+// A record with what its line repeats: its number, from 0, and its kind byte.
+pub struct Entry {
+    pub number: u64,
+    pub kind: u8,
+    pub body: Record,
 }
 
 // A record whose body is a task and a number in two bytes. Caller: `read`, which has tested that the input has them.
@@ -66,6 +73,19 @@ pub fn read(input: &[u8], at: usize) -> Record
         return Record::Bad;
     }
     wide(input, at, kind)
+}
+
+// The record that begins at a byte of the input, and is the one of this number.
+pub fn numbered(input: &[u8], at: usize, number: u64) -> Entry
+    requires { ⌜ (at < length (now input)) × (length (now input) ≤ 65536) ⌝ }
+    ensures { λ r. ⌜ r ≡ entryAt (now (input .entry)) at number ⌝ }
+{
+    let body = read(input, at);
+    Entry {
+        number: number,
+        kind: input[at],
+        body: body,
+    }
 }
 
 // Where the next record begins; a bad one ends the schedule, whose length is `end`.

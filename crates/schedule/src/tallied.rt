@@ -1,12 +1,12 @@
 // The tally, lent to whoever treats a record.
-use crate::record::Record;
+use crate::record::Entry;
 use crate::tally;
 use crate::tally::Tally;
 use crate::treat;
+use crate::treat::Line;
 ghost use mathlib.Core.Path.{_≡_};
-ghost use Prim.Native.Nat.{_%_};
 ghost use Rattle.schedule.specs.Tally.{counted};
-ghost use Rattle.schedule.specs.Stand.{treated};
+ghost use Rattle.schedule.specs.Stand.{shown};
 ghost use Rattle.schedule.specs.Bytes.{onBytes, Does, Kept};
 
 // The tally that is lent counts one more record of this code.
@@ -16,31 +16,32 @@ pub fn count_in(tally: &mut Tally, code: u64)
     *tally = tally::count(*tally, code);
 }
 
-// The treatment of a record, which is handed the tally and counts the record in it by its code.
-pub fn treat_counted(control: &mut [u8], area: &mut [u8], entry: Record, tally: &mut Tally) -> u64
+// The treatment of a record, which is handed the tally and counts the record in it by its code: its line, the two memories
+// and the tally afterwards.
+pub fn treat_counted(control: &mut [u8], area: &mut [u8], entry: Entry, tally: &mut Tally) -> Line
     requires { ⌜ Kept (now control) (now area) ⌝ }
-    ensures { λ r. ⌜ Does (treated onBytes entry) (now (control .entry)) (now (area .entry)) (now (control .exit)) (now (area .exit)) r × (now (tally .exit) ≡ counted (now (tally .entry)) (r % 256)) ⌝ }
+    ensures { λ r. ⌜ Does (shown onBytes entry) (now (control .entry)) (now (area .entry)) (now (control .exit)) (now (area .exit)) r × (now (tally .exit) ≡ counted (now (tally .entry)) (r .code)) ⌝ }
 {
-    let answer = treat::treat(control, area, entry);
-    count_in(tally, answer % 256);
-    answer
+    let line = treat::show(control, area, entry);
+    count_in(tally, line.code);
+    line
 }
 
-// What the treatment of a record gives a caller that keeps the tally by value: the answer, and the tally with the record counted.
+// What the treatment of a record gives a caller that keeps the tally by value: the line, and the tally with the record counted.
 pub struct Treated {
-    pub number: u64,
+    pub line: Line,
     pub tally: Tally,
 }
 
 // The treatment of a record with a tally by value: a copy of it is lent to the treatment, and returned.
-pub fn treat_with(control: &mut [u8], area: &mut [u8], entry: Record, tally: Tally) -> Treated
+pub fn treat_with(control: &mut [u8], area: &mut [u8], entry: Entry, tally: Tally) -> Treated
     requires { ⌜ Kept (now control) (now area) ⌝ }
-    ensures { λ r. ⌜ Does (treated onBytes entry) (now (control .entry)) (now (area .entry)) (now (control .exit)) (now (area .exit)) (r .number) × (r .tally ≡ counted tally (r .number % 256)) ⌝ }
+    ensures { λ r. ⌜ Does (shown onBytes entry) (now (control .entry)) (now (area .entry)) (now (control .exit)) (now (area .exit)) (r .line) × (r .tally ≡ counted tally (r .line .code)) ⌝ }
 {
     let mut lent = tally;
-    let number = treat_counted(control, area, entry, &mut lent);
+    let line = treat_counted(control, area, entry, &mut lent);
     Treated {
-        number: number,
+        line: line,
         tally: lent,
     }
 }

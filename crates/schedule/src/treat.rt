@@ -1,8 +1,17 @@
 // The treatment of a record.
 use crate::lend;
+use crate::record::Entry;
 use crate::record::Record;
-ghost use Rattle.schedule.specs.Stand.{runs, treated};
+ghost use Rattle.schedule.specs.Stand.{runs, treated, shown};
 ghost use Rattle.schedule.specs.Bytes.{onBytes, Does, Kept};
+
+// A line of the table: "record from 0, kind byte, code, value".
+pub struct Line {
+    pub number: u64,
+    pub kind: u8,
+    pub code: u64,
+    pub value: u64,
+}
 
 // "5 run .. stops at a finish, an end or a refusal (most 0: code 0, no call made)". It answers as the last call.
 fn run(control: &mut [u8], area: &mut [u8], task: u8, most: u16) -> u64
@@ -34,5 +43,20 @@ pub fn treat(control: &mut [u8], area: &mut [u8], entry: Record) -> u64
         Record::Step(task) => lend::step(control, area, task),
         Record::Run(task, most) => run(control, area, task, most),
         Record::Bad => 15,
+    }
+}
+
+// What a record does to the two memories, and its line.
+pub fn show(control: &mut [u8], area: &mut [u8], entry: Entry) -> Line
+    requires { ⌜ Kept (now control) (now area) ⌝ }
+    ensures { λ r. ⌜ Does (shown onBytes entry) (now (control .entry)) (now (area .entry)) (now (control .exit)) (now (area .exit)) r ⌝ }
+{
+    let body = entry.body;
+    let answer = treat(control, area, body);
+    Line {
+        number: entry.number,
+        kind: entry.kind,
+        code: answer % 256,
+        value: answer / 256,
     }
 }

@@ -1,22 +1,25 @@
 -- The records treated one after the other: what is written and what is still ahead make up the whole output.
 -- Assumes nothing.
-use Prim.Native.Nat.{ℕ, zero, suc, _+_, _*_, _-_, _/_, _%_, _≤_, _<_}
+use Prim.Native.Nat.{ℕ, zero, suc, _+_, _*_, _-_, _^_, _≤_, _<_}
 use mathlib.Core.Path.{_≡_, refl, sym, ap, _∙_}
 use mathlib.Core.List.{List, _++_, append-assoc}
 use native.Mathlib.Omega.{arith}
 use borrow.Author.Tests.{lt-ltb, le-ltb}
-use lib.ListN.{length, take, getD}
+use lib.ListN.{length, take}
 use lib.Seq.{length-take-le}
 use Rattle.stepped.specs.Events.{Memories}
+use Rattle.schedule.specs.declared.record.Entry.{Entry}
 use Rattle.schedule.specs.declared.record.Record.{Record}
 use Rattle.schedule.specs.declared.record.Record.the-variants.{Start, Allocate, Free, Step, Run, Bad}
 use Rattle.schedule.specs.declared.tally.Tally.{Tally}
-use Rattle.schedule.specs.Records.{recordAt, endOf}
+use Rattle.schedule.specs.declared.treat.Line.{Line}
+use Rattle.schedule.specs.Records.{recordAt, entryAt, endOf}
 use Rattle.schedule.specs.Tally.{none, counted}
-use Rattle.schedule.specs.Stand.{treated, table}
+use Rattle.schedule.specs.Stand.{shown, table}
 use Rattle.schedule.specs.Bytes.{onBytes, Does}
 use Rattle.text.specs.Numbers.{Appended}
 use Rattle.text.specs.Lines.{columnsText, lineText, totalText}
+use Rattle.text.proofs.Digits.{short-line}
 use Rattle.stand.specs.Output.{rowsText, tableText, output}
 
 -- the next record begins at least one byte further
@@ -27,6 +30,10 @@ further (Free a b) at end h = omega arith
 further (Step a) at end h = omega arith
 further (Run a b) at end h = omega arith
 further Bad at end h = h
+
+-- the text of a line
+abbrev textOf : Line → List ℕ
+textOf l = lineText (l .number) (l .kind) (l .code) (l .value)
 
 -- the text of the last line
 abbrev lastText : Tally → List ℕ
@@ -45,10 +52,9 @@ module _ (input : List ℕ) where
 
   -- the line of the record at the byte `at`, and what is ahead once it is treated and counted
   treats : (f at n : ℕ) (y : Tally) (s : Memories) → at < length input →
-      let r = recordAt input at in
-      let x = treated onBytes r s in
+      let x = shown onBytes (entryAt input at n) s in
       ahead (suc f) at n y s
-      ≡ lineText n (getD input at 0) (x .1 % 256) (x .1 / 256) ++ ahead f (endOf r at (length input)) (n + 1) (counted y (x .1 % 256)) (x .0)
+      ≡ textOf (x .1) ++ ahead f (endOf (recordAt input at) at (length input)) (n + 1) (counted y (x .1 .code)) (x .0)
   unfolding table rowsText
   treats f at n y s h = rw (lt-ltb at (length input) h) refl
 
@@ -59,7 +65,7 @@ module _ (input : List ℕ) where
     pub enough : length input - at ≤ fuel
     pub few : n ≤ at
     pub most : n ≤ length input
-    pub room : used ≤ 23 + 32 * n
+    pub room : used ≤ 23 + 35 * n
     pub said : output input s₀ ≡ take used out ++ ahead fuel at n y s
 
   -- the column names are written
@@ -75,35 +81,43 @@ module _ (input : List ℕ) where
     said = rw (e, w .text-is) refl;
   }
 
+  -- the line of one of the first 100,000 records is short
+  pub short : (at n : ℕ) {e : Entry} → e ≡ entryAt input at n → n < 10 ^ 5
+      → {control area control′ area′ : List ℕ} {line : Line} → Does (shown onBytes e) control area control′ area′ line
+      → line .kind < 256 → line .value < 2 ^ 64 → length (textOf line) ≤ 35
+  short at n {e} is few {line = line} D kind value =
+      short-line (line .number) (line .kind) (line .code) (line .value)
+      (omega (arith, ap (λ (l : Line). l .number) (D .answer), ap (λ (x : Entry). x .number) is, few))
+      (omega (arith, kind))
+      (omega (arith, ap (λ (l : Line). l .code) (D .answer)))
+      (omega (arith, value))
+
   -- a line more is written
   module _ {s₀ s : Memories} {used at n : ℕ} {y : Tally} {out : List ℕ} (A : Ahead s₀ used at n y s out) (h : at < length input) where
-    pub goes-on : {r : Record} → r ≡ recordAt input at
-        → {control area : List ℕ} {answer : ℕ} → Does (treated onBytes r) (s .control) (s .area) control area answer
-        → {out′ : List ℕ} {used′ : ℕ} → (let line = lineText n (getD input at 0) (answer % 256) (answer / 256) in
-        Appended out out′ used line used′ × (length line ≤ 32))
-        → {next : ℕ} {z : Tally} → z ≡ counted y (answer % 256) → next ≡ endOf r at (length input)
+    pub goes-on : {e : Entry} → e ≡ entryAt input at n
+        → {control area : List ℕ} {line : Line} → Does (shown onBytes e) (s .control) (s .area) control area line
+        → {out′ : List ℕ} {used′ : ℕ} → Appended out out′ used (textOf line) used′ × (length (textOf line) ≤ 35)
+        → {next : ℕ} {z : Tally} → z ≡ counted y (line .code) → next ≡ endOf (e .body) at (length input)
         → Ahead s₀ used′ next (n + 1) z (record { control = control; area = area }) out′
-    goes-on {r} e {control} {area} {answer} D {out′} {used′} w {next} {z} counts end = by (A .fuel) (A .enough) (A .said)
+    goes-on {e} is {control} {area} {line} D {out′} {used′} w {next} {z} counts end = by (A .fuel) (A .enough) (A .said)
       where
         by : (f : ℕ) → length input - at ≤ f → output input s₀ ≡ take used out ++ ahead f at n y s
             → Ahead s₀ used′ next (n + 1) z (record { control = control; area = area }) out′
         by zero l q = absurd (omega arith)
         by (suc f) l q = record {
           fuel = f;
-          enough = omega (arith, further r at (length input) h);
-          few = omega (arith, further r at (length input) h, A .few);
+          enough = omega (arith, further (e .body) at (length input) h);
+          few = omega (arith, further (e .body) at (length input) h, A .few);
           most = omega (arith, A .few);
           room = omega (arith, A .room, w .0 .end, w .1);
           said =
-              let entry = recordAt input at in
-              let x = treated onBytes entry s in
-              let line = lineText n (getD input at 0) (x .1 % 256) (x .1 / 256) in
-              let rest = ahead f (endOf entry at (length input)) (n + 1) (counted y (x .1 % 256)) (x .0) in
-              rw (end, counts, D .number, D .control-is, D .area-is, e)
+              let x = shown onBytes (entryAt input at n) s in
+              let rest = ahead f (endOf (recordAt input at) at (length input)) (n + 1) (counted y (x .1 .code)) (x .0) in
+              rw (end, counts, D .answer, D .control-is, D .area-is, is)
               (q
               ∙ ap (λ (t : List ℕ). take used out ++ t) (treats f at n y s h)
-              ∙ sym (append-assoc (take used out) line rest)
-              ∙ ap (λ (t : List ℕ). t ++ rest) (sym (rw (D .number, e) at (w .0 .text-is))));
+              ∙ sym (append-assoc (take used out) (textOf (x .1)) rest)
+              ∙ ap (λ (t : List ℕ). t ++ rest) (sym (rw (D .answer, is) at (w .0 .text-is))));
         }
 
   -- the last line is written

@@ -6,8 +6,9 @@ use lib.ListN.{length}
 use Rattle.plain.specs.Calls.{unstarted}
 use Rattle.stepped.specs.Events.{Memories}
 use Rattle.schedule.specs.declared.tally.Tally.{Tally}
+use Rattle.schedule.specs.declared.treat.Line.{Line}
 use Rattle.schedule.specs.Tally.{none}
-use Rattle.schedule.specs.Stand.{Line, table}
+use Rattle.schedule.specs.Stand.{table}
 use Rattle.schedule.specs.Bytes.{onBytes}
 use Rattle.schedule.specs.Plain.{onPlain}
 use Rattle.text.specs.Lines.{columnsText, lineText, totalText}

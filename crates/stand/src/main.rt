@@ -11,15 +11,15 @@ ghost use Rattle.text.specs.Numbers.{Appended};
 ghost use Rattle.stand.specs.Output.{plainOutput};
 
 // Zeros for the table of the longest input.
-fn room() -> [u8; 2097280]
-    ensures { λ r. ⌜ 2097280 ≡ length r ⌝ }
+fn room() -> [u8; 2293888]
+    ensures { λ r. ⌜ 2293888 ≡ length r ⌝ }
 {
-    [0; 2097280]
+    [0; 2293888]
 }
 
 // Plays the schedule on two memories that are zero at first, and puts its table at the start of `out`.
 fn play(input: &[u8], out: &mut [u8]) -> usize
-    requires { ⌜ (length (now input) ≤ 65536) × (2097280 ≤ length (now out)) ⌝ }
+    requires { ⌜ (length (now input) ≤ 65536) × (2293888 ≤ length (now out)) ⌝ }
     ensures { λ r. ⌜ Appended (now (out .entry)) (now (out .exit)) 0 (plainOutput (now (input .entry))) r ⌝ }
 {
     let mut control = [0u8; 8192];

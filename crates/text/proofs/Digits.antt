@@ -51,9 +51,9 @@ short (suc f) k n h = elim (decLt n 10) [
 pub twenty : (n : ℕ) → n < 2 ^ 64 → length (decimal n) ≤ 20
 twenty n h = short (suc n) 19 n (omega arith)
 
--- the line of a record of the stand has at most 32 bytes: its four numbers have 5, 3, 3 and 17 digits at most
-pub short-line : (number kind code value : ℕ) → number < 10 ^ 5 → kind < 10 ^ 3 → code < 10 ^ 3 → value < 10 ^ 17
-    → length (lineText number kind code value) ≤ 32
+-- the line of a record of the stand has at most 35 bytes: its four numbers have 5, 3, 3 and 20 digits at most
+pub short-line : (number kind code value : ℕ) → number < 10 ^ 5 → kind < 10 ^ 3 → code < 10 ^ 3 → value < 10 ^ 20
+    → length (lineText number kind code value) ≤ 35
 unfolding lineText
 short-line number kind code value a b c d =
     simp length-append
@@ -62,5 +62,5 @@ short-line number kind code value a b c d =
       short (suc number) 4 number a,
       short (suc kind) 2 kind b,
       short (suc code) 2 code c,
-      short (suc value) 16 value d,
+      short (suc value) 19 value d,
     ))

@@ -6,7 +6,7 @@ use Rattle.stand.proofs.room.Statement.{statement}
 use Rattle.stand.proofs.room.Tie as tie
 
 returns : tie.Need-returns
-returns c = sym (length-replicate {A = ℕ} 2097280 0)
+returns c = sym (length-replicate {A = ℕ} 2293888 0)
 
 pub room-spec : {M : Type 1} → statement M
 room-spec = tie.close (tie.spec returns)

@@ -1,13 +1,12 @@
 -- At the head of the loop what is written and what is still ahead make up the whole output. Assumes nothing.
-use Prim.Native.Nat.{_-_, _/_, _%_, _≤_}
+use Prim.Native.Nat.{_-_, _≤_}
 use mathlib.Core.Path.{_≡_, refl, _∙_}
 use native.Mathlib.Omega.{arith}
-use lib.ListN.{length, getD}
+use lib.ListN.{length}
 use borrow.Author.Needs.{needs}
 use borrow.Rule.Slice.PartMut.{mid-len}
-use Rattle.text.proofs.Digits.{short-line}
 use Rattle.text.proofs.Writing.{at-part}
-use Rattle.stand.proofs.Playing.{Ahead, begins, goes-on, ends, further}
+use Rattle.stand.proofs.Playing.{Ahead, begins, short, goes-on, ends, further}
 use Rattle.stand.proofs.table.write.Statement.{statement}
 use Rattle.stand.proofs.table.write.Tie as tie
 
@@ -28,8 +27,8 @@ empty-requires c κs = tt
 loop-holds : tie.Need-loop-holds Inv-loop μ-loop
 loop-holds c = (begins _ _ (c .before .before .before .columns .ensures) (c .empty .ensures), refl, refl, refl)
 
-read-requires : tie.Need-read-requires Inv-loop μ-loop
-read-requires c κs = search needs
+numbered-requires : tie.Need-numbered-requires Inv-loop μ-loop
+numbered-requires c κs = search needs
 
 treat-with-requires : tie.Need-treat-with-requires Inv-loop μ-loop
 treat-with-requires c κs =
@@ -38,59 +37,63 @@ treat-with-requires c κs =
     record { control-is = at-loop .loop .inv .1 ∙ K .control-is; area-is = at-loop .loop .inv .2 ∙ K .area-is }
 
 sub-line : tie.Need-sub-line Inv-loop μ-loop
-sub-line c = omega arith
+sub-line c =
+    let at-loop = c .before .before .before .before .before .before .before .before .before .before in
+    let begun = at-loop .before .before .before .before in
+    let inv = at-loop .loop .inv in
+    omega (arith, inv .0 .room, inv .0 .most, inv .3, begun .columns .ensures .same-length, begun .before .before .before .before .before .before .pre)
 
 part-line-start : tie.Need-part-line-start Inv-loop μ-loop
-part-line-start c = omega arith
+part-line-start c =
+    let at-loop = c .before .before .before .before .before .before .before .before .before .before in
+    let begun = at-loop .before .before .before .before in
+    let inv = at-loop .loop .inv in
+    omega (arith, inv .0 .room, inv .0 .most, inv .3, begun .columns .ensures .same-length, begun .before .before .before .before .before .before .pre)
 
 part-line-end : tie.Need-part-line-end Inv-loop μ-loop
 part-line-end c = omega arith
 
-shared-slice-read-line : tie.Need-shared-slice-read-line Inv-loop μ-loop
-shared-slice-read-line c = omega arith
-
 cast-line : tie.Need-cast-line Inv-loop μ-loop
-cast-line c =
-    let at-loop = c .before .before .before .before .before .before .before .before .before .before .before .before .before in
-    omega (arith, c .shared-slice-known2 .given (at-loop .loop .at))
+cast-line c = search needs
 
 line-requires : tie.Need-line-requires Inv-loop μ-loop
 line-requires c κs =
-    let at-loop = c .before .before .before .before .before .before .before .before .before .before .before .before .before in
+    let at-loop = c .before .before .before .before .before .before .before .before .before .before .before .before in
     omega (arith, mid-len (at-loop .loop .used) (length (at-loop .loop .out)) (at-loop .loop .out) (omega arith))
 
 add-used : tie.Need-add-used Inv-loop μ-loop
 add-used c =
-    let at-loop = c .before .before .before .before .before .before .before .before .before .before .before .before .before .before .before .before in
-    let begun = at-loop .before .before .before .before in
-    let start = begun .before .before .before .before .before .before in
+    let treated = c .before .before .before .before .before .before .before .before .before .before in
+    let read = treated .before .before .before in
+    let at-loop = read .before .before in
+    let start = at-loop .before .before .before .before .before .before .before .before .before .before in
     let inv = at-loop .loop .inv in
-    let answer = c .before .before .before .before .before .before .before .before .before .before .before .treat-with in
-    let byte = c .before .before .before .shared-slice-known2 .given (at-loop .loop .at) in
-    let short =
-    short-line (at-loop .loop .number) (getD (start .args .input .now) (at-loop .loop .at) 0) (answer .result .number % 256) (answer .result .number / 256)
-    (omega (arith, inv .0 .few, start .pre)) (omega (arith, byte)) (omega arith) (omega (arith, answer .ok)) in
-    omega (arith, short, c .before .before .line .ensures .end, inv .0 .room, inv .0 .most, start .pre)
+    let short-is =
+    short (start .args .input .now) (at-loop .loop .at) (at-loop .loop .number) (read .numbered .ensures) (omega (arith, inv .0 .few, start .pre)) (treated .treat-with .ensures .0)
+    (omega (arith, treated .treat-with .ok)) (omega (arith, treated .treat-with .ok)) in
+    omega (arith, short-is, c .before .before .line2 .ensures .end, inv .0 .room, inv .0 .most, start .pre)
 
 end-requires : tie.Need-end-requires Inv-loop μ-loop
-end-requires c κs = omega (arith, c .before .before .before .before .before .before .before .before .before .before .before .before .before .before .before .before .loop-test .taken, c .before .before .before .before .before .before .before .before .before .before .before .before .before .before .before .before .before .before .before .before .before .before .before .before .before .before .before .pre .1)
+end-requires c κs =
+    let at-test = c .before .before .before .before .before .before .before .before .before .before .before .before .before .before .before in
+    omega (arith, at-test .loop-test .taken, at-test .before .before .before .before .before .before .before .before .before .before .before .pre .1)
 
 add-number : tie.Need-add-number Inv-loop μ-loop
 add-number c =
-    let at-loop = c .before .before .before .before .before .before .before .before .before .before .before .before .before .before .before .before .before .before in
-    omega (arith, at-loop .loop .inv .0 .few, at-loop .before .before .before .before .before .before .before .before .before .before .pre .1, c .before .before .before .before .before .before .before .before .before .before .before .before .before .before .before .before .before .loop-test .taken)
+    let at-loop = c .before .before .before .before .before .before .before .before .before .before .before .before .before .before .before .before .before in
+    omega (arith, at-loop .loop .inv .0 .few, at-loop .before .before .before .before .before .before .before .before .before .before .pre .1, c .before .before .before .before .before .before .before .before .before .before .before .before .before .before .before .before .loop-test .taken)
 
 loop-less : tie.Need-loop-less Inv-loop μ-loop
 loop-less c =
-    let read = c .before .before .before .before .before .before .before .before .before .before .before .before .before .before .before .before in
+    let read = c .before .before .before .before .before .before .before .before .before .before .before .before .before .before .before in
     let at-loop = read .before .before in
     let input = at-loop .before .before .before .before .before .before .before .before .before .before .args .input .now in
-    omega (arith, c .end .ensures, further (read .read .result) (at-loop .loop .at) (length input) (omega arith))
+    omega (arith, c .end .ensures, further (read .numbered .result .body) (at-loop .loop .at) (length input) (omega arith))
 
 loop-again : tie.Need-loop-again Inv-loop μ-loop
 loop-again c =
     let line = c .before .before .before .before in
-    let treated = line .before .before .before .before .before .before .before .before .before in
+    let treated = line .before .before .before .before .before .before .before .before in
     let read = treated .before .before .before in
     let at-loop = read .before .before in
     let begun = at-loop .before .before .before .before in
@@ -99,17 +102,15 @@ loop-again c =
     let inv = at-loop .loop .inv in
     let fits : at-loop .loop .used ≤ length (at-loop .loop .out) =
     omega (arith, inv .0 .room, inv .0 .most, inv .3, start .pre, begun .columns .ensures .same-length) in
-    let line-is = line .line in
+    let line-is = line .line2 in
     let written =
     at-part (at-loop .loop .out) (line-is .last .0) _ (at-loop .loop .used) (line-is .result) fits (line-is .ensures) in
-    let kind = getD input (at-loop .loop .at) 0 in
-    let byte = line .before .shared-slice-known2 .given (at-loop .loop .at) in
-    let answer = treated .treat-with .result .number in
-    let short =
-    short-line (at-loop .loop .number) kind (answer % 256) (answer / 256) (omega (arith, inv .0 .few, start .pre))
-    (omega (arith, byte)) (omega arith) (omega (arith, treated .treat-with .ok)) in
-    let entry = read .read .ensures in (
-      goes-on input (inv .0) (omega arith) entry (treated .treat-with .ensures .0) (written, short) (treated .treat-with .ensures .1) (c .end .ensures),
+    let entry = read .numbered .ensures in
+    let done = treated .treat-with .ensures in
+    let short-is =
+    short input (at-loop .loop .at) (at-loop .loop .number) entry (omega (arith, inv .0 .few, start .pre)) (done .0)
+    (omega (arith, treated .treat-with .ok)) (omega (arith, treated .treat-with .ok)) in (
+      goes-on input (inv .0) (omega arith) entry (done .0) (written, short-is) (done .1) (c .end .ensures),
       search (needs, inv .1),
       search (needs, inv .2),
       written .same-length ∙ inv .3,
@@ -169,12 +170,11 @@ write-spec =
     columns-requires
     empty-requires
     loop-holds
-    read-requires
+    numbered-requires
     treat-with-requires
     sub-line
     part-line-start
     part-line-end
-    shared-slice-read-line
     cast-line
     line-requires
     add-used
