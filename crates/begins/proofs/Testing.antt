@@ -1,12 +1,11 @@
 -- The tests 1, 4, 2, 5, one law for each way out. Assumes nothing.
-use mathlib.Core.Path.{_≡_, refl}
+use mathlib.Core.Path.{_≡_}
 use mathlib.Core.Logic.{_≢_}
 use Prim.Native.Nat.{ℕ, _*_, _≤_, _<_}
 use native.Mathlib.Omega.{arith}
 use borrow.Author.Tests.{eq-eqb, ne-eqb, le-leb, lt-leb, lt-ltb, le-ltb}
 use Rattle.fields.specs.Columns.{View}
 use Rattle.control.specs.Layout.{Tasks, Regions}
-use Rattle.stepped.specs.Outcome.{Outcome}
 use Rattle.stepped.specs.Calls.{tested}
 use Rattle.begins.specs.Tests.{TestsAre}
 

@@ -1,6 +1,6 @@
 -- The number of an answer is its code and 256 times its value. Assumes nothing.
 use mathlib.Core.Path.{_≡_, refl}
-use Prim.Native.Nat.{ℕ, _+_, _*_}
+use Prim.Native.Nat.{_+_, _*_}
 use native.Mathlib.Omega.{arith}
 use Rattle.control.specs.Answers.{codeOf, valueOf, numberOf}
 use Rattle.control.specs.declared.answer.Answer.{Answer}

@@ -1,7 +1,6 @@
 // The started numbers of tasks and regions. The callers are the tests of each call, and the start.
 ghost use mathlib.Core.Path.{_≡_};
 ghost use mathlib.Core.List.{[], _∷_};
-ghost use Prim.Native.Nat.{_<_};
 ghost use Rattle.fields.specs.Columns.{_:=_};
 ghost use Rattle.control.specs.Layout.{Control, seen, changed, Tasks, Regions};
 

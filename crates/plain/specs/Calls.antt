@@ -9,7 +9,7 @@ use Rattle.rows.specs.Branch.{if, both}
 use Rattle.classes.specs.Classes.{units, perRegion}
 use Rattle.classes.specs.Sizes.{classOf}
 use Rattle.classes.specs.Places.{regionOf, indexOf}
-use Rattle.plain.specs.State.{State, EMPTY, PARTIAL, FULL, Descriptor, Task, Mem, setTask, setHands, SPARES, REGIONS}
+use Rattle.plain.specs.State.{State, EMPTY, PARTIAL, FULL, Descriptor, Mem, setTask, setHands, SPARES, REGIONS}
 use Rattle.plain.specs.State.{Place, idle, a1, popping, pushing, a3-read, a3-exchange, a4, a7, a8, f1, f2, f3-read, f3-link, f3-exchange, f4-clear}
 use Rattle.plain.specs.Moves.{Answer, going, nothing, refused}
 use Rattle.plain.specs.Steps.{Result, step}

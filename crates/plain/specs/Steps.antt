@@ -13,7 +13,7 @@ use Rattle.classes.specs.Places.{unitOf, regionOf}
 use Rattle.plain.specs.State.{State, EMPTY, PARTIAL, FULL, numberOf, Descriptor, Note, Phase, read, next, exchange}
 use Rattle.plain.specs.State.{Pop, partial, spare, region, Push, retire, back, release, offer, SPARES, REGIONS}
 use Rattle.plain.specs.State.{Place, idle, a1, popping, pushing, a3-read, a3-exchange, a4, a7, a8, f1, f2, f3-read, f3-link, f3-exchange, f4-clear}
-use Rattle.plain.specs.State.{Task, Mem, setTask, setRow, setDescriptor, setMap, setHands}
+use Rattle.plain.specs.State.{Mem, setTask, setRow, setDescriptor, setMap, setHands}
 use Rattle.plain.specs.Moves.{Decided, nothing, found-empty, popped, pushed, lost, anchor-empty, took, gave, anchor-lost, Answer, going, finished, ended, refused}
 
 -- a step gives the pool after it and the answer

@@ -2,15 +2,13 @@
 use mathlib.Core.Path.{_≡_, refl, sym, ap, subst, _∙_}
 use mathlib.Core.Logic.{_≢_, _⊎_, inl, inr, ⊎-elim}
 use mathlib.Core.Bool.{Bool, true, false, cond, false≢true}
-use mathlib.Core.List.{List, [], _∷_}
-use Prim.Native.Nat.{ℕ, _*_, _<_}
+use mathlib.Core.List.{List}
+use Prim.Native.Nat.{ℕ, _<_}
 use native.Mathlib.Omega.{arith}
 use borrow.Author.Tests.{eq-eqb, ne-eqb, le-leb}
-use lib.Dec.{eqb}
 use lib.ListN.{length}
-use Rattle.links.specs.Link.{link}
 use Rattle.fields.specs.Columns.{View}
-use Rattle.control.specs.Layout.{Tasks, Regions, seen}
+use Rattle.control.specs.Layout.{Tasks, seen}
 use Rattle.control.specs.Answers.{codeOf, numberOf}
 use Rattle.control.specs.declared.answer.Answer.{Answer}
 use Rattle.control.specs.declared.answer.Answer.the-variants.{Accepted, Allocated, Freed, NoDescriptor, NoRegion, Refused}
@@ -18,11 +16,11 @@ use Rattle.stepped.specs.Outcome.{Outcome, refuse, Effect, effect}
 use Rattle.stepped.specs.Calls as Calls
 use Rattle.stepped.specs.Ends.{Begins, startRefusals, oneOf}
 use Rattle.stepped.specs.Events.{Memories, ran, stepped}
-use Rattle.stepped.proofs.Ways.{tests, accepted-no}
+use Rattle.stepped.proofs.Ways.{tests}
 use Rattle.stepped.proofs.Ends.{start-ends}
 use Rattle.stepped.proofs.Lent.{allocate-is, free-is, go-is, other-control, other-area, start-elsewhere}
 use Rattle.pool.specs.Call.{Call, start, allocate, free, step, effectOf, CallIs}
-use Rattle.pool.specs.Runs.{Act, own, other, write, Contract, OtherLength, Happens, afterOther, after, eventOf, event, Number, Answered}
+use Rattle.pool.specs.Runs.{Act, own, other, write, Contract, OtherLength, Happens, after, eventOf, event, Number, Answered}
 use Rattle.pool.proofs.Numbers.{code-small, told-as}
 
 -- the stepped run at the event of an act: the memories and the number are the act's

@@ -2,23 +2,22 @@
 use mathlib.Core.Path.{_≡_, refl, sym, ap, subst, _∙_}
 use mathlib.Core.Logic.{_≢_}
 use mathlib.Core.Bool.{Bool, cond}
-use mathlib.Core.List.{List, []}
+use mathlib.Core.List.{List}
 use Prim.Native.Nat.{ℕ, _*_, _≤_, _<_}
 use native.Mathlib.Omega.{arith}
 use borrow.Author.Tests.{eq-eqb, ne-eqb}
 use lib.ListN.{length}
 use Rattle.fields.specs.Columns.{View}
-use Rattle.links.specs.Link.{link, LinkWrite, linked}
+use Rattle.links.specs.Link.{link}
 use Rattle.control.specs.Layout.{Regions, seen}
 use Rattle.control.specs.Answers.{numberOf}
 use Rattle.control.specs.declared.answer.Answer.{Answer}
 use Rattle.stepped.specs.Outcome.{Outcome, refuse, effect}
 use Rattle.stepped.specs.Steps.{step}
 use Rattle.stepped.specs.Calls.{tested, whenIdle, beginAllocate, beginFree, allocateOutcome, freeOutcome, stepOutcome, allocate, free, go}
-use Rattle.stepped.specs.Ends.{Tested}
 use Rattle.stepped.specs.Done.{Done, NumberIn}
 use Rattle.stepped.proofs.Doing.{lends, numbers}
-use Rattle.begins.specs.Tests.{unlessRefused, TestsAre}
+use Rattle.begins.specs.Tests.{TestsAre}
 use Rattle.pool.specs.Call.{CallIs}
 
 -- a call that the number r refuses

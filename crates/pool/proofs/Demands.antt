@@ -6,20 +6,18 @@ use mathlib.Core.Path.{_≡_, refl, sym, ap, subst, _∙_}
 use mathlib.Core.Logic.{_↔_, _⊎_, ⊎-elim, inl, inr}
 use mathlib.Core.Bool.{true, false≢true}
 use mathlib.Core.List.{List, [], _∷_}
-use Prim.Native.Nat.{ℕ, _%_, _≤_, _<_}
+use Prim.Native.Nat.{ℕ, _%_}
 use borrow.Author.Tests.{eq-eqb, le-leb}
 use lib.Dec.{ltb, eqb}
 use lib.ListN.{length}
-use Rattle.fields.specs.Columns.{View, _:=_}
+use Rattle.fields.specs.Columns.{View}
+use Rattle.fields.specs.Little.{Bytes}
 use Rattle.links.specs.Link.{link, linked}
-use Rattle.classes.specs.Classes.{block}
 use Rattle.classes.specs.Sizes.{classOf}
 use Rattle.plain.specs.Calls.{Pool, unstarted}
 use Rattle.plain.specs.Calls as Plain
 use Rattle.control.specs.Layout.{seen, changed, TaskPlace, TaskClass, Regions}
 use Rattle.control.specs.Answers.{numberOf}
-use Rattle.control.specs.declared.answer.Answer.{Answer}
-use Rattle.control.specs.declared.answer.Answer.the-variants.{Accepted, Refused}
 use Rattle.control.specs.declared.moves.Pop.the-variants.{Spare, Region}
 use Rattle.control.specs.declared.moves.Push.the-variants.{Back}
 use Rattle.stepped.specs.Steps.{stepAt}
@@ -31,11 +29,12 @@ use Rattle.stepped.specs.Events as Events
 use Rattle.stepped.specs.Agreement.{Unstarted, Agree, Agrees, Unchanged, Untouched}
 use Rattle.stepped.proofs.Ways.{tests, branch}
 use Rattle.stepped.proofs.Ends.{start-ends, allocate-ends, step-ends, allocate-leaves, free-leaves, go-leaves, smallest-class, no-descriptor, no-region, put-back}
+use Rattle.stepped.proofs.SoundSteps.{step-place}
 use Rattle.stepped.proofs.Theorem.{agreement, agreement-from-start}
-use Rattle.pool.specs.Call.{Call, start, allocate, free, step, effectOf, Refusal, Begun}
+use Rattle.pool.specs.Call.{Call, start, allocate, free, step, effectOf, Refusal, Ended, Begun}
 use Rattle.pool.specs.Tests.{firstFailed, startTests, allocateTests, freeTests, stepTests}
 use Rattle.pool.specs.Runs.{Act, own, other, write, Contract, Happens, Run, after, eventOf, event, events, Answered, OtherLeft, Tells, Told}
-use Rattle.pool.proofs.Numbers.{refused, accepted, ends-told}
+use Rattle.pool.proofs.Numbers.{refused, accepted, ends-told, end-told}
 use Rattle.pool.proofs.Failing.{start-first, allocate-first, free-first, step-first}
 use Rattle.pool.proofs.Acting.{Shows, shows}
 use Rattle.pool.proofs.Backing.{stays-back}
@@ -145,25 +144,40 @@ module _ (lent left : Memories) (r : ℕ) where
         let N = ends-told (o .answer) (step-ends control area (seen (lent .control)) (link (lent .area)) t .answers) in
         (λ h. E .0 (N .0 (sym answer-number ∙ h)), λ f. answer-number ∙ ap numberOf (E .1 f))
 
-    -- "and 'no region'": 13 is answered exactly where the task wins the push of its descriptor back on the spare list; and a task
-    -- that is not in that push comes to it, by the fields that its step writes, exactly where it reads the head of the list of spare
-    -- regions and finds it empty.
+    -- "and 'no region'": 13 is answered exactly where the task wins the push of its descriptor back on the spare list.
     pub thirteen : (r ≡ 13) ↔ (Tested control area (seen (lent .control)) t × WinsPush Back (seen (lent .control)) t)
     thirteen =
         let E = no-region control area (seen (lent .control)) (link (lent .area)) t in
         let N = ends-told (o .answer) (step-ends control area (seen (lent .control)) (link (lent .area)) t .answers) in
         (λ h. E .0 (N .1 (sym answer-number ∙ h)), λ f. answer-number ∙ ap numberOf (E .1 f))
 
-    pub to-thirteen : (InPush Back (seen (lent .control) (TaskPlace t)) → ⊥)
-        → InPush Back (placeAfter o (seen (lent .control)) t)
-        ↔ (Tested control area (seen (lent .control)) t × FindsEmpty Region (seen (lent .control)) t)
-    to-thirteen = put-back control area (seen (lent .control)) (link (lent .area)) t
+    -- what is lent are bytes, and so the control memory that is left tells where the step leads
+    module _ (bytes : Bytes (lent .control)) where
+      left-place : seen (left .control) (TaskPlace t) ≡ placeAfter o (seen (lent .control)) t
+      unfolding Calls.go
+      left-place = ap (λ (b : List ℕ). seen b (TaskPlace t)) (C .control-is) ∙ step-place area (link (lent .area)) t (lent .control) bytes
 
-    -- .. and a task that is in that push stays in it, by the fields that its step writes, until it answers 13
-    pub stays-thirteen : InPush Back (seen (lent .control) (TaskPlace t))
-        → (r ≡ 13) ⊎ InPush Back (placeAfter o (seen (lent .control)) t)
-    stays-thirteen here =
-        ⊎-elim (λ e. inl (answer-number ∙ ap numberOf e)) (λ i. inr i) (stays-back control area (seen (lent .control)) (link (lent .area)) t here)
+      -- A task that is not in the push back comes to it exactly where it reads the head of the list of spare regions and finds it
+      -- empty;
+      pub to-thirteen : (InPush Back (seen (lent .control) (TaskPlace t)) → ⊥)
+          → InPush Back (seen (left .control) (TaskPlace t))
+          ↔ (Tested control area (seen (lent .control)) t × FindsEmpty Region (seen (lent .control)) t)
+      to-thirteen out =
+          let B = put-back control area (seen (lent .control)) (link (lent .area)) t out in
+          (λ i. B .0 (subst (InPush Back) left-place i), λ f. subst (InPush Back) (sym left-place) (B .1 f))
+
+      -- and a task that is in it stays there until it answers 13.
+      pub stays-thirteen : InPush Back (seen (lent .control) (TaskPlace t))
+          → (r ≡ 13) ⊎ InPush Back (seen (left .control) (TaskPlace t))
+      stays-thirteen here =
+          ⊎-elim (λ e. inl (answer-number ∙ ap numberOf e)) (λ i. inr (subst (InPush Back) (sym left-place) i))
+          (stays-back control area (seen (lent .control)) (link (lent .area)) t here)
+
+      -- "12 and 13 .. are a request's end .. and leave the task idle", and so does a finish.
+      pub ends-idle : Ended r → seen (left .control) (TaskPlace t) ≡ 0
+      ends-idle h =
+          let E = step-ends control area (seen (lent .control)) (link (lent .area)) t in
+          left-place ∙ E .idle (end-told (o .answer) (E .answers) (subst Ended answer-number h))
 
 -- ---- demand 3
 

@@ -1,7 +1,7 @@
 -- The number that a call answers is that of the first of its tests that fails. Assumes nothing.
 use mathlib.Core.Path.{_≡_, refl}
 use mathlib.Core.Bool.{Bool, true, false, cond, not, _&&_}
-use mathlib.Core.List.{List, [], _∷_, _++_}
+use mathlib.Core.List.{List, _++_}
 use Prim.Native.Nat.{ℕ, _*_, _/_, _%_, _-_}
 use lib.Dec.{ltb, leb, eqb}
 use lib.ListN.{length}
@@ -11,7 +11,7 @@ use Rattle.words.specs.Mark.{isSet}
 use Rattle.classes.specs.Places.{regionOf, isFirst}
 use Rattle.control.specs.Layout.{Anchor, Marks, TaskPlace, TaskClass, DescriptorRegion, DescriptorClass, Map, Tasks, Regions}
 use Rattle.control.specs.Answers.{numberOf}
-use Rattle.stepped.specs.Outcome.{Outcome, refuse, Effect}
+use Rattle.stepped.specs.Outcome.{Outcome, Effect}
 use Rattle.stepped.specs.Ranges.{oneTo, isAnchor}
 use Rattle.stepped.specs.Steps as Steps
 use Rattle.stepped.specs.Calls as Calls

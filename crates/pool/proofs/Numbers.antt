@@ -3,7 +3,7 @@ use mathlib.Core.Path.{_≡_, refl, sym, ap, _∙_}
 use mathlib.Core.Logic.{_≢_, _⊎_, ⊎-elim, inl, inr}
 use mathlib.Core.Bool.{Bool, true, false, _&&_, _||_, false≢true}
 use mathlib.Core.List.{List, [], _∷_}
-use Prim.Native.Nat.{ℕ, _+_, _*_, _≤_, _<_}
+use Prim.Native.Nat.{ℕ, _+_, _*_, _<_}
 use native.Mathlib.Omega.{arith}
 use borrow.Author.Tests.{eqb-true, ltb-true}
 use lib.Dec.{eqb, ltb}
@@ -14,11 +14,11 @@ use Rattle.control.specs.Layout.{seen}
 use Rattle.control.specs.Answers.{codeOf, valueOf, numberOf}
 use Rattle.control.specs.declared.answer.Answer.{Answer}
 use Rattle.control.specs.declared.answer.Answer.the-variants.{Accepted, Allocated, Freed, NoDescriptor, NoRegion, Refused}
-use Rattle.stepped.specs.Ends.{oneOf, Begins, Goes, startRefusals, allocateRefusals, freeRefusals, stepRefusals}
+use Rattle.stepped.specs.Ends.{oneOf, Begins, Goes, IsEnd, startRefusals, allocateRefusals, freeRefusals, stepRefusals}
 use Rattle.stepped.specs.Calls as Calls
 use Rattle.stepped.proofs.Both.{left-true, right-true}
 use Rattle.stepped.proofs.Ends.{start-ends, allocate-ends, free-ends, step-ends}
-use Rattle.pool.specs.Call.{Call, start, allocate, free, step, effectOf, Refusal}
+use Rattle.pool.specs.Call.{Call, start, allocate, free, step, effectOf, Refusal, Ended}
 use Rattle.pool.specs.Runs.{Number}
 
 -- ---- the codes are below 256, so that the number tells code and value
@@ -103,6 +103,10 @@ accepted ns h NoDescriptor b e = absurd b
 accepted ns h NoRegion b e = absurd b
 accepted ns h (Refused n) b e = absurd (h (ap (oneOf ns) (sym e) ∙ b))
 
+-- no other number than those of its tests refuses a step
+not-among : {n : ℕ} (m : ℕ) → oneOf stepRefusals n ≡ true → oneOf stepRefusals m ≡ false → n ≡ m → ⊥
+not-among m g h e = false≢true (sym h ∙ ap (oneOf stepRefusals) (sym e) ∙ g)
+
 -- the numbers 12 and 13 tell that a step found no descriptor and no region: neither is among the numbers that refuse it
 pub ends-told : (a : Answer) → Goes stepRefusals a → (numberOf a ≡ 12 → a ≡ NoDescriptor) × (numberOf a ≡ 13 → a ≡ NoRegion)
 ends-told Accepted g = (λ e. absurd (omega arith), λ e. absurd (omega arith))
@@ -110,7 +114,16 @@ ends-told (Allocated u) g = (λ e. absurd (omega arith), λ e. absurd (omega ari
 ends-told Freed g = (λ e. absurd (omega arith), λ e. absurd (omega arith))
 ends-told NoDescriptor g = (λ e. refl, λ e. absurd (omega arith))
 ends-told NoRegion g = (λ e. absurd (omega arith), λ e. refl)
-ends-told (Refused n) g = (λ e. absurd (among e refl), λ e. absurd (among e refl))
-  where
-    among : {m : ℕ} → n ≡ m → oneOf stepRefusals m ≡ false → ⊥
-    among e h = false≢true (sym h ∙ ap (oneOf stepRefusals) (sym e) ∙ g)
+ends-told (Refused n) g = (λ e. absurd (not-among 12 g refl e), λ e. absurd (not-among 13 g refl e))
+
+-- the numbers of a request's end tell that it has ended
+pub end-told : (a : Answer) → Goes stepRefusals a → Ended (numberOf a) → IsEnd a
+unfolding small
+end-told Accepted g e = ⊎-elim (λ h. absurd (omega (arith, h))) (λ f. ⊎-elim (λ h. absurd (omega (arith, h))) (λ h. absurd (omega (arith, h))) f) e
+end-told (Allocated u) g e = tt
+end-told Freed g e = tt
+end-told NoDescriptor g e = tt
+end-told NoRegion g e = tt
+end-told (Refused n) g e =
+    ⊎-elim (not-among 12 g refl)
+    (λ f. ⊎-elim (not-among 13 g refl) (λ h. not-among {n = n} 20 g refl (omega (arith, h, among stepRefusals n refl g))) f) e

@@ -1,8 +1,8 @@
 -- The exported calls, and what each ensures. Assumes nothing.
 use mathlib.Core.Path.{_≡_}
-use mathlib.Core.Logic.{_≢_}
+use mathlib.Core.Logic.{_≢_, _⊎_}
 use mathlib.Core.List.{List, [], _∷_}
-use Prim.Native.Nat.{ℕ, _≤_, _<_}
+use Prim.Native.Nat.{ℕ, _%_, _≤_, _<_}
 use Rattle.fields.specs.Columns.{_:=_}
 use Rattle.classes.specs.Classes.{block}
 use Rattle.control.specs.Layout.{changed, TaskPlace, TaskClass}
@@ -39,6 +39,10 @@ Ensures k control area control′ area′ r = CallIs (effectOf k control area) c
 -- "A refused call answers the number": 1 to 14, but for 12 and 13, which "refuse no call".
 abbrev pub Refusal : ℕ → Type 0
 Refusal r = (1 ≤ r) × (r ≤ 14) × (r ≢ 12) × (r ≢ 13)
+
+-- "12 and 13 .. are a request's end", as 20 is, which "finished" it.
+abbrev pub Ended : ℕ → Type 0
+Ended r = (r ≡ 12) ⊎ ((r ≡ 13) ⊎ (r % 256 ≡ 20))
 
 -- "A size gets the smallest class that holds it": the beginning of an allocation has set the task's place and its class, the
 -- smallest whose block holds the size, and changed no other byte.

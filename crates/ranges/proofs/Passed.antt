@@ -10,6 +10,7 @@ use lib.Dec.{ltb, leb, eqb}
 use Rattle.words.specs.Anchor.{PARTIAL, isState, anchorOf}
 use Rattle.classes.specs.Places.{regionOf, isFirst}
 use Rattle.stepped.specs.Ranges.{oneTo, isBlock, isTop, isAnchor, hasChain, hasFirst, hasRoom}
+use Rattle.stepped.proofs.Both.{both}
 use Rattle.ranges.proofs.Ranges.{top-of-none, top-of-some}
 
 -- ---- a function's answer b, tested as `!b`
@@ -52,11 +53,6 @@ pub passed-top : (regions c k m x y : ℕ) {b : Bool} → k ≡ m → x ≡ y �
 passed-top regions c k m x y f e d h = passed-for (isTop regions c) f e d h
 
 -- ---- the tests
-
--- both parts of a test pass
-both : (a b : Bool) → (a && b) ≡ true → (a ≡ true) × (b ≡ true)
-both true b e = (refl, e)
-both false b e = (e, absurd (false≢true e))
 
 -- a block's first unit lies in the area, with its link
 pub block-passed : (regions c u : ℕ) → isBlock regions c u ≡ true → u < 512 * regions

@@ -1,14 +1,12 @@
 -- The stand on bytes beside the stand over the plain pool: each request is answered by the same number, and keeps them beside each
 -- other. Assumes nothing.
-use Prim.Native.Nat.{ℕ, suc, _+_, _*_, _≤_, _<_}
+use Prim.Native.Nat.{ℕ, suc, _*_, _≤_, _<_}
 use mathlib.Core.Path.{_≡_, refl, sym, ap, subst, _∙_}
-use mathlib.Core.Logic.{_≢_}
-use mathlib.Core.Bool.{Bool, cond}
-use mathlib.Core.List.{List, [], _∷_}
+use mathlib.Core.List.{[], _∷_}
 use native.Mathlib.Omega.{arith}
 use native.Mathlib.Decide.{ℕ-discrete}
-use borrow.Author.Tests.{eq-eqb, ne-eqb, lt-ltb, le-ltb}
-use borrow.Rule.Slice.PartMut.{midOf, putMid, put-same}
+use borrow.Author.Tests.{eq-eqb, ne-eqb, le-ltb}
+use borrow.Rule.Slice.PartMut.{midOf}
 use lib.ListN.{length}
 use Rattle.links.specs.Link.{link}
 use Rattle.links.proofs.Links.{length-linked}
@@ -17,23 +15,23 @@ use Rattle.plain.specs.Codes.{AtMost}
 use Rattle.plain.specs.Calls.{Pool}
 use Rattle.plain.specs.Calls as Calls
 use Rattle.plain.proofs.Answers.{most}
-use Rattle.control.specs.Layout.{Tasks, Regions, seen}
+use Rattle.control.specs.Layout.{Tasks, seen}
 use Rattle.control.specs.Answers.{numberOf}
 use Rattle.stepped.specs.Outcome.{Effect}
 use Rattle.stepped.specs.Calls as Stepped
 use Rattle.stepped.specs.Events.{Memories, stepped, whole, Premise}
-use Rattle.stepped.proofs.Simulation.{Sim, Alike}
+use Rattle.stepped.proofs.Simulation.{Sim}
 use Rattle.stepped.proofs.Runs.{short}
 use Rattle.stepped.proofs.Theorem.{alike}
 use Rattle.pool.specs.Call.{Call, effectOf}
 use Rattle.pool.specs.Call as Call
 use Rattle.pool.specs.Runs.{own, eventOf, Number}
 use Rattle.pool.proofs.Acting.{shows}
-use Rattle.schedule.specs.Stand.{Request, start, allocate, free, step}
+use Rattle.schedule.specs.Stand.{allocate, free, step}
 use Rattle.schedule.specs.Bytes.{lentRegions, lending, onBytes}
 use Rattle.schedule.specs.Plain.{numberIn, feeding, startedRegions, onPlain}
 use Rattle.schedule.proofs.Parts.{part-length, part-back, back-length}
-use Rattle.schedule.proofs.Fed.{SameStart, allocate-keeps, free-keeps, go-keeps, same-regions, StartIs, accepted, refused, start-is}
+use Rattle.schedule.proofs.Fed.{SameStart, allocate-keeps, free-keeps, go-keeps, same-regions}
 
 -- the memories that a call is lent with n regions
 abbrev pub partOf : ℕ → Memories → Memories

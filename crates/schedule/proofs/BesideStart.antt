@@ -1,26 +1,25 @@
 -- A start keeps the stand on bytes beside the stand over the plain pool. Assumes nothing.
-use Prim.Native.Nat.{ℕ, suc, _+_, _*_, _≤_, _<_}
+use Prim.Native.Nat.{ℕ, suc, _*_, _≤_, _<_}
 use mathlib.Core.Path.{_≡_, refl, sym, ap, subst, _∙_}
 use mathlib.Core.Logic.{_≢_}
 use mathlib.Core.Bool.{Bool, cond}
-use mathlib.Core.List.{List}
 use native.Mathlib.Omega.{arith}
 use native.Mathlib.Decide.{decLt}
 use borrow.Author.Tests.{eq-eqb, ne-eqb, lt-ltb, le-ltb}
-use borrow.Rule.Slice.PartMut.{midOf, putMid, put-same}
-use lib.Dec.{eqb, ltb}
+use borrow.Rule.Slice.PartMut.{putMid, put-same}
+use lib.Dec.{eqb}
 use lib.ListN.{length}
 use Rattle.plain.specs.Moves.{Answer}
 use Rattle.plain.specs.Calls.{Pool}
 use Rattle.plain.specs.Calls as Calls
 use Rattle.plain.proofs.Answers.{most}
-use Rattle.control.specs.Answers.{codeOf, valueOf, numberOf}
+use Rattle.control.specs.Answers.{codeOf, numberOf}
 use Rattle.control.specs.declared.answer.Answer.the-variants.{Accepted, Allocated, Freed, NoDescriptor, NoRegion, Refused}
 use Rattle.control.specs.declared.answer.Answer as A
 use Rattle.stepped.specs.Outcome.{Effect}
-use Rattle.stepped.specs.Ends.{Begins, startRefusals, Leaves}
+use Rattle.stepped.specs.Ends.{Begins, startRefusals}
 use Rattle.stepped.specs.Events.{Memories, stepped, whole}
-use Rattle.stepped.proofs.Simulation.{Sim, Alike}
+use Rattle.stepped.proofs.Simulation.{Sim}
 use Rattle.stepped.proofs.Ends.{start-ends}
 use Rattle.stepped.proofs.Lent.{start-leaves}
 use Rattle.stepped.proofs.Theorem.{alike}

@@ -11,7 +11,7 @@ use Rattle.control.specs.Layout.{Tasks, Regions, seen}
 use Rattle.stepped.specs.Events.{Memories}
 use Rattle.pool.specs.Call.{Call, Ensures}
 use Rattle.pool.specs.Call as Call
-use Rattle.schedule.specs.Stand.{Request, start, allocate, free, step}
+use Rattle.schedule.specs.Stand.{start, allocate, free, step}
 use Rattle.schedule.specs.Bytes.{lentRegions, lending, onBytes, Does}
 
 -- ---- how many regions are lent

@@ -3,7 +3,6 @@
 use control::started;
 ghost use mathlib.Core.Path.{_≡_};
 ghost use Prim.Native.Nat.{_*_, _≤_};
-ghost use lib.ListN.{length};
 ghost use Rattle.control.specs.Layout.{Control, seen};
 ghost use Rattle.schedule.specs.Stand.{start as started, allocate as allocated, free as freed, step as stepped};
 ghost use Rattle.schedule.specs.Bytes.{lentRegions, onBytes, Does, Kept};

@@ -1,38 +1,34 @@
 -- The beginnings of requests, in both pools.
 -- Assumes nothing.
 use mathlib.Core.Path.{_≡_, refl, sym, ap, subst, _∙_}
-use mathlib.Core.Logic.{_≢_}
-use mathlib.Core.Bool.{Bool, true, false, cond, _&&_}
+use mathlib.Core.Bool.{true, cond}
 use mathlib.Core.List.{List, [], _∷_}
-use Prim.Native.Nat.{ℕ, zero, suc, _+_, _*_, _-_, _/_, _%_, _≤_, _<_}
+use Prim.Native.Nat.{ℕ, zero, suc, _+_, _-_, _/_, _%_, _≤_, _<_}
 use native.Mathlib.Omega.{arith}
 use native.Mathlib.Numerals.{sub-one}
 use native.Mathlib.Decide.{ℕ-discrete, decLt}
-use borrow.Author.Tests.{eq-eqb, ne-eqb, le-leb, lt-ltb, le-ltb, eqb-true, eqb-false, ltb-true, ltb-false}
-use lib.Dec.{eqb, leb, ltb}
+use borrow.Author.Tests.{eq-eqb, ne-eqb, le-leb, lt-ltb, eqb-true, eqb-false, ltb-true}
+use lib.Dec.{eqb, ltb}
 use Rattle.rows.specs.Branch.{if, both}
 use Rattle.fields.specs.Columns.{View, Write, _:=_, assigned}
 use Rattle.rows.specs.Linked.{Linked}
 use Rattle.links.specs.Link.{link}
-use Rattle.words.specs.Anchor.{anchorOf, isState}
+use Rattle.words.specs.Anchor.{anchorOf}
 use Rattle.words.specs.Mark.{bitAt, isSet, withClear}
 use Rattle.words.proofs.Marks.{clear-below}
 use Rattle.classes.specs.Classes.{units, perRegion}
 use Rattle.classes.specs.Sizes.{classOf}
-use Rattle.classes.specs.Places.{regionOf, indexOf, isFirst, Block}
+use Rattle.classes.specs.Places.{regionOf, indexOf, isFirst}
 use Rattle.classes.proofs.Sizes.{is-class}
-use Rattle.classes.proofs.Places.{first-block, block-first}
 use Rattle.plain.specs.State.{State, EMPTY, PARTIAL, FULL, numberOf, Place, idle, a1, f1, Mem, Task, setTask, setHands}
 use Rattle.plain.specs.Moves.{going, nothing, refused}
 use Rattle.plain.specs.Steps.{Result}
 use Rattle.plain.specs.Calls as Plain
-use Rattle.plain.specs.States.{IsOpen}
-use Rattle.plain.specs.Invariant.{Invariant, OpenDescriptor}
-use Rattle.plain.proofs.States.{open-holds}
+use Rattle.plain.specs.Invariant.{Invariant}
 use Rattle.plain.proofs.Homes.{inside-open}
 use Rattle.plain.proofs.Places.{taskOf}
-use Rattle.control.specs.Layout.{Anchor, Marks, TaskUnit, TaskPlace, TaskClass, DescriptorRegion, DescriptorClass, Map}
-use Rattle.stepped.specs.Outcome.{Outcome, refuse, bad}
+use Rattle.control.specs.Layout.{Anchor, Marks, TaskUnit, TaskPlace, TaskClass, DescriptorRegion, DescriptorClass}
+use Rattle.stepped.specs.Outcome.{Outcome, refuse}
 use Rattle.stepped.specs.Ranges.{isAnchor}
 use Rattle.stepped.specs.Calls as Stepped
 use Rattle.stepped.specs.Memory.{Slot, Memory, slotOf, memoryOf}
@@ -40,10 +36,10 @@ use Rattle.stepped.specs.Relation
 use Rattle.stepped.specs.Relation.{PopRelated, PushRelated, PlaceRelated, r-idle, r-a1, r-partial, r-spare, r-region, r-retire, r-back, r-release, r-offer, r-a3-read, r-a3-exchange, r-a4, r-a7, r-a8, r-f1, r-f2, r-f2-more, r-f3-read, r-f3-link, r-f3-exchange, r-f4-clear, SlotRelated, Related}
 use Rattle.stepped.proofs.Sets.{toRequest, setSlot, setMark}
 use Rattle.stepped.proofs.Bridge.{becomes, mark-clear-written}
-use Rattle.stepped.proofs.Couple.{Pair, quiet, mine}
+use Rattle.stepped.proofs.Couple.{quiet, mine}
 use Rattle.stepped.proofs.Changes.{marking}
-use Rattle.stepped.proofs.Notes.{number-open, number-max}
-use Rattle.stepped.proofs.Both.{Both, both-true, left-true, right-true, pass, meet, miss, choose, decide}
+use Rattle.stepped.proofs.Notes.{number-max}
+use Rattle.stepped.proofs.Both.{Both, both-true, left-true, right-true, pass, meet, choose, decide}
 use Rattle.stepped.proofs.Turns.{At}
 
 module _ {regions : ℕ} {v : View} {area : List ℕ} {m : Mem} (R : Related regions (memoryOf v area) m) where

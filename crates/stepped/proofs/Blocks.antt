@@ -1,13 +1,11 @@
 -- Blocks in a task's hand: where they lie, and what a written link leaves of the task's rows.
 -- Assumes nothing.
-use mathlib.Core.Path.{_≡_, refl, sym, ap, subst, _∙_}
-use mathlib.Core.Logic.{_≢_}
+use mathlib.Core.Path.{_≡_, sym, ap, subst}
 use mathlib.Core.Bool.{true}
-use mathlib.Core.List.{List, [], _∷_, _++_}
-use Prim.Native.Nat.{ℕ, zero, suc, pred, _+_, _*_, _-_, _/_, _%_, _≤_, _<_}
+use mathlib.Core.List.{List, [], _∷_}
+use Prim.Native.Nat.{ℕ, suc, _-_, _≤_, _<_}
 use native.Mathlib.Omega.{arith}
 use borrow.Author.Tests.{lt-ltb, eq-eqb, ne-eqb}
-use native.Mathlib.Nat.{mul-mod-right}
 use lib.ListN.{length}
 use Rattle.rows.specs.Counting.{count}
 use Rattle.rows.specs.Linked.{Agree, Linked, ends, links}

@@ -1,6 +1,6 @@
 -- One call in both pools: the same answer and decided move, the relation after it, and what is written.
 -- Assumes nothing.
-use mathlib.Core.Path.{_≡_, refl, sym, ap, subst, _∙_}
+use mathlib.Core.Path.{_≡_, refl, sym}
 use mathlib.Core.Bool.{Bool, true, false, cond, _&&_}
 use mathlib.Core.List.{List, [], _∷_}
 use Prim.Native.Nat.{ℕ, _^_, _≤_, _<_}
@@ -55,6 +55,9 @@ pub right-true : (a b : Bool) → (a && b) ≡ true → b ≡ true
 right-true true b h = h
 right-true false true h = refl
 right-true false false h = h
+
+pub both : (a b : Bool) → (a && b) ≡ true → (a ≡ true) × (b ≡ true)
+both a b h = (left-true a b h, right-true a b h)
 
 module _ {regions : ℕ} {v : View} {area : List ℕ} {m : Mem} where
   -- a test against 14 that is met

@@ -2,20 +2,19 @@
 -- Assumes nothing.
 use mathlib.Core.Path.{_≡_, refl, sym, ap, fun-ext, _∙_}
 use mathlib.Core.Logic.{_≢_}
-use mathlib.Core.Bool.{Bool, true, false, cond}
+use mathlib.Core.Bool.{cond}
 use mathlib.Core.List.{List, [], _∷_}
-use Prim.Native.Nat.{ℕ, _+_, _*_, _/_, _%_, _≤_, _<_}
+use Prim.Native.Nat.{ℕ, _+_, _*_, _/_, _%_, _<_}
 use native.Mathlib.Omega.{arith}
 use native.Mathlib.Decide.{ℕ-discrete, decLt}
 use borrow.Author.Tests.{eq-eqb, ne-eqb}
 use lib.Dec.{eqb}
 use Rattle.rows.specs.Branch.{if}
 use Rattle.rows.specs.Update.{update}
-use Rattle.rows.proofs.Update.{update-same, update-other}
-use Rattle.fields.specs.Columns.{View, Field, Write, _:=_, assigned}
+use Rattle.fields.specs.Columns.{View, _:=_, assigned}
 use Rattle.words.specs.Mark.{bitAt, withSet, withClear}
 use Rattle.words.proofs.Marks.{set-here, set-others, clear-here, clear-others}
-use Rattle.control.specs.Layout.{TaskPlace, TaskHead, TaskNext, CacheTop, CacheCount, Marks}
+use Rattle.control.specs.Layout.{Marks}
 use Rattle.control.specs.Layout
 use Rattle.words.specs.Head.{headOf}
 use Rattle.words.specs.Anchor.{anchorOf}

@@ -32,6 +32,7 @@ use Rattle.stepped.specs.Outcome.{close}
 use Rattle.stepped.specs.Ranges.{isTop}
 use Rattle.stepped.specs.Memory.{Slot, Memory, slotOf, memoryOf}
 use Rattle.stepped.specs.Relation.{PlaceRelated, Related}
+use Rattle.stepped.proofs.Images.{append-sound}
 use Rattle.stepped.proofs.Sets.{toCache, setSlot, setLink}
 use Rattle.stepped.proofs.Bridge.{withSlots, becomes, cache-here, cache-there}
 use Rattle.stepped.proofs.Couple.{Pair, mine, linking}
@@ -45,10 +46,6 @@ use Rattle.stepped.proofs.Turns.{At, cache-top, cache-count}
 assigned-append : (ws xs : List Write) (v : View) → assigned (ws ++ xs) v ≡ assigned xs (assigned ws v)
 assigned-append [] xs v = refl
 assigned-append (x ∷ ws) xs v = assigned-append ws xs (assign x v)
-
-sound-append : (ws xs : List Write) → Sound layout ws → Sound layout xs → Sound layout (ws ++ xs)
-sound-append [] xs s h = h
-sound-append ((f := x) ∷ ws) xs s h = (s .0, sound-append ws xs (s .1) h)
 
 -- ---- the fields of a cache
 
@@ -208,7 +205,7 @@ module _ {regions : ℕ} {v : View} {area : List ℕ} {m : Mem} {t : ℕ} {p : P
           ap (λ (z : View). z Tasks) (assigned-append ws xs v) ∙ keeps .0,
           ap (λ (z : View). z Regions) (assigned-append ws xs v) ∙ keeps .1,
         );
-        sound = sound-append ws xs sound
+        sound = append-sound ws xs sound
             (omega (arith, w .pair .turn .fits, mine (w .pair) .fits, under-max u o, cache-count w, room, perRegion-high c));
         apart = (mine-apart (w .pair) u (mine-under (w .pair) u o .0), tt);
       }

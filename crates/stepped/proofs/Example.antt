@@ -20,7 +20,7 @@ use Rattle.plain.specs.Calls as Plain
 use Rattle.plain.proofs.Answers.{most}
 use Rattle.stepped.specs.Events.{Event, start, allocate, free, go, write, Memories, Premises}
 use Rattle.stepped.specs.Agreement.{Agree, Unstarted}
-use Rattle.stepped.proofs.Runs.{steppedAnswers, wholeAnswers, answered, after, Writes, writes?, Yes, found, short}
+use Rattle.stepped.proofs.Runs.{steppedAnswers, wholeAnswers, answered, after, Writes, writes?, found, short}
 use Rattle.stepped.proofs.Theorem.{agreement}
 
 -- ---- the lines of the schedule: two regions, three tasks

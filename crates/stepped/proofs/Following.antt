@@ -1,9 +1,8 @@
 -- Steps 5 and 6 of a free, which are no steps of their own: where a returned group leads.
 -- Assumes nothing.
-use mathlib.Core.Path.{_≡_, refl, sym, ap, _∙_}
-use mathlib.Core.Bool.{true, false}
+use mathlib.Core.Path.{_≡_, refl, _∙_}
 use mathlib.Core.List.{List, [], _∷_}
-use Prim.Native.Nat.{ℕ, suc, _≤_, _<_}
+use Prim.Native.Nat.{ℕ}
 use native.Mathlib.Omega.{arith}
 use borrow.Author.Tests.{eq-eqb, ne-eqb, le-leb}
 use lib.Dec.{eqb, leb}
@@ -15,13 +14,12 @@ use Rattle.plain.specs.Moves.{Decided, going}
 use Rattle.plain.specs.Steps as Steps
 use Rattle.plain.proofs.Places.{lengths}
 use Rattle.control.specs.Layout.{layout, Tasks, Regions, CacheCount, GroupCount, TaskPlace, TaskClass}
-use Rattle.stepped.specs.Outcome.{accept, bad}
+use Rattle.stepped.specs.Outcome.{accept}
 use Rattle.stepped.specs.Lists as Lists
 use Rattle.stepped.specs.Memory.{memoryOf}
 use Rattle.stepped.specs.Relation.{Related}
 use Rattle.stepped.proofs.Images.{assigned-same}
-use Rattle.stepped.proofs.Couple.{mine}
-use Rattle.stepped.proofs.Both.{Both, pass, choose}
+use Rattle.stepped.proofs.Both.{Both, pass}
 use Rattle.stepped.proofs.Turns.{At, cache-count}
 
 -- After the writes ws of the move e, which leave the plain pool's memory m₁, the relation holds at each place that may

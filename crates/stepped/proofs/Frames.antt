@@ -2,10 +2,9 @@
 -- Assumes nothing.
 use mathlib.Core.Path.{_≡_, refl, sym, ap, subst, _∙_}
 use mathlib.Core.Logic.{_≢_}
-use mathlib.Core.List.{List, [], _∷_, _++_}
-use Prim.Native.Nat.{ℕ, zero, suc, pred, _+_, _*_, _/_, _%_, _≤_, _<_}
+use mathlib.Core.List.{List, [], _∷_}
+use Prim.Native.Nat.{ℕ, _≤_, _<_}
 use native.Mathlib.Omega.{arith}
-use lib.ListN.{length}
 use Rattle.words.specs.declared.anchor.Anchor.{Anchor}
 use Rattle.words.specs.declared.head.Head.{Head}
 use Rattle.rows.specs.Counting.{count}
@@ -18,9 +17,9 @@ use Rattle.rows.proofs.Update.{update-all₂}
 use Rattle.rows.proofs.Weights.{when-same}
 use Rattle.classes.specs.Classes.{counts}
 use Rattle.links.specs.Link.{link, linked}
-use Rattle.plain.specs.State.{Mem, Note, Phase, Place, Task, a1, a3-exchange, a3-read, a4, a7, a8, exchange}
-use Rattle.plain.specs.State.{f1, f2, f3-exchange, f3-link, f3-read, f4-clear, idle, next, popping, pushing}
-use Rattle.plain.specs.State.{read, region}
+use Rattle.plain.specs.State.{Mem, Note, Phase, Place, Task, a1, a3-exchange, a3-read, a4, a7, a8}
+use Rattle.plain.specs.State.{f1, f2, f3-exchange, f3-link, f3-read, f4-clear, idle, popping, pushing}
+use Rattle.plain.specs.State.{region}
 use Rattle.plain.specs.Held.{holdsDescriptor, holdsRegion, underWay}
 use Rattle.plain.specs.Weights.{blockWeight, rowWeight}
 use Rattle.stepped.specs.Memory.{Memory, Slot}

@@ -15,7 +15,7 @@ use Rattle.fields.specs.Columns.{Field, View, Write, _:=_, assigned}
 use Rattle.words.specs.Head.{itemOf, tagOf, headOf, advancedWord}
 use Rattle.words.specs.declared.head.Head.{Head as HeadWord}
 use Rattle.words.proofs.Heads.{itemOf-advanced, tagOf-advanced}
-use Rattle.plain.specs.State.{Phase, read, next, exchange, Place, Mem, setRow, REGIONS}
+use Rattle.plain.specs.State.{Place, Mem, setRow, REGIONS}
 use Rattle.plain.specs.Moves.{Decided, nothing, going}
 use Rattle.plain.specs.Steps.{Result, at}
 use Rattle.plain.proofs.Places.{taskOf}

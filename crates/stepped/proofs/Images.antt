@@ -1,21 +1,18 @@
 -- What stands in the fields after a start.
 -- Assumes nothing.
-use mathlib.Core.Path.{_≡_, refl, sym, ap, _∙_}
-use mathlib.Core.Logic.{_≢_}
-use mathlib.Core.Bool.{Bool, true, false, cond, _&&_}
+use mathlib.Core.Path.{_≡_, refl, ap, _∙_}
+use mathlib.Core.Bool.{false}
 use mathlib.Core.List.{List, [], _∷_, _++_}
-use Prim.Native.Nat.{ℕ, zero, suc, _+_, _*_, _^_, _≤_, _<_}
+use Prim.Native.Nat.{ℕ, zero, suc, _+_, _^_, _≤_, _<_}
 use native.Mathlib.Omega.{arith}
-use native.Mathlib.Decide.{decLt, ℕ-discrete}
+use native.Mathlib.Decide.{ℕ-discrete}
 use borrow.Author.Tests.{eq-eqb, ne-eqb}
 use lib.Dec.{eqb}
-use lib.ListN.{length, getD, replicate}
-use Rattle.rows.specs.Branch.{if}
+use lib.ListN.{getD, replicate}
 use Rattle.fields.specs.Little.{getLE}
 use Rattle.fields.specs.Columns.{Field, View, Write, _:=_, assign, assigned, Has, Sound}
-use Rattle.control.specs.Layout.{layout, seen, changed}
-use Rattle.control.proofs.Fields.{seen-changed}
-use Rattle.stepped.specs.Start.{fill, nextUp, startWrites, startImage}
+use Rattle.control.specs.Layout.{layout}
+use Rattle.stepped.specs.Start.{fill}
 
 -- ---- zeros
 

@@ -27,7 +27,7 @@ use Rattle.stepped.proofs.Couple.{mine}
 use Rattle.stepped.proofs.Blocks.{mine-apart, mine-under, under-unit}
 use Rattle.stepped.proofs.Both.{Both, both-true, decide, pass}
 use Rattle.stepped.proofs.Turns.{At, cache-count, goes}
-use Rattle.stepped.proofs.Caching.{cache-push, cache-top-max, top-tested, under-max}
+use Rattle.stepped.proofs.Caching.{cache-push, top-tested, under-max}
 
 module _ {regions : ℕ} {v : View} {area : List ℕ} {m : Mem} {t : ℕ} {k : ℕ → List ℕ}
     (w : At regions v area m t (f1 (v (TaskClass t)) (v (TaskUnit t))) k) where

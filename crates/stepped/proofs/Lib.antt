@@ -45,6 +45,10 @@ pub mod Doing
 pub mod Ways
 pub mod MoveWays
 pub mod StepWays
+pub mod SoundMoves
+pub mod SoundAllocate
+pub mod SoundFree
+pub mod SoundSteps
 pub mod Ends
 pub mod TaskHands
 pub mod TaskLists

@@ -1,9 +1,9 @@
 -- From the relation to what is compared.
 -- Assumes nothing.
-use mathlib.Core.Path.{_≡_, refl, sym, ap, subst, fun-ext, _∙_}
+use mathlib.Core.Path.{_≡_, refl, sym, ap, subst, _∙_}
 use mathlib.Core.Logic.{_≢_}
 use mathlib.Core.List.{List, [], _∷_, _++_}
-use Prim.Native.Nat.{ℕ, zero, suc, _+_, _*_, _-_, _/_, _≤_, _<_}
+use Prim.Native.Nat.{ℕ, zero, suc, _+_, _-_, _≤_, _<_}
 use native.Mathlib.Omega.{arith}
 use native.Mathlib.Decide.{ℕ-discrete, decLe}
 use lib.ListN.{length, getD}
@@ -12,17 +12,15 @@ use Rattle.rows.specs.Weights.{below}
 use Rattle.rows.specs.Counting.{count}
 use Rattle.rows.specs.Totals.{total}
 use Rattle.rows.specs.Linked.{Linked, ends, links, walk}
-use Rattle.rows.proofs.Weights.{below-max, below-is, below-yes}
 use Rattle.rows.proofs.Totals.{total-one, total-two, total-only, total-same}
 use Rattle.rows.proofs.Pigeonhole.{pigeonhole}
 use Rattle.rows.proofs.Linked.{linked-walk, linked-append-one}
-use Rattle.classes.specs.Classes.{perRegion}
 use Rattle.classes.specs.Places.{unitOf, indexOf, Block}
 use Rattle.classes.proofs.Places.{unit-again, unit-below}
 use Rattle.links.specs.Link.{link}
 use Rattle.plain.specs.State.{State, EMPTY, PARTIAL, FULL, numberOf, Phase, Place, Mem, REGIONS}
 use Rattle.plain.specs.Calls.{rising, NotEmpty, Opens, opens?}
-use Rattle.plain.specs.States.{ifOpen, IfOpen, IsOpen}
+use Rattle.plain.specs.States.{ifOpen, IfOpen}
 use Rattle.plain.specs.Blocks.{isBlock}
 use Rattle.plain.specs.Held.{underWay, classAt}
 use Rattle.plain.specs.Places.{Together}
@@ -32,11 +30,11 @@ use Rattle.plain.proofs.Blocks.{block-counts, counts-block}
 use Rattle.plain.proofs.States.{open-holds}
 use Rattle.plain.proofs.Homes.{inside-open}
 use Rattle.plain.proofs.OnePlace.{found}
-use Rattle.plain.proofs.Places.{taskOf, placeHolds}
+use Rattle.plain.proofs.Places.{placeHolds}
 use Rattle.plain.proofs.Starts.{rising-count, length-rising}
-use Rattle.stepped.specs.Memory.{Slot, Memory}
-use Rattle.stepped.specs.Relation.{PopRelated, PushRelated, GroupRelated, PlaceRelated, r-idle, r-a1, r-partial, r-spare, r-region, r-retire, r-back, r-release, r-offer, r-a3-read, r-a3-exchange, r-a4, r-a7, r-a8, r-f1, r-f2, r-f2-more, r-f3-read, r-f3-link, r-f3-exchange, r-f4-clear, ChainRelated, DescriptorRelated, Related}
-use Rattle.stepped.specs.Observe.{listFrom, listOf, spareRegions, classBy, chainBy, plainClassBy, plainChainBy, plainClass, plainChain, underWayAt, inCache, withTask, Holder, hands, task, chain, nowhere, holderOf, holder, holderIn, plainHolder, Same}
+use Rattle.stepped.specs.Memory.{Memory}
+use Rattle.stepped.specs.Relation.{PopRelated, PushRelated, GroupRelated, PlaceRelated, r-idle, r-a1, r-partial, r-spare, r-region, r-retire, r-back, r-release, r-offer, r-a3-read, r-a3-exchange, r-a4, r-a7, r-a8, r-f1, r-f2, r-f2-more, r-f3-read, r-f3-link, r-f3-exchange, r-f4-clear, DescriptorRelated, Related}
+use Rattle.stepped.specs.Observe.{listFrom, classBy, chainBy, plainClassBy, plainChainBy, plainClass, plainChain, underWayAt, inCache, withTask, hands, task, chain, holderOf, Same}
 use Rattle.stepped.proofs.Couple.{Pair}
 use Rattle.stepped.proofs.Notes.{number-open}
 use Rattle.stepped.proofs.Groups.{of-region}

@@ -8,7 +8,6 @@ use borrow.Author.Tests.{eq-eqb, ne-eqb, lt-ltb, le-leb}
 use lib.ListN.{length, length-append}
 use Rattle.rows.specs.Counting.{count}
 use Rattle.rows.proofs.Linked.{linked-frame}
-use Rattle.rows.proofs.Update.{update-same}
 use Rattle.rows.proofs.Weights.{when-same}
 use Rattle.fields.specs.Columns.{View, _:=_, assigned}
 use Rattle.links.specs.Link.{link}
@@ -19,12 +18,10 @@ use Rattle.plain.specs.State.{Mem, Note, f3-read, f3-link, f3-exchange}
 use Rattle.plain.specs.Moves.{going, nothing}
 use Rattle.plain.specs.Steps.{noted}
 use Rattle.plain.specs.Steps as Steps
-use Rattle.plain.specs.Invariant.{Invariant}
 use Rattle.plain.proofs.Owners.{home-of, owner}
-use Rattle.plain.proofs.Places.{placeHolds, placed, taskOf}
+use Rattle.plain.proofs.Places.{placeHolds, taskOf}
 use Rattle.plain.proofs.Groups as Joined
 use Rattle.plain.proofs.States.{open-holds}
-use Rattle.plain.proofs.Turn.{Turn}
 use Rattle.control.specs.Layout.{Anchor, GroupCount, GroupLast, Map, TaskAnchor, TaskClass, TaskDescriptor}
 use Rattle.control.specs.Layout.{TaskPlace, TaskRegion, TaskUnit}
 use Rattle.stepped.specs.Free as Free

@@ -2,7 +2,7 @@
 -- Assumes nothing.
 use mathlib.Core.Path.{_≡_, refl, ap, _∙_}
 use mathlib.Core.List.{List, [], _∷_}
-use Prim.Native.Nat.{ℕ, zero, suc, _+_, _*_, _/_, _≤_, _<_}
+use Prim.Native.Nat.{ℕ, suc, _+_, _*_, _/_, _≤_, _<_}
 use native.Mathlib.Omega.{arith}
 use native.Mathlib.Decide.{decLt, decLe}
 use lib.ListN.{length}
@@ -16,7 +16,7 @@ use Rattle.plain.specs.Calls.{Pool, unstarted}
 use Rattle.plain.specs.Calls as Plain
 use Rattle.plain.specs.Codes.{AtMost}
 use Rattle.plain.proofs.Answers.{most}
-use Rattle.stepped.specs.Events.{Event, start, allocate, free, go, write, Memories, stepped, whole, Taken, Recent, Near, InHands, classThere, Premises}
+use Rattle.stepped.specs.Events.{Event, start, allocate, free, go, write, Memories, stepped, whole, Recent, Near, classThere, Premises}
 use Rattle.stepped.specs.Agreement.{Agree, Unstarted}
 use Rattle.stepped.proofs.Theorem.{agreement}
 

@@ -1,6 +1,5 @@
 -- One task's part, and the two memories, with some columns changed.
 -- Assumes nothing.
-use mathlib.Core.List.{List}
 use Prim.Native.Nat.{ℕ}
 use Rattle.rows.specs.Update.{update}
 use Rattle.links.specs.Link.{withLink}

@@ -1,36 +1,35 @@
 -- What holds between the bytes of the stepped run and the plain pool, and how one call keeps it.
 -- Assumes nothing.
-use mathlib.Core.Path.{_≡_, refl, sym, ap, subst, _∙_}
-use mathlib.Core.Bool.{Bool, true, false, cond, _&&_}
-use mathlib.Core.List.{List, [], _∷_}
-use Prim.Native.Nat.{ℕ, zero, suc, _+_, _*_, _/_, _%_, _^_, _≤_, _<_}
+use mathlib.Core.Path.{_≡_, refl, sym, _∙_}
+use mathlib.Core.Bool.{cond}
+use mathlib.Core.List.{List}
+use Prim.Native.Nat.{ℕ, _*_, _≤_, _<_}
 use native.Mathlib.Omega.{arith}
-use native.Mathlib.Decide.{ℕ-discrete, decLt, decLe}
-use borrow.Author.Tests.{eq-eqb, ne-eqb, le-leb, lt-leb, lt-ltb, le-ltb}
-use lib.Dec.{eqb, leb, ltb}
-use lib.ListN.{length, getD}
+use native.Mathlib.Decide.{ℕ-discrete, decLt}
+use borrow.Author.Tests.{eq-eqb, ne-eqb, le-leb, lt-ltb, le-ltb}
+use lib.Dec.{eqb, ltb}
+use lib.ListN.{length}
 use Rattle.rows.specs.Branch.{if}
 use Rattle.rows.proofs.Branch.{if-yes, if-no}
 use Rattle.fields.specs.Little.{Bytes}
 use Rattle.fields.specs.Columns.{Field, View, Has, width, at, assigned}
 use Rattle.fields.proofs.Numbers.{getLE-lt}
 use Rattle.fields.proofs.Layouts.{length-written, bytes-written}
-use Rattle.links.specs.Link.{link, linked}
-use Rattle.plain.specs.State.{Mem}
-use Rattle.plain.specs.Moves.{Answer, refused}
+use Rattle.links.specs.Link.{linked}
+use Rattle.plain.specs.Moves.{Answer}
 use Rattle.plain.specs.Steps.{Result}
 use Rattle.plain.specs.Calls.{Pool}
 use Rattle.plain.specs.Calls as Plain
-use Rattle.plain.specs.Invariant.{Invariant, Good}
+use Rattle.plain.specs.Invariant.{Good}
 use Rattle.control.specs.Layout.{layout, Tasks, Regions, seen, changed}
 use Rattle.control.proofs.Fields.{seen-changed}
-use Rattle.stepped.specs.Outcome.{Outcome, Effect, effect, refuse, bad}
+use Rattle.stepped.specs.Outcome.{Outcome, effect, refuse}
 use Rattle.stepped.specs.Calls as Stepped
 use Rattle.stepped.specs.Memory.{memoryOf}
 use Rattle.stepped.specs.Relation.{Related}
 use Rattle.stepped.specs.Events.{Memories, ran, Taken}
 use Rattle.stepped.specs.Agreement.{Kept}
-use Rattle.stepped.proofs.Both.{Both, Fitting, both-true, shown}
+use Rattle.stepped.proofs.Both.{Both, Fitting}
 use Rattle.stepped.proofs.Views.{views-related}
 use Rattle.stepped.proofs.Writing.{byte-kept}
 

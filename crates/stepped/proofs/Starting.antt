@@ -1,18 +1,16 @@
 -- A start, in both pools: on any bytes, at any time.
 -- Assumes nothing.
-use mathlib.Core.Path.{_≡_, refl, sym, ap, subst, _∙_}
-use mathlib.Core.Bool.{Bool, true, false, cond, _&&_}
-use mathlib.Core.List.{List, [], _∷_, _++_}
-use Prim.Native.Nat.{ℕ, zero, suc, _+_, _*_, _/_, _%_, _^_, _≤_, _<_}
+use mathlib.Core.Path.{_≡_, refl, sym, subst, _∙_}
+use mathlib.Core.Bool.{cond}
+use mathlib.Core.List.{List, _++_}
+use Prim.Native.Nat.{ℕ, _+_, _*_, _/_, _%_, _≤_}
 use native.Mathlib.Omega.{arith}
 use native.Mathlib.Decide.{ℕ-discrete, decLt, decLe}
 use borrow.Author.Tests.{eq-eqb, ne-eqb, le-leb, lt-leb}
-use lib.Dec.{eqb, leb}
-use lib.ListN.{length, getD, replicate, length-replicate}
-use Rattle.rows.specs.Branch.{if, both}
+use lib.ListN.{length, replicate, length-replicate}
+use Rattle.rows.specs.Branch.{if}
 use Rattle.rows.proofs.Branch.{if-yes}
-use Rattle.fields.specs.Little.{Bytes, getLE}
-use Rattle.fields.specs.Columns.{Field, View, Write, _:=_, assigned, at, width, Has, Sound}
+use Rattle.fields.specs.Columns.{Field, at, width, Has, Sound}
 use Rattle.fields.proofs.Layouts.{length-written, bytes-written}
 use Rattle.plain.specs.Moves.{going, nothing}
 use Rattle.plain.specs.Calls.{Pool}
@@ -20,15 +18,13 @@ use Rattle.control.specs.declared.answer.Answer.the-variants.{Accepted}
 use Rattle.plain.specs.Calls as Plain
 use Rattle.plain.specs.Invariant.{Good}
 use Rattle.plain.proofs.Starts.{start-inv}
-use Rattle.plain.proofs.Always.{call-good}
-use Rattle.control.specs.Layout.{layout, Tasks, Regions, seen, changed, DescriptorNext, RegionNext, Top}
+use Rattle.control.specs.Layout.{layout, Tasks, Regions, seen, DescriptorNext, RegionNext, Top}
 use Rattle.control.proofs.Fields.{seen-changed}
 use Rattle.stepped.specs.Outcome.{effect, refuse}
 use Rattle.stepped.specs.Ranges.{oneTo}
 use Rattle.stepped.specs.Start.{fill, nextUp, startWrites, startImage}
 use Rattle.stepped.specs.Calls as Stepped
 use Rattle.stepped.specs.Events.{Memories, ran, startOn}
-use Rattle.stepped.proofs.Both.{both-true}
 use Rattle.stepped.proofs.Images.{assigned-same, getLE-zeros, zeros, fill-sound, append-sound}
 use Rattle.stepped.proofs.Starts.{zeroed, startView, start-view, at-tasks, at-regions, next-max, start-related}
 use Rattle.stepped.proofs.Views.{views-related}

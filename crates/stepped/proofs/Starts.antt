@@ -1,7 +1,6 @@
 -- The relation after a start, on any bytes.
 -- Assumes nothing.
-use mathlib.Core.Path.{_≡_, refl, sym, ap, subst, _∙_}
-use mathlib.Core.Logic.{_≢_}
+use mathlib.Core.Path.{_≡_, refl, sym, ap, _∙_}
 use mathlib.Core.Bool.{Bool, true, false, cond}
 use mathlib.Core.List.{List, [], _∷_, _++_}
 use Prim.Native.Nat.{ℕ, zero, suc, _+_, _*_, _/_, _%_, _^_, _≤_, _<_}
@@ -13,18 +12,18 @@ use lib.Dec.{eqb}
 use lib.ListN.{length}
 use Rattle.rows.specs.Branch.{if}
 use Rattle.rows.specs.Linked.{Linked, ends, links}
-use Rattle.rows.proofs.Branch.{if-yes, if-no}
-use Rattle.fields.specs.Columns.{Field, View, Write, _:=_, assigned, Has, Sound}
+use Rattle.rows.proofs.Branch.{if-yes}
+use Rattle.fields.specs.Columns.{Field, View, _:=_, assigned}
 use Rattle.words.specs.Head.{itemOf, tagOf}
 use Rattle.words.specs.Mark.{bitAt}
 use Rattle.plain.specs.State.{SPARES, REGIONS}
 use Rattle.plain.specs.Steps.{top}
 use Rattle.plain.specs.Calls.{rising, startMem}
-use Rattle.control.specs.Layout.{layout, Head, Tasks, Regions, DescriptorNext, RegionNext, Top, Marks}
+use Rattle.control.specs.Layout.{Head, Tasks, Regions, DescriptorNext, RegionNext, Top}
 use Rattle.stepped.specs.Start.{fill, nextUp, startWrites}
 use Rattle.stepped.specs.Memory.{memoryOf}
 use Rattle.stepped.specs.Relation.{Related, r-idle}
-use Rattle.stepped.proofs.Images.{assigned-append, filled, past-fill, other-fill, fill-sound}
+use Rattle.stepped.proofs.Images.{assigned-append, filled, other-fill}
 
 -- the view of a memory of zeros
 abbrev pub zeroed : View

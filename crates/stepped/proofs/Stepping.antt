@@ -1,29 +1,27 @@
 -- One step of one task, in both pools, wherever it is in the step list.
 -- Assumes nothing.
-use mathlib.Core.Path.{_≡_, refl, sym, subst}
-use mathlib.Core.Bool.{true, false, cond}
-use mathlib.Core.List.{List, [], _∷_}
-use Prim.Native.Nat.{ℕ, zero, suc, _+_, _≤_, _<_}
+use mathlib.Core.Path.{_≡_, refl}
+use mathlib.Core.List.{List}
+use Prim.Native.Nat.{ℕ, _≤_, _<_}
 use native.Mathlib.Omega.{arith}
-use borrow.Author.Tests.{lt-ltb, ltb-true, ltb-false}
+use borrow.Author.Tests.{lt-ltb, ltb-false}
 use lib.Dec.{ltb}
 use Rattle.fields.specs.Columns.{View}
 use Rattle.links.specs.Link.{link}
-use Rattle.plain.specs.State.{State, EMPTY, Phase, read, next, exchange, Place, popping, pushing, Mem}
+use Rattle.plain.specs.State.{EMPTY, Place, Mem}
 use Rattle.plain.specs.Steps as Steps
 use Rattle.plain.specs.Invariant.{Invariant}
 use Rattle.control.specs.Layout.{TaskPlace, TaskClass}
 use Rattle.control.specs.declared.moves.Pop.the-variants.{Partial, Spare, Region}
 use Rattle.control.specs.declared.moves.Push.the-variants.{Retire, Back, Release, Offer}
-use Rattle.stepped.specs.Outcome.{refuse, bad}
+use Rattle.stepped.specs.Outcome.{refuse}
 use Rattle.stepped.specs.Steps as Stepped
 use Rattle.stepped.specs.Memory.{slotOf, memoryOf}
-use Rattle.stepped.specs.Relation.{PopRelated, PushRelated, PlaceRelated, r-idle, r-a1, r-partial, r-spare, r-region, r-retire, r-back, r-release, r-offer, r-a3-read, r-a3-exchange, r-a4, r-a7, r-a8, r-f1, r-f2, r-f2-more, r-f3-read, r-f3-link, r-f3-exchange, r-f4-clear, Related}
+use Rattle.stepped.specs.Relation.{PlaceRelated, r-idle, r-a1, r-partial, r-spare, r-region, r-retire, r-back, r-release, r-offer, r-a3-read, r-a3-exchange, r-a4, r-a7, r-a8, r-f1, r-f2, r-f2-more, r-f3-read, r-f3-link, r-f3-exchange, r-f4-clear, Related}
 use Rattle.stepped.specs.Events
 use Rattle.stepped.proofs.Both.{Both, Fitting, pass, choose}
 use Rattle.stepped.proofs.Turns.{At}
 use Rattle.stepped.proofs.Begins.{refusal}
-use Rattle.stepped.proofs.Tops as Tops
 use Rattle.stepped.proofs.Pops.{pop-both}
 use Rattle.stepped.proofs.Pushes.{push-both}
 use Rattle.stepped.proofs.Taking.{a1-both}

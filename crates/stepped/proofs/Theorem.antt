@@ -1,34 +1,30 @@
 -- The agreement of the stepped run with the whole run, over every list of events.
 -- Assumes nothing.
-use mathlib.Core.Path.{_≡_, refl, sym, ap, subst, _∙_}
+use mathlib.Core.Path.{_≡_, refl, sym, subst}
 use mathlib.Core.Logic.{_≢_}
-use mathlib.Core.Bool.{Bool, true, false, cond}
 use mathlib.Core.List.{List, [], _∷_}
-use Prim.Native.Nat.{ℕ, zero, suc, _+_, _*_, _/_, _≤_, _<_}
+use Prim.Native.Nat.{ℕ, _/_, _<_}
 use native.Mathlib.Omega.{arith}
-use native.Mathlib.Decide.{ℕ-discrete, decLt}
-use lib.ListN.{length, getD}
-use Rattle.rows.specs.Branch.{if}
+use native.Mathlib.Decide.{ℕ-discrete}
+use lib.ListN.{length}
 use Rattle.fields.specs.Columns.{View}
 use Rattle.links.specs.Link.{link}
-use Rattle.plain.specs.State.{Mem, idle}
+use Rattle.plain.specs.State.{idle}
 use Rattle.plain.specs.Moves.{Answer}
 use Rattle.plain.specs.Steps.{Result}
 use Rattle.plain.specs.Steps as Steps
 use Rattle.plain.specs.Calls.{Pool, unstarted}
 use Rattle.plain.specs.Calls as Plain
-use Rattle.plain.specs.Invariant.{Invariant, Good}
+use Rattle.plain.specs.Invariant.{Good}
 use Rattle.plain.proofs.Starts.{start-inv}
 use Rattle.plain.proofs.Always.{call-good}
-use Rattle.control.specs.Layout.{seen, Regions, TaskPlace}
+use Rattle.control.specs.Layout.{seen, Regions}
 use Rattle.stepped.specs.Outcome.{Outcome}
 use Rattle.stepped.specs.Steps as Stepping₁
 use Rattle.stepped.specs.Calls as Stepped
-use Rattle.stepped.specs.Memory.{memoryOf}
-use Rattle.stepped.specs.Relation.{Related}
 use Rattle.stepped.specs.Events.{Event, start, allocate, free, go, write, Memories, stepped, whole, Taken, Premise, Premises}
-use Rattle.stepped.specs.Agreement.{Agrees, Kept, Unchanged, Untouched, Agree, Unstarted, read}
-use Rattle.stepped.proofs.Both.{Both, Fitting}
+use Rattle.stepped.specs.Agreement.{Agrees, Kept, Unchanged, Untouched, Agree, Unstarted}
+use Rattle.stepped.proofs.Both.{Both}
 use Rattle.stepped.proofs.Turns.{At}
 use Rattle.stepped.proofs.Simulation.{Sim, Alike, fitting, tested-alike, taken-is}
 use Rattle.stepped.proofs.Starting.{start-alike, accepted-start}

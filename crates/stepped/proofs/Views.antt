@@ -1,26 +1,25 @@
 -- The relation speaks of the fields of the layout alone: two views that agree there are related alike.
 -- Assumes nothing.
-use mathlib.Core.Path.{_≡_, refl, sym, ap, subst, fun-ext, _∙_}
+use mathlib.Core.Path.{_≡_, refl, sym, subst, fun-ext}
 use mathlib.Core.List.{List}
-use Prim.Native.Nat.{ℕ, suc, _+_, _*_, _/_, _%_, _≤_, _<_}
+use Prim.Native.Nat.{ℕ, _+_, _*_, _/_, _≤_, _<_}
 use native.Mathlib.Omega.{arith}
 use native.Mathlib.Decide.{decLt}
 use lib.ListN.{length}
 use Rattle.rows.specs.Branch.{if}
 use Rattle.rows.proofs.Linked.{linked-frame}
 use Rattle.fields.specs.Columns.{Field, View, Has}
-use Rattle.words.specs.Head.{headOf, itemOf, tagOf}
+use Rattle.words.specs.Head.{headOf}
 use Rattle.words.specs.Anchor.{anchorOf}
-use Rattle.words.specs.Mark.{bitAt}
 use Rattle.words.specs.declared.anchor.Anchor.{Anchor}
 use Rattle.links.specs.Link.{link}
-use Rattle.plain.specs.State.{Mem, Task, REGIONS}
+use Rattle.plain.specs.State.{Mem, REGIONS}
 use Rattle.plain.specs.Invariant.{Invariant}
 use Rattle.plain.proofs.Places.{taskOf}
 use Rattle.plain.proofs.Turn.{Turn}
 use Rattle.control.specs.Layout
 use Rattle.control.specs.Layout.{layout}
-use Rattle.stepped.specs.Memory.{Slot, Memory, byClass, slotOf, memoryOf}
+use Rattle.stepped.specs.Memory.{Slot, byClass, slotOf, memoryOf}
 use Rattle.stepped.specs.Relation.{DescriptorRelated, SlotRelated, Core, Related}
 use Rattle.stepped.proofs.Frames.{Kept, kept-slot}
 use Rattle.stepped.proofs.Tops.{listed, listed-region, descriptor-in-hand, region-in-hand}

@@ -1,9 +1,9 @@
 -- A user's write, and a link that a step writes: which bytes they leave.
 -- Assumes nothing.
-use mathlib.Core.Path.{_≡_, refl, sym, ap, subst, _∙_}
+use mathlib.Core.Path.{_≡_, refl, ap, subst, _∙_}
 use mathlib.Core.Logic.{_≢_}
 use mathlib.Core.List.{List, [], _∷_}
-use Prim.Native.Nat.{ℕ, zero, suc, pred, _+_, _*_, _/_, _≤_, _<_}
+use Prim.Native.Nat.{ℕ, suc, pred, _+_, _*_, _≤_, _<_}
 use native.Mathlib.Omega.{arith}
 use native.Mathlib.Decide.{ℕ-discrete, decLt}
 use lib.ListN.{length, getD, set, length-set}
@@ -14,7 +14,7 @@ use Rattle.rows.proofs.Totals.{total-one}
 use Rattle.fields.specs.Columns.{View}
 use Rattle.links.specs.Link.{link, withLink, LinkWrite, _⇒_, linked}
 use Rattle.links.proofs.Links.{link-byte, byte-other}
-use Rattle.classes.specs.Classes.{units, block}
+use Rattle.classes.specs.Classes.{block}
 use Rattle.classes.specs.Places.{regionOf, Block}
 use Rattle.classes.proofs.Places.{inside, apart, region-is}
 use Rattle.classes.proofs.Tables.{units-low}
@@ -24,7 +24,7 @@ use Rattle.plain.specs.Weights.{insideWeight, chainWeight, blockWeight}
 use Rattle.plain.specs.Invariant.{Invariant}
 use Rattle.plain.proofs.States.{open-holds}
 use Rattle.plain.proofs.Homes.{inside-open}
-use Rattle.stepped.specs.Memory.{Memory, memoryOf}
+use Rattle.stepped.specs.Memory.{memoryOf}
 use Rattle.stepped.specs.Relation.{Related}
 use Rattle.stepped.proofs.Frames.{kept-slot}
 use Rattle.stepped.proofs.Couple.{Valid, valid, same-class}

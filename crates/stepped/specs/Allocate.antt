@@ -1,11 +1,11 @@
 -- The steps of an allocation that are no list moves: 1, 3, 4, 7 and 8.
 -- Assumes nothing.
 use Prim.Native.Nat.{ℕ, _+_, _-_, _/_, _%_}
-use mathlib.Core.Bool.{Bool, cond, _&&_}
-use mathlib.Core.List.{List, [], _∷_}
+use mathlib.Core.Bool.{cond, _&&_}
+use mathlib.Core.List.{[], _∷_}
 use lib.Dec.{ltb, leb, eqb}
-use Rattle.fields.specs.Columns.{View, Write, _:=_}
-use Rattle.links.specs.Link.{LinkWrite, _⇒_}
+use Rattle.fields.specs.Columns.{View, _:=_}
+use Rattle.links.specs.Link.{_⇒_}
 use Rattle.words.specs.Anchor.{EMPTY, anchorOf, anchorWord, full}
 use Rattle.words.specs.Mark.{withSet}
 use Rattle.classes.specs.Classes.{perRegion}

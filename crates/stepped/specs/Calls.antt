@@ -2,11 +2,11 @@
 -- 6 or 7, then 8, 9 or 10, 11. 14 comes where the bad value is read."
 -- Assumes nothing.
 use Prim.Native.Nat.{ℕ, _*_, _/_, _%_, _-_}
-use mathlib.Core.Bool.{Bool, cond, _&&_}
+use mathlib.Core.Bool.{cond, _&&_}
 use mathlib.Core.List.{List, [], _∷_}
 use lib.Dec.{ltb, leb, eqb}
 use lib.ListN.{length}
-use Rattle.fields.specs.Columns.{View, Write, _:=_}
+use Rattle.fields.specs.Columns.{View, _:=_}
 use Rattle.links.specs.Link
 use Rattle.words.specs.Anchor.{EMPTY, anchorOf}
 use Rattle.words.specs.Mark.{isSet, withClear}
@@ -14,7 +14,7 @@ use Rattle.classes.specs.Sizes.{classOf}
 use Rattle.classes.specs.Places.{regionOf, isFirst}
 use Rattle.plain.specs.Moves.{nothing}
 use Rattle.control.specs.Layout.{Anchor, Marks, TaskUnit, TaskPlace, TaskClass, DescriptorRegion, DescriptorClass, Map, Tasks, Regions, seen}
-use Rattle.control.specs.declared.answer.Answer.the-variants.{Accepted, Refused}
+use Rattle.control.specs.declared.answer.Answer.the-variants.{Accepted}
 use Rattle.stepped.specs.Outcome.{Outcome, refuse, bad, accept, Effect, effect}
 use Rattle.stepped.specs.Ranges.{oneTo, isAnchor}
 use Rattle.stepped.specs.Steps.{step}

@@ -2,7 +2,7 @@
 -- item's next; exchange. Push: read head; write the item's next; exchange. A lost exchange goes back to the head read."
 -- Assumes nothing.
 use Prim.Native.Nat.{ℕ, _+_, _-_}
-use mathlib.Core.Bool.{Bool, cond, _&&_}
+use mathlib.Core.Bool.{cond, _&&_}
 use mathlib.Core.List.{List, [], _∷_}
 use lib.Dec.{ltb, leb, eqb}
 use Rattle.fields.specs.Columns.{Field, View, Write, _:=_}

@@ -1,8 +1,7 @@
 -- What a call makes of the memories that it is lent.
 -- Assumes nothing.
 use Prim.Native.Nat.{ℕ}
-use mathlib.Core.Path.{_≡_}
-use mathlib.Core.List.{List, [], _∷_}
+use mathlib.Core.List.{List, []}
 use Rattle.fields.specs.Columns.{Write}
 use Rattle.links.specs.Link.{LinkWrite, linked}
 use Rattle.plain.specs.Moves.{Decided, nothing}

@@ -6,7 +6,6 @@ use Prim.Native.Nat.{ℕ, _+_}
 use mathlib.Core.Bool.{Bool, cond, _&&_, _||_}
 use lib.Dec.{ltb, leb, eqb}
 use Rattle.words.specs.Anchor.{PARTIAL, isState, anchorOf}
-use Rattle.words.specs.declared.anchor.Anchor.{Anchor}
 use Rattle.classes.specs.Places.{regionOf, isFirst}
 
 -- 1 to most

@@ -10,7 +10,7 @@ ghost use mathlib.Core.Logic.{_≢_};
 ghost use Prim.Native.Nat.{_*_, _≤_, _<_};
 ghost use lib.ListN.{length};
 ghost use Rattle.links.specs.Link.{link};
-ghost use Rattle.control.specs.Layout.{Control, Regions, seen};
+ghost use Rattle.control.specs.Layout.{Control, seen};
 ghost use Rattle.stepped.specs.Done.{Lent, DoneIn, NumberIn};
 ghost use Rattle.stepped.specs.Steps.{stepAt, step as stepOf};
 

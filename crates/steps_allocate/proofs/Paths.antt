@@ -2,10 +2,9 @@
 use mathlib.Core.Path.{_≡_}
 use mathlib.Core.Bool.{true, false}
 use mathlib.Core.List.{List, [], _∷_}
-use Prim.Native.Nat.{ℕ, _+_, _-_, _/_, _%_, _≤_, _<_}
+use Prim.Native.Nat.{ℕ, _-_, _/_, _%_, _≤_, _<_}
 use borrow.Author.Tests.{lt-ltb, le-ltb, le-leb, lt-leb, eq-eqb, ne-eqb}
-use Rattle.fields.specs.Columns.{View, Write, _:=_}
-use Rattle.links.specs.Link.{LinkWrite, _⇒_}
+use Rattle.fields.specs.Columns.{View, _:=_}
 use Rattle.words.specs.Anchor.{anchorOf}
 use Rattle.words.specs.Mark.{withSet}
 use Rattle.classes.specs.Classes.{perRegion}

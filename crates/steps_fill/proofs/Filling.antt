@@ -2,17 +2,17 @@
 -- Assumes nothing.
 use mathlib.Core.Path.{_≡_}
 use mathlib.Core.Bool.{true, false}
-use mathlib.Core.List.{List, [], _∷_}
+use mathlib.Core.List.{[], _∷_}
 use Prim.Native.Nat.{ℕ, _+_, _-_, _*_, _≤_, _<_}
 use borrow.Author.Tests.{lt-ltb, le-ltb, le-leb, lt-leb, eq-eqb, ne-eqb}
-use Rattle.fields.specs.Columns.{View, Write, _:=_}
-use Rattle.links.specs.Link.{LinkWrite, _⇒_}
+use Rattle.fields.specs.Columns.{View, _:=_}
+use Rattle.links.specs.Link.{_⇒_}
 use Rattle.classes.specs.Classes.{units, perRegion}
 use Rattle.classes.specs.Places.{unitOf}
 use Rattle.plain.specs.Moves.{nothing}
 use Rattle.control.specs.Layout.{Anchor, CacheTop, CacheCount, TaskIndex, TaskLeft, TaskPlace, TaskDescriptor, TaskRegion}
 use Rattle.control.specs.Layout.{DescriptorRegion, DescriptorClass, Map}
-use Rattle.stepped.specs.Outcome.{Outcome, bad, accept}
+use Rattle.stepped.specs.Outcome.{bad, accept}
 use Rattle.stepped.specs.Ranges.{isTop}
 use Rattle.stepped.specs.Allocate.{a4, a4Move, a7, a8, a8Put}
 use Rattle.steps_allocate.specs.Anchors.{fullWord}

@@ -1,7 +1,6 @@
 // Step 3: the anchor is read, and the link of the group's last block is written.
 use crate::parts;
 use control::answer::Answer;
-ghost use mathlib.Core.Path.{_≡_};
 ghost use Prim.Native.Nat.{ℕ, _<_};
 ghost use Rattle.links.specs.Link.{link};
 ghost use Rattle.control.specs.Layout.{seen};

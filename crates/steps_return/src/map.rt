@@ -1,6 +1,5 @@
 // Step 4, its first step: the map entry of the group's region is cleared, before the region is pushed.
 use control::answer::Answer;
-ghost use mathlib.Core.Path.{_≡_};
 ghost use Prim.Native.Nat.{ℕ};
 ghost use Rattle.control.specs.Layout.{seen};
 ghost use Rattle.stepped.specs.Done.{Given, Done};

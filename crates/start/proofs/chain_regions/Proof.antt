@@ -1,10 +1,7 @@
 -- The spare regions are chained from the last down.
 -- Assumes nothing.
-use mathlib.Core.Path.{_≡_}
-use mathlib.Core.List.{List, [], _∷_}
-use Prim.Native.Nat.{ℕ, _-_, _≤_, _<_}
+use Prim.Native.Nat.{_-_}
 use native.Mathlib.Omega.{arith}
-use lib.ListN.{length}
 use borrow.Author.Needs.{needs}
 use Rattle.control.specs.Layout.{RegionNext}
 use Rattle.stepped.specs.Start.{nextUp}

@@ -1,6 +1,5 @@
 -- The calls of `image` make the writes of a start, one after the other.
 -- Assumes nothing.
-use mathlib.Core.Path.{_≡_}
 use borrow.Author.Needs.{needs}
 use Rattle.plain.specs.State.{SPARES, REGIONS}
 use Rattle.control.specs.Layout.{Head}

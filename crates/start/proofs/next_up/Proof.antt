@@ -1,11 +1,7 @@
 -- `next_up` is the definition, by its test. Assumes nothing.
-use mathlib.Core.Path.{_≡_}
-use mathlib.Core.Bool.{cond}
-use Prim.Native.Nat.{ℕ, _+_}
-use native.Mathlib.Omega.{arith}
+use Prim.Native.Nat.{_+_}
 use borrow.Author.Needs.{needs}
 use borrow.Author.Tests.{eq-eqb, ne-eqb}
-use Rattle.stepped.specs.Start.{nextUp}
 use Rattle.start.proofs.next_up.Statement.{statement}
 use Rattle.start.proofs.next_up.Tie as tie
 

@@ -1,8 +1,6 @@
 -- One law for each way out. Assumes nothing.
 use mathlib.Core.Path.{refl}
 use native.Mathlib.Omega.{arith}
-use Rattle.ranges.proofs.Passed.{failed, passed}
-use Rattle.ranges.proofs.Ranges.{parts}
 use Rattle.stepped.proofs.Doing.{done, does}
 use Rattle.begins.proofs.Beginning.{no-place, in-hand}
 use Rattle.begins.proofs.Freeing.{no-unit, in-area}

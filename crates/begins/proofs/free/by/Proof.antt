@@ -4,7 +4,6 @@ use native.Mathlib.Omega.{arith}
 use Rattle.ranges.proofs.Passed.{failed, passed}
 use Rattle.ranges.proofs.Ranges.{parts}
 use Rattle.stepped.proofs.Doing.{done, does}
-use Rattle.begins.proofs.Beginning.{no-place, in-hand}
 use Rattle.begins.proofs.Freeing.{outside, other-region, no-anchor, is-empty, is-open}
 use borrow.Author.Needs.{needs}
 use Rattle.begins.proofs.free.by.Statement.{statement}

@@ -2,9 +2,7 @@
 use mathlib.Core.Path.{refl}
 use native.Mathlib.Omega.{arith}
 use Rattle.ranges.proofs.Passed.{failed, passed}
-use Rattle.ranges.proofs.Ranges.{parts}
 use Rattle.stepped.proofs.Doing.{done, does}
-use Rattle.begins.proofs.Beginning.{no-place, in-hand}
 use Rattle.begins.proofs.Freeing.{no-class, no-first, is-first}
 use borrow.Author.Needs.{needs}
 use Rattle.begins.proofs.free.open.Statement.{statement}

@@ -1,8 +1,6 @@
 use borrow.Author.Needs.{needs}
 use Rattle.control.proofs.answer.number.Statement.{statement}
 use Rattle.control.proofs.answer.number.Tie as tie
-use Rattle.control.proofs.answer.number.Reads as reads
-use Rattle.control.proofs.answer.number.Lts as lts
 
 -- src/answer.rt:25:29
 enum-told : tie.Need-enum-told

@@ -1,7 +1,6 @@
 -- The function that is called does the step at the place. Assumes nothing.
 use native.Mathlib.Omega.{arith}
-use mathlib.Core.Path.{ap, _∙_}
-use Prim.Native.Nat.{ℕ, _+_}
+use mathlib.Core.Path.{_∙_}
 use Rattle.stepped.proofs.Doing.{does}
 use Rattle.stepped.proofs.Pushes.{push-steps}
 use Rattle.steps.proofs.Places.{same}
