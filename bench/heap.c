@@ -1,14 +1,18 @@
 /*
  * The same pairs with malloc and free, for orientation: of the C library, or of whatever is loaded before it. A heap is
  * made for other ends than the pool: it has no steps, no bound on one call and no refusals, and it works for threads.
- * A line is workload, contender, measure, value; the contender's name is the argument.
+ *
+ *   heap NAME                  times the workloads; a line is workload, contender, measure, value
+ *   heap NAME WORKLOAD TURNS   so many turns of one workload, to be counted; NAME `none` calls functions that only return
+ *   heap                       the workloads' names, with the pairs of a turn
  */
 #define _POSIX_C_SOURCE 199309L
 #include <stdio.h>
 #include <stdlib.h>
+#include <string.h>
 #include <time.h>
 
-enum { ROUNDS = 150, HOT_PAIRS = 40000, COLD_PAIRS = 128, COLD_TURNS = 300 };
+enum { ROUNDS = 150, WORKLOADS = 4, HOT_PAIRS = 1000, HOT_TURNS = 40, COLD_PAIRS = 128, COLD_TURNS = 300 };
 
 static void *blocks[COLD_PAIRS];
 
@@ -22,27 +26,65 @@ static double now(void)
 /* The compiler must not see that the block is not used. */
 static void *volatile seen;
 
-static double hot(size_t size)
+/* Called through pointers, so that the loop alone can be counted. */
+static void *(*allocate)(size_t) = malloc;
+static void (*release)(void *) = free;
+
+static void *no_block(size_t size)
 {
-    double from = now();
+    (void)size;
+    return blocks;
+}
+
+static void no_release(void *block)
+{
+    (void)block;
+}
+
+static void hot(size_t size)
+{
     for (unsigned i = 0; i < HOT_PAIRS; i++) {
-        seen = malloc(size);
-        free(seen);
+        seen = allocate(size);
+        release(seen);
     }
-    return (now() - from) / HOT_PAIRS;
 }
 
 /* All blocks, then all frees, alternately from the first half and the second if so asked. */
-static double cold(size_t size, int alternately)
+static void cold(size_t size, int alternately)
 {
-    double from = now();
-    for (unsigned turn = 0; turn < COLD_TURNS; turn++) {
-        for (unsigned i = 0; i < COLD_PAIRS; i++)
-            blocks[i] = malloc(size);
-        for (unsigned i = 0; i < COLD_PAIRS; i++)
-            free(blocks[alternately ? i % 2 * (COLD_PAIRS / 2) + i / 2 : i]);
+    for (unsigned i = 0; i < COLD_PAIRS; i++)
+        blocks[i] = allocate(size);
+    for (unsigned i = 0; i < COLD_PAIRS; i++)
+        release(blocks[alternately ? i % 2 * (COLD_PAIRS / 2) + i / 2 : i]);
+}
+
+static const char *const NAMES[WORKLOADS] = {"hot pair of 64 bytes", "hot pair of 24 bytes", "cold pair, carving",
+                                             "cold pair, chains"};
+
+static unsigned pairs(unsigned workload)
+{
+    return workload < 2 ? HOT_PAIRS : COLD_PAIRS;
+}
+
+static void turns(unsigned workload, unsigned count)
+{
+    for (unsigned i = 0; i < count; i++) {
+        switch (workload) {
+        case 0: hot(64); break;
+        case 1: hot(24); break;
+        case 2: cold(64, 0); break;
+        default: cold(64, 1); break;
+        }
     }
-    return (now() - from) / COLD_TURNS / COLD_PAIRS;
+}
+
+/* Nanoseconds of a pair. */
+static double timed(unsigned workload)
+{
+    unsigned count = workload < 2 ? HOT_TURNS : COLD_TURNS;
+    double from = now();
+    turns(workload, count);
+    return (now() - from) / count / pairs(workload);
 }
 
 static double least(double a, double b)
@@ -50,19 +92,29 @@ static double least(double a, double b)
     return a == 0 || b < a ? b : a;
 }
 
+static void times(const char *name)
+{
+    double best[WORKLOADS] = {0, 0, 0, 0};
+    for (unsigned round = 0; round < ROUNDS; round++)
+        for (unsigned workload = 0; workload < WORKLOADS; workload++)
+            best[workload] = least(best[workload], timed(workload));
+    for (unsigned workload = 0; workload < WORKLOADS; workload++)
+        printf("%s\t%s\tns\t%.1f\n", NAMES[workload], name, best[workload]);
+}
+
 int main(int count, char **arguments)
 {
-    const char *name = count == 2 ? arguments[1] : "malloc";
-    double best[4] = {0, 0, 0, 0};
-    for (unsigned round = 0; round < ROUNDS; round++) {
-        best[0] = least(best[0], hot(64));
-        best[1] = least(best[1], hot(24));
-        best[2] = least(best[2], cold(64, 0));
-        best[3] = least(best[3], cold(64, 1));
+    if (count == 4) {
+        if (strcmp(arguments[1], "none") == 0) {
+            allocate = no_block;
+            release = no_release;
+        }
+        turns((unsigned)atoi(arguments[2]), (unsigned)atoi(arguments[3]));
+    } else if (count == 2) {
+        times(arguments[1]);
+    } else {
+        for (unsigned workload = 0; workload < WORKLOADS; workload++)
+            printf("%s\t%u\t%u\n", NAMES[workload], workload, pairs(workload));
     }
-    printf("hot pair of 64 bytes\t%s\tns\t%.1f\n", name, best[0]);
-    printf("hot pair of 24 bytes\t%s\tns\t%.1f\n", name, best[1]);
-    printf("cold pair, carving\t%s\tns\t%.1f\n", name, best[2]);
-    printf("cold pair, chains\t%s\tns\t%.1f\n", name, best[3]);
     return 0;
 }

@@ -36,13 +36,18 @@ END {
             ratio(order[i], pool[3], measure[i])
 
     line = "%-42s %9s %9s %9s %9s %8s %8s %8s\n"
-    printf "\n" line, "for orientation, ns", "library", "glibc", "jemalloc", "mimalloc", "library", "library", "library"
-    printf line, "", "", "", "", "", "by glibc", "by jem.", "by mim."
-    for (i = 1; i <= rows; i++)
-        if (measure[i] == "ns" && (order[i], "glibc", "ns") in value)
-            printf line, order[i], shown(order[i], pool[1], "ns"), shown(order[i], heap[1], "ns"),
-                shown(order[i], heap[2], "ns"), shown(order[i], heap[3], "ns"), ratio(order[i], heap[1], "ns"),
-                ratio(order[i], heap[2], "ns"), ratio(order[i], heap[3], "ns")
+    whats = split("instructions|ns", what, "|")
+    for (w = 1; w <= whats; w++) {
+        printf "\n" line, "for orientation, " what[w], "library", "glibc", "jemalloc", "mimalloc", "library", "library",
+            "library"
+        printf line, "", "", "", "", "", "by glibc", "by jem.", "by mim."
+        for (i = 1; i <= rows; i++)
+            if (measure[i] == what[w] && (order[i], "glibc", what[w]) in value)
+                printf line, order[i], shown(order[i], pool[1], what[w]), shown(order[i], heap[1], what[w]),
+                    shown(order[i], heap[2], what[w]), shown(order[i], heap[3], what[w]),
+                    ratio(order[i], heap[1], what[w]), ratio(order[i], heap[2], what[w]),
+                    ratio(order[i], heap[3], what[w])
+    }
     for (i = 2; i <= heaps; i++)
         if (!(("hot pair of 64 bytes", heap[i], "ns") in value))
             printf "%s is not installed\n", heap[i]

@@ -154,7 +154,9 @@ fn once(options: &Options, checks: &mut Checks) {
     stand_test::by_itself(checks);
     match &options.stand {
         Some(program) => stand_test::against_program(program, options.seed, checks),
-        None => println!("skipped: the stand program has not been built, so its output is not compared"),
+        None => {
+            let _ = checks.agree("the stand's program is there", Err("no --stand PROGRAM".to_string()));
+        }
     }
 }
 

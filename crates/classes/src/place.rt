@@ -30,8 +30,8 @@ pub fn index_of(class: usize, unit: usize) -> usize
     unit % 512 / table::units(class)
 }
 
-// Whether a unit is the first of a block of the class. Callers have the class of the unit's region, or of the
-// cache: the beginning of a free, and the steps that take a block out of a cache.
+// Whether a unit is the first of a block of the class. Callers have the class of the unit's region, or of the cache: the
+// beginning of a free, and the steps that take a block from a cache or put one on it.
 pub fn is_first(class: usize, unit: usize) -> bool
     requires { ⌜ class < 16 ⌝ }
     ensures { λ r. ⌜ r ≡ isFirst class unit ⌝ }

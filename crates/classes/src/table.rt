@@ -5,8 +5,8 @@ ghost use Prim.Native.Nat.{_<_};
 ghost use Rattle.classes.specs.Classes.{units, perRegion};
 ghost use Rattle.classes.specs.Factors.{Factor};
 
-// The units of a block of the class. Callers have the class from a size, or from a descriptor, where they have
-// tested it: the beginning of a free, carving, and the links of a chain.
+// The units of a block of the class. Callers have the class of a request, which its step has tested: `first_unit`, `index_of`,
+// and the steps that name a block by its index.
 pub fn units(class: usize) -> usize
     requires { ⌜ class < 16 ⌝ }
     ensures { λ r. ⌜ r ≡ units class ⌝ }
@@ -31,8 +31,8 @@ pub fn units(class: usize) -> usize
     }
 }
 
-// How many blocks of the class a region has, n. Callers have the class as those of `units` do: the beginning
-// of a free, carving, and the steps that compare the count of a cache or an anchor with n.
+// How many blocks of the class a region has, n. Callers have the class as those of `units` do: the steps that compare an index,
+// or the count of a cache, a group or an anchor, with n.
 pub fn per_region(class: usize) -> usize
     requires { ⌜ class < 16 ⌝ }
     ensures { λ r. ⌜ r ≡ perRegion class ⌝ }
@@ -58,7 +58,7 @@ pub fn per_region(class: usize) -> usize
 }
 
 // A number that tells the first units of the class's blocks by one product, without a division. Any with its property
-// would do; docs/DECISIONS.md says how these were found. Callers have the class as those of `units` do: `is_first`.
+// would do; docs/DECISIONS.md says how these were found. Caller: `is_first`.
 pub fn factor(class: usize) -> usize
     requires { ⌜ class < 16 ⌝ }
     ensures { λ r. ⌜ Factor class r ⌝ }

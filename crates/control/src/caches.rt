@@ -4,7 +4,7 @@ ghost use mathlib.Core.Path.{_≡_};
 ghost use mathlib.Core.List.{[], _∷_};
 ghost use Prim.Native.Nat.{_<_};
 ghost use Rattle.fields.specs.Columns.{_:=_};
-ghost use Rattle.control.specs.Layout.{Control, seen, changed, CacheTop, CacheCount};
+ghost use Rattle.control.specs.Layout.{Control, seen, changed, Top, CacheTop, CacheCount};
 
 // The top block of a task's cache of a class: its unit, 8,192 for none.
 pub fn cache_top(c: &[u8], task: usize, class: usize) -> u16
@@ -19,6 +19,15 @@ pub fn set_cache_top(c: &mut [u8], task: usize, class: usize, value: u16)
     ensures { λ r. ⌜ now (c .exit) ≡ changed (CacheTop task class := value ∷ []) (now (c .entry)) ⌝ }
 {
     fields::store16(c, 4992 + (16 * task + class) * 2, value);
+}
+
+// The top block of the cache at an index: 16 caches of each task, one after the other. The caller is a start, which stores them
+// in a row.
+pub fn set_top(c: &mut [u8], index: usize, value: u16)
+    requires { ⌜ Control (now c) × (index < 128) ⌝ }
+    ensures { λ r. ⌜ now (c .exit) ≡ changed (Top index := value ∷ []) (now (c .entry)) ⌝ }
+{
+    fields::store16(c, 4992 + index * 2, value);
 }
 
 // How many blocks that cache has.

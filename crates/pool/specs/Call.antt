@@ -40,7 +40,7 @@ Ensures k control area control′ area′ r = CallIs (effectOf k control area) c
 abbrev pub Refusal : ℕ → Type 0
 Refusal r = (1 ≤ r) × (r ≤ 14) × (r ≢ 12) × (r ≢ 13)
 
--- "12 and 13 .. are a request's end", as 20 is, which "finished" it.
+-- "12 and 13 .. are a request's end", and so is "20 finished"
 abbrev pub Ended : ℕ → Type 0
 Ended r = (r ≡ 12) ⊎ ((r ≡ 13) ⊎ (r % 256 ≡ 20))
 

@@ -7,7 +7,7 @@ ghost use Prim.Native.Nat.{_<_};
 ghost use Rattle.stepped.specs.Ranges.{isBlock, isTop, isAnchor, hasChain, hasFirst, hasRoom};
 
 // Whether a unit is the first of a block of the class in an area of so many regions. Callers have the class of the
-// request: the steps that take a block from a cache.
+// request: the steps that take a block from a cache or put one on it.
 pub fn is_block(regions: usize, class: usize, unit: usize) -> bool
     requires { ⌜ class < 16 ⌝ }
     ensures { λ r. ⌜ r ≡ isBlock regions class unit ⌝ }

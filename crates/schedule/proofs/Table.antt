@@ -1,6 +1,6 @@
 -- The table of a schedule: the stand on bytes writes the lines and the totals of the stand over the plain pool.
 -- Assumes nothing.
-use Prim.Native.Nat.{ℕ, zero, suc, _+_, _*_, _/_, _%_, _-_, _≤_, _<_}
+use Prim.Native.Nat.{ℕ, zero, suc, _+_, _*_, _%_, _-_, _≤_, _<_}
 use mathlib.Core.Path.{_≡_, refl, sym, ap, _∙_}
 use mathlib.Core.List.{List, _∷_}
 use native.Mathlib.Omega.{arith}
@@ -21,9 +21,9 @@ use Rattle.schedule.specs.declared.record.Record.{Record}
 use Rattle.schedule.specs.declared.record.Record.the-variants.{Start, Allocate, Free, Step, Run, Bad}
 use Rattle.schedule.specs.declared.tally.Tally.{Tally}
 use Rattle.schedule.specs.declared.treat.Line.{Line}
-use Rattle.schedule.specs.Records.{wideOf, recordAt, endOf}
+use Rattle.schedule.specs.Records.{wideOf, recordAt, entryAt, endOf}
 use Rattle.schedule.specs.Tally.{none, counted}
-use Rattle.schedule.specs.Stand.{Request, start, allocate, free, step, runs, treated, table}
+use Rattle.schedule.specs.Stand.{Request, start, allocate, free, step, lineOf, runs, treated, table}
 use Rattle.schedule.specs.Bytes.{zeros, onBytes}
 use Rattle.schedule.specs.Plain.{onPlain}
 use Rattle.schedule.proofs.Beside.{Beside, later, Same, same-allocate, same-free, same-step}
@@ -136,8 +136,7 @@ module _ (input : List ℕ) (bytes : Bytes input) (long : length input ≤ 65536
           let S = same-treated r (F .most) B (omega (arith, l, g, long)) in
           let x = treated onBytes r s in
           let z = treated onPlain r p in
-          let row : ℕ → List Line × Tally → List Line × Tally =
-          λ m w. (record { number = n; kind = getD input at 0; code = m % 256; value = m / 256 } ∷ w .0, w .1) in
+          let row : ℕ → List Line × Tally → List Line × Tally = λ m w. (lineOf (entryAt input at n) m ∷ w .0, w .1) in
           rw (lt-ltb at (length input) g)
           (ap (λ (m : ℕ). row m (table onBytes f input next (n + 1) (counted y (m % 256)) (x .0))) (S .number)
           ∙ ap (row (z .1)) (rest next (counted y (z .1 % 256)) (x .0) (z .0) (F .to) (omega (arith, l, F .from)) (S .beside)))

@@ -20,6 +20,10 @@ pub data Request : Type 0 where
   free : (task unit : ℕ) → Request
   step : (task : ℕ) → Request
 
+-- "each line, in decimal: record from 0, kind byte, code, value", for the answer r: the code, and 256 times the value
+abbrev pub lineOf : Entry → ℕ → Line
+lineOf e r = record { number = e .number; kind = e .kind; code = r % 256; value = r / 256 }
+
 -- a pool: its state, and what a request makes of it, with the answer: the code, and 256 times the value
 module _ {S : Type 0} (call : Request → S → S × ℕ) where
   -- "run (task, most steps ..), which stops at a finish, an end or a refusal (most 0: code 0, no call made)"; "A run shows its last
@@ -37,11 +41,9 @@ module _ {S : Type 0} (call : Request → S → S × ℕ) where
   treated (Run t most) s = runs 0 t most s
   treated Bad s = (s, 15)
 
-  -- "each line, in decimal: record from 0, kind byte, code, value": what a record does, and its line
+  -- what a record does, and its line
   abbrev pub shown : Entry → S → S × Line
-  shown e s =
-      let x = treated (e .body) s in
-      (x .0, record { number = e .number; kind = e .kind; code = x .1 % 256; value = x .1 / 256 })
+  shown e s = let x = treated (e .body) s in (x .0, lineOf e (x .1))
 
   -- the lines from the record at the byte `at` on, which is the record n, and the tally at the end; no more than f records
   unfoldable pub table : ℕ → List ℕ → ℕ → ℕ → Tally → S → List Line × Tally

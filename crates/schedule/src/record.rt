@@ -1,8 +1,7 @@
 // The records of a schedule: "one byte of kind, then a body".
 ghost use mathlib.Core.Path.{_≡_};
 ghost use Prim.Native.Nat.{_+_, _≤_, _<_};
-ghost use lib.ListN.{length};
-ghost use lib.ListN.{getD};
+ghost use lib.ListN.{length, getD};
 ghost use Rattle.fields.specs.Little.{getLE};
 ghost use Rattle.schedule.specs.Records.{wideOf, recordAt, entryAt, endOf};
 
@@ -89,11 +88,11 @@ pub fn numbered(input: &[u8], at: usize, number: u64) -> Entry
 }
 
 // Where the next record begins; a bad one ends the schedule, whose length is `end`.
-pub fn end(entry: Record, at: usize, end: usize) -> usize
+pub fn end(body: Record, at: usize, end: usize) -> usize
     requires { ⌜ at ≤ 65536 ⌝ }
-    ensures { λ r. ⌜ r ≡ endOf entry at end ⌝ }
+    ensures { λ r. ⌜ r ≡ endOf body at end ⌝ }
 {
-    match entry {
+    match body {
         Record::Start(_, _) => at + 3,
         Record::Allocate(_, _) => at + 4,
         Record::Free(_, _) => at + 4,

@@ -32,11 +32,11 @@ fn run(control: &mut [u8], area: &mut [u8], task: u8, most: u16) -> u64
 }
 
 // What a record does to the two memories, and what it answers: the code, and 256 times the value.
-pub fn treat(control: &mut [u8], area: &mut [u8], entry: Record) -> u64
+pub fn treat(control: &mut [u8], area: &mut [u8], body: Record) -> u64
     requires { ⌜ Kept (now control) (now area) ⌝ }
-    ensures { λ r. ⌜ Does (treated onBytes entry) (now (control .entry)) (now (area .entry)) (now (control .exit)) (now (area .exit)) r ⌝ }
+    ensures { λ r. ⌜ Does (treated onBytes body) (now (control .entry)) (now (area .entry)) (now (control .exit)) (now (area .exit)) r ⌝ }
 {
-    match entry {
+    match body {
         Record::Start(tasks, regions) => lend::start(control, area, tasks, regions),
         Record::Allocate(task, size) => lend::allocate(control, area, task, size),
         Record::Free(task, unit) => lend::free(control, area, task, unit),

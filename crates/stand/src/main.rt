@@ -1,14 +1,12 @@
 // The stand: it reads a schedule from standard input and writes its table to standard output. This program only reads, calls
 // and writes; it reads no more than the 65,536 bytes of its buffer.
-mod table;
-
 use libc::STDIN_FILENO;
 use libc::STDOUT_FILENO;
 ghost use mathlib.Core.Path.{_≡_};
 ghost use Prim.Native.Nat.{_≤_};
 ghost use lib.ListN.{length};
 ghost use Rattle.text.specs.Numbers.{Appended};
-ghost use Rattle.stand.specs.Output.{plainOutput};
+ghost use Rattle.table.specs.Output.{plainOutput};
 
 // Zeros for the table of the longest input.
 fn room() -> [u8; 2293888]

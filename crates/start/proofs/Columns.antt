@@ -1,13 +1,13 @@
 -- The image of a start, column by column. Assumes nothing.
 use mathlib.Core.Path.{_≡_, refl, sym, ap, _∙_}
 use mathlib.Core.List.{List, [], _∷_, _++_}
-use Prim.Native.Nat.{ℕ, suc, _+_, _-_, _/_, _%_, _≤_, _<_}
+use Prim.Native.Nat.{ℕ, suc, _+_, _-_, _≤_, _<_}
 use native.Mathlib.Omega.{arith}
 use lib.ListN.{length, drop, replicate, drop-of-length-le}
 use Rattle.fields.specs.Columns.{Field, Write, _:=_}
 use Rattle.fields.proofs.Layouts.{length-written}
 use Rattle.plain.specs.State.{SPARES, REGIONS}
-use Rattle.control.specs.Layout.{layout, changed, Head, Tasks, Regions, DescriptorNext, RegionNext, Top, CacheTop}
+use Rattle.control.specs.Layout.{layout, changed, Head, Tasks, Regions, DescriptorNext, RegionNext, Top}
 use Rattle.stepped.specs.Start.{fill, nextUp, startWrites, startImage}
 use Rattle.start.specs.Filled.{filled}
 
@@ -23,10 +23,6 @@ filled-all n v d l = ap (λ (x : List ℕ). replicate n v ++ x) (drop-of-length-
 pub changed-append : (ws us : List Write) (b : List ℕ) → changed (ws ++ us) b ≡ changed us (changed ws b)
 changed-append [] us b = refl
 changed-append (f := x ∷ ws) us b = changed-append ws us (changed (f := x ∷ []) b)
-
--- the caches in one row
-pub top-at : (i : ℕ) → CacheTop (i / 16) (i % 16) ≡ Top i
-top-at i = ap Top (omega arith)
 
 -- ---- a column that is filled from its last field down
 

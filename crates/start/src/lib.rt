@@ -61,7 +61,7 @@ fn empty_caches(control: &mut [u8])
     let mut i: usize = 128;
     while 0 < i {
         i -= 1;
-        caches::set_cache_top(control, i / 16, i % 16, 8192);
+        caches::set_top(control, i, 8192);
     }
 }
 

@@ -1,13 +1,13 @@
 -- Every write of a list move is to a field of the layout, and its value fits there, whatever the two memories hold.
 -- Assumes nothing.
-use Prim.Native.Nat.{ℕ, _+_, _-_, _^_, _≤_, _<_}
+use Prim.Native.Nat.{ℕ, _+_, _-_, _≤_, _<_}
 use mathlib.Core.Path.{_≡_}
 use mathlib.Core.Bool.{Bool, true, cond, _&&_}
 use mathlib.Core.List.{List, [], _∷_}
 use native.Mathlib.Omega.{arith}
 use borrow.Author.Tests.{leb-true, ltb-true}
 use lib.Dec.{eqb, leb, ltb}
-use Rattle.fields.specs.Columns.{Field, View, Write, _:=_, Has, Sound, width}
+use Rattle.fields.specs.Columns.{View, Write, _:=_, Sound}
 use Rattle.words.specs.Head.{itemOf}
 use Rattle.words.specs.Anchor.{FULL, isState}
 use Rattle.words.proofs.Heads.{advancedWord-below}

@@ -108,7 +108,7 @@ module _ (area : ℕ) (link : ℕ → ℕ) (t : ℕ) (b : List ℕ) (bytes : Byt
   abbrev o : Outcome
   o = Calls.stepOutcome (length b) area (seen b) link t
 
-  -- where the tests pass, each field holds what the outcome writes to it, or what it held
+  -- each field of the layout holds what the outcome writes to it, or what it held; and any field, where a test of the call fails
   pub step-seen : (g : Field) → (Tested (length b) area (seen b) t → Has layout g) → seen (changed (o .writes) b) g ≡ assigned (o .writes) (seen b) g
   unfolding Calls.stepOutcome
   step-seen g has =

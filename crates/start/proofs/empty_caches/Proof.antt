@@ -1,13 +1,11 @@
 -- The caches are emptied from the last down.
 -- Assumes nothing.
-use mathlib.Core.Path.{refl, ap, _∙_}
-use mathlib.Core.List.{[], _∷_}
+use mathlib.Core.Path.{refl}
 use Prim.Native.Nat.{_-_}
 use native.Mathlib.Omega.{arith}
 use borrow.Author.Needs.{needs}
-use Rattle.fields.specs.Columns.{Field, _:=_}
-use Rattle.control.specs.Layout.{changed, Top}
-use Rattle.start.proofs.Columns.{Filling, filling-begins, filling-goes, filling-ends, top-at}
+use Rattle.control.specs.Layout.{Top}
+use Rattle.start.proofs.Columns.{Filling, filling-begins, filling-goes, filling-ends}
 use Rattle.start.proofs.empty_caches.Statement.{statement}
 use Rattle.start.proofs.empty_caches.Tie as tie
 
@@ -21,8 +19,7 @@ loop-again : tie.Need-loop-again Inv-loop μ-loop
 loop-again c =
     let turn = c .before .before in
     let at-loop = turn .before .before .before in
-    filling-goes {y = 8192} (at-loop .loop .inv) (omega arith) refl
-    (turn .set-cache-top .ensures ∙ ap (λ (f : Field). changed (f := 8192 ∷ []) (at-loop .loop .control)) (top-at (at-loop .loop .i - 1)))
+    filling-goes {y = 8192} (at-loop .loop .inv) (omega arith) refl (turn .set-top .ensures)
 
 pub empty-caches-spec : {M : Type 1} → statement M
 empty-caches-spec =

@@ -6,27 +6,27 @@ use Rattle.schedule.proofs.treat.treat.Tie as tie
 returns : tie.Need-returns
 returns c =
     let called = c .before .before .before .before in
-    rw (called .before .before .before .before .entry .given .1) (called .start .ensures)
+    rw (called .before .before .before .before .body .given .1) (called .start .ensures)
 
 returns-2 : tie.Need-returns-2
 returns-2 c =
     let called = c .before .before .before .before in
-    rw (called .before .before .before .before .entry2 .given .1) (called .allocate .ensures)
+    rw (called .before .before .before .before .body2 .given .1) (called .allocate .ensures)
 
 returns-3 : tie.Need-returns-3
 returns-3 c =
     let called = c .before .before .before .before in
-    rw (called .before .before .before .before .entry3 .given .1) (called .free .ensures)
+    rw (called .before .before .before .before .body3 .given .1) (called .free .ensures)
 
 returns-4 : tie.Need-returns-4
 returns-4 c =
     let called = c .before .before .before .before in
-    rw (called .before .before .before .before .entry4 .given .1) (called .step .ensures)
+    rw (called .before .before .before .before .body4 .given .1) (called .step .ensures)
 
 returns-5 : tie.Need-returns-5
 returns-5 c =
     let called = c .before .before .before .before in
-    rw (called .before .before .before .before .entry5 .given .1) (called .run .ensures)
+    rw (called .before .before .before .before .body5 .given .1) (called .run .ensures)
 
 pub treat-spec : {M : Type 1} → statement M
 treat-spec =

@@ -6,9 +6,9 @@ use lib.ListN.{length}
 use borrow.Author.Needs.{needs}
 use borrow.Rule.Slice.PartMut.{mid-len}
 use Rattle.text.proofs.Writing.{at-part}
-use Rattle.stand.proofs.Playing.{Ahead, begins, short, goes-on, ends, further}
-use Rattle.stand.proofs.table.write.Statement.{statement}
-use Rattle.stand.proofs.table.write.Tie as tie
+use Rattle.table.proofs.Playing.{Ahead, begins, short, goes-on, ends, further}
+use Rattle.table.proofs.write.Statement.{statement}
+use Rattle.table.proofs.write.Tie as tie
 
 abbrev Inv-loop : tie.InvT-loop
 Inv-loop control₀ area₀ input out₀ used₀ counts₀ number₀ at₀ control area out used counts number at =

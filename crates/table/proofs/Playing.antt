@@ -20,7 +20,7 @@ use Rattle.schedule.specs.Bytes.{onBytes, Does}
 use Rattle.text.specs.Numbers.{Appended}
 use Rattle.text.specs.Lines.{columnsText, lineText, totalText}
 use Rattle.text.proofs.Digits.{short-line}
-use Rattle.stand.specs.Output.{rowsText, tableText, output}
+use Rattle.table.specs.Output.{rowsText, tableText, output}
 
 -- the next record begins at least one byte further
 pub further : (r : Record) (at end : ℕ) → at < end → at < endOf r at end

@@ -6,7 +6,7 @@ ghost use Prim.Native.Nat.{_≤_};
 ghost use lib.ListN.{length};
 ghost use Rattle.schedule.specs.Bytes.{Kept};
 ghost use Rattle.text.specs.Numbers.{Appended};
-ghost use Rattle.stand.specs.Output.{output};
+ghost use Rattle.table.specs.Output.{output};
 
 // Has the records treated one after the other, and puts the table's text at the start of `out`. A line has at most 35 bytes
 // and its record at least one, so that the lines of 65,536 bytes of records fit into 65,536 * 35 bytes; the first and the

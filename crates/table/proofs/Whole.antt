@@ -7,7 +7,7 @@ use Rattle.fields.specs.Little.{Bytes}
 use Rattle.schedule.specs.Bytes.{zeros}
 use Rattle.schedule.proofs.Table.{stand-table}
 use Rattle.text.specs.Numbers.{Appended}
-use Rattle.stand.specs.Output.{tableText, output, plainOutput}
+use Rattle.table.specs.Output.{tableText, output, plainOutput}
 
 -- From memories that are zero, on every input of at most 65,536 bytes, the output is that of the plain pool fed the same records.
 pub output-is-plain : (input : List ℕ) → Bytes input → length input ≤ 65536 → output input zeros ≡ plainOutput input

@@ -1,3 +1,0 @@
--- Laws of the stand's program.
-pub mod Playing
-pub mod Whole

@@ -1,2 +1,0 @@
--- Definitions of the stand's program.
-pub mod Output

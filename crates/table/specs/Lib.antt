@@ -1,0 +1,2 @@
+-- Definitions of the table's text.
+pub mod Output
