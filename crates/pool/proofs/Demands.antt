@@ -6,7 +6,7 @@ use mathlib.Core.Path.{_≡_, refl, sym, ap, subst, _∙_}
 use mathlib.Core.Logic.{_↔_, _⊎_, ⊎-elim, inl, inr}
 use mathlib.Core.Bool.{true, false≢true}
 use mathlib.Core.List.{List, [], _∷_}
-use Prim.Native.Nat.{ℕ, _%_}
+use Prim.Native.Nat.{ℕ, _%_, _<_}
 use borrow.Author.Tests.{eq-eqb, le-leb}
 use lib.Dec.{ltb, eqb}
 use lib.ListN.{length}
@@ -29,9 +29,9 @@ use Rattle.stepped.specs.Events as Events
 use Rattle.stepped.specs.Agreement.{Unstarted, Agree, Agrees, Unchanged, Untouched}
 use Rattle.stepped.proofs.Ways.{tests, branch}
 use Rattle.stepped.proofs.Ends.{start-ends, allocate-ends, step-ends, allocate-leaves, free-leaves, go-leaves, smallest-class, no-descriptor, no-region, put-back}
-use Rattle.stepped.proofs.SoundSteps.{step-place}
+use Rattle.stepped.proofs.SoundCalls.{step-place, step-others, allocate-others, free-others}
 use Rattle.stepped.proofs.Theorem.{agreement, agreement-from-start}
-use Rattle.pool.specs.Call.{Call, start, allocate, free, step, effectOf, Refusal, Ended, Begun}
+use Rattle.pool.specs.Call.{Call, start, allocate, free, step, effectOf, Refusal, Ended, OfAnother, Begun}
 use Rattle.pool.specs.Tests.{firstFailed, startTests, allocateTests, freeTests, stepTests}
 use Rattle.pool.specs.Runs.{Act, own, other, write, Contract, Happens, Run, after, eventOf, event, events, Answered, OtherLeft, Tells, Told}
 use Rattle.pool.proofs.Numbers.{refused, accepted, ends-told, end-told}
@@ -178,6 +178,21 @@ module _ (lent left : Memories) (r : ℕ) where
       ends-idle h =
           let E = step-ends control area (seen (lent .control)) (link (lent .area)) t in
           left-place ∙ E .idle (end-told (o .answer) (E .answers) (subst Ended answer-number h))
+
+-- No call of another task moves a task: between two of its own calls it is where it was, until the next start.
+pub others-stay : (k : Call) (lent left : Memories) (r : ℕ) → Contract k lent left r → Bytes (lent .control)
+    → (u : ℕ) → u < 8 → OfAnother u k → seen (left .control) (TaskPlace u) ≡ seen (lent .control) (TaskPlace u)
+unfolding Calls.go Calls.allocate Calls.free
+others-stay (start tasks) lent left r C bytes u h n = absurd n
+others-stay (allocate t size) lent left r C bytes u h n =
+    ap (λ (b : List ℕ). seen b (TaskPlace u)) (C .control-is)
+    ∙ allocate-others n (length (lent .area)) (lent .control) bytes h size
+others-stay (free t unit) lent left r C bytes u h n =
+    ap (λ (b : List ℕ). seen b (TaskPlace u)) (C .control-is)
+    ∙ free-others n (length (lent .area)) (lent .control) bytes h unit
+others-stay (step t) lent left r C bytes u h n =
+    ap (λ (b : List ℕ). seen b (TaskPlace u)) (C .control-is)
+    ∙ step-others n (length (lent .area)) (lent .control) bytes h (link (lent .area))
 
 -- ---- demand 3
 

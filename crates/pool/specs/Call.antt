@@ -44,6 +44,13 @@ Refusal r = (1 ≤ r) × (r ≤ 14) × (r ≢ 12) × (r ≢ 13)
 abbrev pub Ended : ℕ → Type 0
 Ended r = (r ≡ 12) ⊎ ((r ≡ 13) ⊎ (r % 256 ≡ 20))
 
+-- a call of another task than u; a start is a call of none
+abbrev pub OfAnother : ℕ → Call → Type 0
+OfAnother u (start tasks) = ⊥
+OfAnother u (allocate t size) = u ≢ t
+OfAnother u (free t unit) = u ≢ t
+OfAnother u (step t) = u ≢ t
+
 -- "A size gets the smallest class that holds it": the beginning of an allocation has set the task's place and its class, the
 -- smallest whose block holds the size, and changed no other byte.
 pub record Begun (t size : ℕ) (control area control′ area′ : List ℕ) : Type 0 where

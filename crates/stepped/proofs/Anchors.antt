@@ -42,7 +42,8 @@ use Rattle.stepped.specs.Outcome.{accept}
 use Rattle.stepped.specs.Allocate as Allocate
 use Rattle.stepped.specs.Memory.{slotOf, memoryOf}
 use Rattle.stepped.specs.Relation.{PushRelated, NoteRelated, ChainRelated, r-retire, r-a3-read, r-a3-exchange, r-a4}
-use Rattle.stepped.proofs.Sets.{toPlace, toAnchor, toChain, setAnchor}
+use Rattle.stepped.proofs.Slots.{toPlace, toAnchor, toChain}
+use Rattle.stepped.proofs.Sets.{setAnchor}
 use Rattle.stepped.proofs.Bridge.{withSlots, anchor-written}
 use Rattle.stepped.proofs.Tops.{first-of, descriptor-in-hand}
 use Rattle.stepped.proofs.Couple.{mine}

@@ -34,7 +34,8 @@ use Rattle.stepped.specs.Calls as Stepped
 use Rattle.stepped.specs.Memory.{Slot, Memory, slotOf, memoryOf}
 use Rattle.stepped.specs.Relation
 use Rattle.stepped.specs.Relation.{PopRelated, PushRelated, PlaceRelated, r-idle, r-a1, r-partial, r-spare, r-region, r-retire, r-back, r-release, r-offer, r-a3-read, r-a3-exchange, r-a4, r-a7, r-a8, r-f1, r-f2, r-f2-more, r-f3-read, r-f3-link, r-f3-exchange, r-f4-clear, SlotRelated, Related}
-use Rattle.stepped.proofs.Sets.{toRequest, setSlot, setMark}
+use Rattle.stepped.proofs.Slots.{toRequest}
+use Rattle.stepped.proofs.Sets.{setSlot, setMark}
 use Rattle.stepped.proofs.Bridge.{becomes, mark-clear-written}
 use Rattle.stepped.proofs.Couple.{quiet, mine}
 use Rattle.stepped.proofs.Changes.{marking}

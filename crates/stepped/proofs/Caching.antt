@@ -33,7 +33,8 @@ use Rattle.stepped.specs.Ranges.{isTop}
 use Rattle.stepped.specs.Memory.{Slot, Memory, slotOf, memoryOf}
 use Rattle.stepped.specs.Relation.{PlaceRelated, Related}
 use Rattle.stepped.proofs.Images.{append-sound}
-use Rattle.stepped.proofs.Sets.{toCache, setSlot, setLink}
+use Rattle.stepped.proofs.Slots.{toCache}
+use Rattle.stepped.proofs.Sets.{setSlot, setLink}
 use Rattle.stepped.proofs.Bridge.{withSlots, becomes, cache-here, cache-there}
 use Rattle.stepped.proofs.Couple.{Pair, mine, linking}
 use Rattle.stepped.proofs.Blocks.{below-tested, home-below, top-max, mine-under, mine-apart, cache-agrees, wrote, re-cache}

@@ -15,7 +15,7 @@ use Rattle.control.specs.Layout.{Map, TaskClass, TaskDescriptor, TaskPlace, Tas
 use Rattle.stepped.specs.Free as Free
 use Rattle.stepped.specs.Memory.{slotOf}
 use Rattle.stepped.specs.Relation.{PushRelated, r-release}
-use Rattle.stepped.proofs.Sets.{toPlace}
+use Rattle.stepped.proofs.Slots.{toPlace}
 use Rattle.stepped.proofs.Bridge.{map-written}
 use Rattle.stepped.proofs.Tops.{region-in-hand}
 use Rattle.stepped.proofs.Blocks.{re-slot}

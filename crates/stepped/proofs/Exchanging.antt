@@ -34,7 +34,8 @@ use Rattle.stepped.specs.Free as Free
 use Rattle.stepped.specs.Memory.{Slot, slotOf, memoryOf}
 use Rattle.stepped.specs.Relation.{ChainRelated, GroupRelated, NoteRelated, PlaceRelated, PushRelated}
 use Rattle.stepped.specs.Relation.{Related, r-f1, r-f2, r-f3-read, r-f4-clear, r-offer}
-use Rattle.stepped.proofs.Sets.{toGrouped, toPlace, toState, setAnchor, setSlot}
+use Rattle.stepped.proofs.Slots.{toGrouped, toPlace, toState}
+use Rattle.stepped.proofs.Sets.{setAnchor, setSlot}
 use Rattle.stepped.proofs.Bridge.{anchor-written}
 use Rattle.stepped.proofs.Blocks.{re-slot}
 use Rattle.stepped.proofs.Both.{Both, both-true, decide, meet, miss, pass}

@@ -35,7 +35,7 @@ use Rattle.stepped.specs.Ranges.{oneTo, isTop}
 use Rattle.stepped.specs.Allocate as Allocate
 use Rattle.stepped.specs.Memory.{slotOf}
 use Rattle.stepped.specs.Relation.{r-a1, r-a4, r-a8}
-use Rattle.stepped.proofs.Sets.{toPlace, toChain}
+use Rattle.stepped.proofs.Slots.{toPlace, toChain}
 use Rattle.stepped.proofs.Tops.{first-of, rest-of}
 use Rattle.stepped.proofs.Blocks.{home-below, mine-under, row-agrees}
 use Rattle.stepped.proofs.Both.{Both, both-true, pass, meet, miss}

@@ -27,7 +27,7 @@ use Rattle.control.specs.Layout.{TaskPlace, TaskUnit}
 use Rattle.stepped.specs.Free as Free
 use Rattle.stepped.specs.Memory.{slotOf, memoryOf}
 use Rattle.stepped.specs.Relation.{GroupRelated, r-f2-more, r-f3-read}
-use Rattle.stepped.proofs.Sets.{toPlace, toGroup, toCache}
+use Rattle.stepped.proofs.Slots.{toPlace, toGroup, toCache}
 use Rattle.stepped.proofs.Couple.{mine}
 use Rattle.stepped.proofs.Blocks.{cache-agrees, mine-apart, mine-under, re-cache, row-agrees, wrote}
 use Rattle.stepped.proofs.Both.{Both, both-true, pass, meet, miss, decide, by-row, has-top}

@@ -25,7 +25,8 @@ use Rattle.control.specs.declared.answer.Answer.{Answer}
 use Rattle.stepped.specs.Outcome.{Outcome, accept, close}
 use Rattle.stepped.specs.Memory.{Slot, Memory, slotOf, memoryOf}
 use Rattle.stepped.specs.Relation.{Noted, PlaceRelated, Related, wrap}
-use Rattle.stepped.proofs.Sets.{toPlace, toHead, setSlot, setHead}
+use Rattle.stepped.proofs.Slots.{toPlace, toHead}
+use Rattle.stepped.proofs.Sets.{setSlot, setHead}
 use Rattle.stepped.proofs.Bridge.{withSlots}
 use Rattle.stepped.proofs.Tops.{top-of, top-le, listed, listed-region, same-word, word-same}
 use Rattle.stepped.proofs.Tops.{won-same, same-won, next-tag, fresh}

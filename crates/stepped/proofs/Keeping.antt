@@ -22,7 +22,7 @@ use Rattle.control.specs.Layout.{CacheCount, CacheTop, GroupCount, TaskClass, T
 use Rattle.stepped.specs.Free as Free
 use Rattle.stepped.specs.Memory.{slotOf}
 use Rattle.stepped.specs.Relation.{r-f2, r-idle}
-use Rattle.stepped.proofs.Sets.{toGrouped, toPlace}
+use Rattle.stepped.proofs.Slots.{toGrouped, toPlace}
 use Rattle.stepped.proofs.Couple.{mine}
 use Rattle.stepped.proofs.Blocks.{mine-apart, mine-under, under-unit}
 use Rattle.stepped.proofs.Both.{Both, both-true, decide, pass}

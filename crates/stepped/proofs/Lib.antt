@@ -1,4 +1,5 @@
 -- The agreement of the stepped pool with the plain pool.
+pub mod Slots
 pub mod Sets
 pub mod Bridge
 pub mod Tops
@@ -49,6 +50,7 @@ pub mod SoundMoves
 pub mod SoundAllocate
 pub mod SoundFree
 pub mod SoundSteps
+pub mod SoundCalls
 pub mod Ends
 pub mod TaskHands
 pub mod TaskLists

@@ -16,7 +16,8 @@ use Rattle.control.specs.Layout.{DescriptorNext, RegionNext, TaskPlace}
 use Rattle.stepped.specs.Outcome.{accept}
 use Rattle.stepped.specs.Memory.{Slot, Memory, slotOf, memoryOf}
 use Rattle.stepped.specs.Relation.{PlaceRelated}
-use Rattle.stepped.proofs.Sets.{toPlace, setSlot, setDescriptorNext, setRegionNext}
+use Rattle.stepped.proofs.Slots.{toPlace}
+use Rattle.stepped.proofs.Sets.{setSlot, setDescriptorNext, setRegionNext}
 use Rattle.stepped.proofs.Bridge.{descriptorNext-written, regionNext-written}
 use Rattle.stepped.proofs.Tops.{descriptor-in-hand, region-in-hand}
 use Rattle.stepped.proofs.Changes.{dnexting, rnexting}

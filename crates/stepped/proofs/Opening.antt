@@ -39,7 +39,8 @@ use Rattle.control.specs.Layout.{DescriptorRegion, DescriptorClass, Map}
 use Rattle.stepped.specs.Allocate as Allocate
 use Rattle.stepped.specs.Memory.{Memory, Slot, slotOf, memoryOf}
 use Rattle.stepped.specs.Relation.{DescriptorRelated, SlotRelated, Core, Related, r-a8}
-use Rattle.stepped.proofs.Sets.{toPlace, toChain, setSlot, setOwner}
+use Rattle.stepped.proofs.Slots.{toPlace, toChain}
+use Rattle.stepped.proofs.Sets.{setSlot, setOwner}
 use Rattle.stepped.proofs.Bridge.{withSlots, owner-written}
 use Rattle.stepped.proofs.Tops.{descriptor-in-hand, region-in-hand}
 use Rattle.stepped.proofs.Frames.{Reads, after}

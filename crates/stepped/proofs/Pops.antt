@@ -29,7 +29,8 @@ use Rattle.stepped.specs.Events.{Recent}
 use Rattle.stepped.specs.Memory.{Slot, Memory, slotOf, memoryOf}
 use Rattle.stepped.specs.Relation.{tail, PopRelated, PushRelated, PlaceRelated}
 use Rattle.stepped.specs.Relation.{r-idle, r-partial, r-spare, r-region, r-back, r-a3-read, r-a7}
-use Rattle.stepped.proofs.Sets.{toPlace, toNext, toDescriptor, toRegion, setSlot, setHead}
+use Rattle.stepped.proofs.Slots.{toPlace, toNext, toDescriptor, toRegion}
+use Rattle.stepped.proofs.Sets.{setSlot, setHead}
 use Rattle.stepped.proofs.Bridge.{head-written}
 use Rattle.stepped.proofs.Tops.{top-of, tail-of, next-of}
 use Rattle.stepped.proofs.Couple.{mine}

@@ -28,7 +28,7 @@ use Rattle.stepped.specs.Events.{Recent}
 use Rattle.stepped.specs.Memory.{Slot, Memory, slotOf, memoryOf}
 use Rattle.stepped.specs.Relation.{PopRelated, PushRelated, PlaceRelated}
 use Rattle.stepped.specs.Relation.{r-idle, r-partial, r-retire, r-back, r-release, r-offer}
-use Rattle.stepped.proofs.Sets.{toPlace}
+use Rattle.stepped.proofs.Slots.{toPlace}
 use Rattle.stepped.proofs.Couple.{mine}
 use Rattle.stepped.proofs.Both.{Both, both-true, pass}
 use Rattle.stepped.proofs.Turns.{At}

@@ -19,7 +19,8 @@ use Rattle.stepped.specs.Outcome.{close}
 use Rattle.stepped.specs.Lists as Lists
 use Rattle.stepped.specs.Memory.{Memory, slotOf, memoryOf}
 use Rattle.stepped.specs.Relation.{PushRelated, PlaceRelated, Related, r-offer, r-f1, r-f2}
-use Rattle.stepped.proofs.Sets.{toPlace, toGrouped, setSlot, setHead}
+use Rattle.stepped.proofs.Slots.{toPlace, toGrouped}
+use Rattle.stepped.proofs.Sets.{setSlot, setHead}
 use Rattle.stepped.proofs.Bridge.{head-written}
 use Rattle.stepped.proofs.Both.{Both}
 use Rattle.stepped.proofs.Turns.{At}

@@ -27,7 +27,7 @@ use Rattle.control.specs.Layout.{TaskPlace, TaskRegion, TaskUnit}
 use Rattle.stepped.specs.Free as Free
 use Rattle.stepped.specs.Memory.{slotOf, memoryOf}
 use Rattle.stepped.specs.Relation.{GroupRelated, NoteRelated, r-f3-exchange, r-f3-link}
-use Rattle.stepped.proofs.Sets.{toPlace, toAnchor, toDescriptor}
+use Rattle.stepped.proofs.Slots.{toPlace, toAnchor, toDescriptor}
 use Rattle.stepped.proofs.Blocks.{cache-agrees, mine-apart, mine-under, re-link, row-agrees, wrote}
 use Rattle.stepped.proofs.Both.{Both, both-true, pass}
 use Rattle.stepped.proofs.Turns.{At, goes}

@@ -1,5 +1,5 @@
--- Every write of a step of an allocation that is no list move is to a field of the layout, and its value fits there, whatever
--- the two memories hold.
+-- Every write of a step of an allocation that is no list move is to a field of the layout, its value fits there, and it is
+-- to no other task's place, whatever the two memories hold.
 -- Assumes nothing.
 use Prim.Native.Nat.{ℕ, _+_, _-_, _/_, _%_, _≤_, _<_}
 use mathlib.Core.Path.{_≡_}
@@ -36,7 +36,7 @@ module _ (v : View) (fits : Fitting v) (link : ℕ → ℕ) {regions t c : ℕ} 
   abbrev n : ℕ
   n = perRegion c
 
-  a1-take : (k u : ℕ) → k ≤ n → Fit (Allocate.a1Take v link regions t c k u)
+  a1-take : (k u : ℕ) → k ≤ n → Fit t (Allocate.a1Take v link regions t c k u)
   unfolding Allocate.a1Take
   a1-take k u l =
       let top = isTop regions c (k - 1) (link u) in
@@ -53,23 +53,24 @@ module _ (v : View) (fits : Fitting v) (link : ℕ → ℕ) {regions t c : ℕ} 
           u-max,
           set-below (v (Marks (u / 64))) (u % 64) 64 (fits (Marks (u / 64)) (omega (arith, u-max))) (omega arith),
         );
+        own = omega arith;
       })
 
-  pub a1 : Fit (Allocate.a1 v link regions t c)
+  pub a1 : Fit t (Allocate.a1 v link regions t c)
   unfolding Allocate.a1
   a1 =
       let k = v (CacheCount t c) in
-      branch Fit (eqb k 0) (λ e. record { sound = omega (arith, task) })
+      branch (Fit t) (eqb k 0) (λ e. record { sound = omega (arith, task); own = omega arith })
       (λ e. test (leb k n) (λ h. a1-take k (v (CacheTop t c)) (leb-true k n h)))
 
-  pub a3-read : Fit (Allocate.a3Read v link regions t c)
+  pub a3-read : Fit t (Allocate.a3Read v link regions t c)
   unfolding Allocate.a3Read Allocate.a3ReadOf
   a3-read =
       let d = v (TaskDescriptor t) in
       let word = v (Anchor d) in
       test (ltb d 64) (λ h. test (isAnchor word) (λ i.
-      branch Fit (eqb (anchorOf word .state) EMPTY) (λ e. record { sound = omega (arith, task) }) (λ e.
-      test (hasChain n word) (λ j. record { sound = omega (arith, task, fits (Anchor d) (omega (arith, ltb-true d 64 h))) }))))
+      branch (Fit t) (eqb (anchorOf word .state) EMPTY) (λ e. record { sound = omega (arith, task); own = omega arith }) (λ e.
+      test (hasChain n word) (λ j. record { sound = omega (arith, task, fits (Anchor d) (omega (arith, ltb-true d 64 h))); own = omega arith }))))
 
   -- what a chain to be taken has
   chain-max : (word : ℕ) → hasChain n word ≡ true → (anchorOf word .avail < 512) × (anchorOf word .count ≤ 512)
@@ -83,34 +84,35 @@ module _ (v : View) (fits : Fitting v) (link : ℕ → ℕ) {regions t c : ℕ} 
   full-below : anchorWord (full n) < 18446744073709551616
   full-below = anchor-below (full n) (omega (arith, perRegion-high c))
 
-  pub a3-exchange : Fit (Allocate.a3Exchange v link regions t c)
+  pub a3-exchange : Fit t (Allocate.a3Exchange v link regions t c)
   unfolding Allocate.a3Exchange Allocate.a3ExchangeOf
   a3-exchange =
       let d = v (TaskDescriptor t) in
       let word = v (TaskAnchor t) in
       let r = v (DescriptorRegion d) in
       test (ltb d 64 && hasChain n word) (λ h. test (isAnchor (v (Anchor d))) (λ i.
-      branch Fit (eqb (v (Anchor d)) word)
+      branch (Fit t) (eqb (v (Anchor d)) word)
       (λ e. test (ltb r regions) (λ j.
       let p = both (ltb d 64) (hasChain n word) h in
       record {
         sound = omega (arith, task, few, ltb-true d 64 (p .0), ltb-true r regions j, chain-max word (p .1), full-below);
+        own = omega arith;
       }))
-      (λ e. record { sound = omega (arith, task) })))
+      (λ e. record { sound = omega (arith, task); own = omega arith })))
 
   -- a block on top of a cache
-  a4-move : (u left k top : ℕ) → u < 8192 → left ≤ 512 → k ≤ 511 → Fit (Allocate.a4Move v link regions t c u left k top)
+  a4-move : (u left k top : ℕ) → u < 8192 → left ≤ 512 → k ≤ 511 → Fit t (Allocate.a4Move v link regions t c u left k top)
   unfolding Allocate.a4Move
   a4-move u left k top a b d =
-      branch Fit (eqb left 1) (λ e. record { sound = omega (arith, task, class, a, d) })
+      branch (Fit t) (eqb left 1) (λ e. record { sound = omega (arith, task, class, a, d); own = omega arith })
       (λ e. test (ltb (link u) n) (λ h.
-      record { sound = omega (arith, task, class, a, b, d, perRegion-high c, ltb-true (link u) n h) }))
+      record { sound = omega (arith, task, class, a, b, d, perRegion-high c, ltb-true (link u) n h); own = omega arith }))
 
   -- the unit of a block of a region of the area
   unit-max : (r i : ℕ) → r < regions → i < n → unitOf r c i < 8192
   unit-max r i h l = unit-below (block-at r c i l) (omega (arith, few, h))
 
-  pub a4 : Fit (Allocate.a4 v link regions t c)
+  pub a4 : Fit t (Allocate.a4 v link regions t c)
   unfolding Allocate.a4
   a4 =
       let r = v (TaskRegion t) in
@@ -130,22 +132,22 @@ module _ (v : View) (fits : Fitting v) (link : ℕ → ℕ) {regions t c : ℕ} 
       (omega (arith, perRegion-high c, leb-true left n (right-true (leb 1 left) (leb left n) (q .1))))
       (omega (arith, perRegion-high c, ltb-true k n (p .1))))
 
-  pub a7 : Fit (Allocate.a7 v link regions t c)
+  pub a7 : Fit t (Allocate.a7 v link regions t c)
   unfolding Allocate.a7
   a7 =
       let d = v (TaskDescriptor t) in
       let r = v (TaskRegion t) in
       test (ltb d 64 && ltb r regions) (λ h.
       let p = both (ltb d 64) (ltb r regions) h in
-      record { sound = omega (arith, task, class, few, ltb-true d 64 (p .0), ltb-true r regions (p .1), full-below) })
+      record { sound = omega (arith, task, class, few, ltb-true d 64 (p .0), ltb-true r regions (p .1), full-below); own = omega arith })
 
-  a8-put : (u i k top : ℕ) → u < 8192 → i < 512 → k ≤ 511 → Fit (Allocate.a8Put v link regions t c u i k top)
+  a8-put : (u i k top : ℕ) → u < 8192 → i < 512 → k ≤ 511 → Fit t (Allocate.a8Put v link regions t c u i k top)
   unfolding Allocate.a8Put
   a8-put u i k top a b d =
-      branch Fit (eqb (i + 1) n) (λ e. record { sound = omega (arith, task, class, a, d) })
-      (λ e. record { sound = omega (arith, task, class, a, b, d) })
+      branch (Fit t) (eqb (i + 1) n) (λ e. record { sound = omega (arith, task, class, a, d); own = omega arith })
+      (λ e. record { sound = omega (arith, task, class, a, b, d); own = omega arith })
 
-  pub a8 : Fit (Allocate.a8 v link regions t c)
+  pub a8 : Fit t (Allocate.a8 v link regions t c)
   unfolding Allocate.a8
   a8 =
       let r = v (TaskRegion t) in

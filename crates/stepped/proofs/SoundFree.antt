@@ -1,5 +1,5 @@
--- Every write of a step of a free that is no list move is to a field of the layout, and its value fits there, whatever the two
--- memories hold.
+-- Every write of a step of a free that is no list move is to a field of the layout, its value fits there, and it is to no
+-- other task's place, whatever the two memories hold.
 -- Assumes nothing.
 use Prim.Native.Nat.{ℕ, _+_, _-_, _%_, _≤_, _<_}
 use mathlib.Core.Path.{_≡_}
@@ -29,13 +29,13 @@ module _ (v : View) (fits : Fitting v) (link : ℕ → ℕ) {regions t c : ℕ} 
   abbrev n : ℕ
   n = perRegion c
 
-  pub f1 : Fit (Free.f1 v link regions t c)
+  pub f1 : Fit t (Free.f1 v link regions t c)
   unfolding Free.f1 Free.f1Put
   f1 =
       let k = v (CacheCount t c) in
       let u = v (TaskUnit t) in
       let top = v (CacheTop t c) in
-      test (leb k n) (λ h. branch Fit (ltb k n)
+      test (leb k n) (λ h. branch (Fit t) (ltb k n)
       (λ i. test (isBlock regions c u && isTop regions c k top) (λ j.
       record {
         sound = omega (
@@ -46,14 +46,15 @@ module _ (v : View) (fits : Fitting v) (link : ℕ → ℕ) {regions t c : ℕ} 
           ltb-true k n i,
           block-max regions c few u (left-true (isBlock regions c u) (isTop regions c k top) j),
         );
+        own = omega arith;
       }))
-      (λ i. record { sound = omega (arith, task) }))
+      (λ i. record { sound = omega (arith, task); own = omega arith }))
 
   -- a block's index in its region
   index-max : (u : ℕ) → indexOf c u < 512
   index-max u = omega (arith, div-le-self (u % 512) (units c))
 
-  f2-first : (k u : ℕ) → k ≤ n → isBlock regions c u ≡ true → Fit (Free.f2First v link regions t c k u)
+  f2-first : (k u : ℕ) → k ≤ n → isBlock regions c u ≡ true → Fit t (Free.f2First v link regions t c k u)
   unfolding Free.f2First
   f2-first k u l b =
       test (isTop regions c (k - 1) (link u)) (λ h.
@@ -68,9 +69,10 @@ module _ (v : View) (fits : Fitting v) (link : ℕ → ℕ) {regions t c : ℕ} 
           index-max u,
           top-max regions c few (k - 1) (link u) h,
         );
+        own = omega arith;
       })
 
-  f2-more : (k u g r : ℕ) → k ≤ n → Fit (Free.f2More v link regions t c k u g r)
+  f2-more : (k u g r : ℕ) → k ≤ n → Fit t (Free.f2More v link regions t c k u g r)
   unfolding Free.f2More
   f2-more k u g r l =
       let last = v (GroupLast t) in
@@ -88,12 +90,13 @@ module _ (v : View) (fits : Fitting v) (link : ℕ → ℕ) {regions t c : ℕ} 
           ltb-true g n (left-true (ltb g n) (ltb last n) (p .0)),
           top-max regions c few (k - 1) (link u) (p .1),
         );
+        own = omega arith;
       })
 
-  f2-close : Fit (Free.f2Close v link regions t c)
-  f2-close = record { sound = omega (arith, task) }
+  f2-close : Fit t (Free.f2Close v link regions t c)
+  f2-close = record { sound = omega (arith, task); own = omega arith }
 
-  pub f2 : Fit (Free.f2 v link regions t c)
+  pub f2 : Fit t (Free.f2 v link regions t c)
   unfolding Free.f2 Free.f2Top
   f2 =
       let k = v (CacheCount t c) in
@@ -102,11 +105,11 @@ module _ (v : View) (fits : Fitting v) (link : ℕ → ℕ) {regions t c : ℕ} 
       let r = v (TaskRegion t) in
       test (leb k n && leb g n) (λ h.
       let l = leb-true k n (left-true (leb k n) (leb g n) h) in
-      branch Fit (eqb k 0) (λ e. f2-close) (λ e. test (isBlock regions c u) (λ b.
-      branch Fit (eqb g 0) (λ i. f2-first k u l b) (λ i. test (ltb r regions) (λ j.
-      branch Fit (eqb (regionOf u) r) (λ s. f2-more k u g r l) (λ s. f2-close))))))
+      branch (Fit t) (eqb k 0) (λ e. f2-close) (λ e. test (isBlock regions c u) (λ b.
+      branch (Fit t) (eqb g 0) (λ i. f2-first k u l b) (λ i. test (ltb r regions) (λ j.
+      branch (Fit t) (eqb (regionOf u) r) (λ s. f2-more k u g r l) (λ s. f2-close))))))
 
-  pub f3-read : Fit (Free.f3Read v link regions t c)
+  pub f3-read : Fit t (Free.f3Read v link regions t c)
   unfolding Free.f3Read Free.f3ReadBy Free.f3ReadOf
   f3-read =
       let r = v (TaskRegion t) in
@@ -117,14 +120,14 @@ module _ (v : View) (fits : Fitting v) (link : ℕ → ℕ) {regions t c : ℕ} 
       test (isAnchor word && hasRoom n g word) (λ j.
       let l = leb-true entry 64 (right-true (leb 1 entry) (leb entry 64) i) in
       let m = leb-true 1 entry (left-true (leb 1 entry) (leb entry 64) i) in
-      record { sound = omega (arith, task, l, m, fits (Anchor (entry - 1)) (omega (arith, l, m))) })))
+      record { sound = omega (arith, task, l, m, fits (Anchor (entry - 1)) (omega (arith, l, m))); own = omega arith })))
 
-  pub f3-link : Fit (Free.f3Link v link regions t c)
+  pub f3-link : Fit t (Free.f3Link v link regions t c)
   unfolding Free.f3Link
   f3-link =
       let word = v (TaskAnchor t) in
       test (ltb (v (TaskRegion t)) regions && ltb (v (GroupLast t)) n && isAnchor word && hasFirst n word) (λ h.
-      record { sound = omega (arith, task) })
+      record { sound = omega (arith, task); own = omega arith })
 
   -- the anchor with a group returned
   returned-below : (word first g : ℕ) → first < n → hasRoom n g word ≡ true → anchorWord (returned (anchorOf word) first g n) < 18446744073709551616
@@ -134,7 +137,7 @@ module _ (v : View) (fits : Fitting v) (link : ℕ → ℕ) {regions t c : ℕ} 
       anchor-below (returned a first g n)
       (returned-fits a first g n (omega (arith, l, perRegion-high c)) (record { count = m; blocks = perRegion-high c }))
 
-  pub f3-exchange : Fit (Free.f3Exchange v link regions t c)
+  pub f3-exchange : Fit t (Free.f3Exchange v link regions t c)
   unfolding Free.f3Exchange Free.f3ExchangeOf Free.f3Won
   f3-exchange =
       let d = v (TaskDescriptor t) in
@@ -148,18 +151,18 @@ module _ (v : View) (fits : Fitting v) (link : ℕ → ℕ) {regions t c : ℕ} 
       let i = isAnchor word in
       let z = hasRoom n g word in
       test (b && f && o && i && z) (λ h. test (isAnchor (v (Anchor d))) (λ j.
-      branch Fit (eqb (v (Anchor d)) word)
+      branch (Fit t) (eqb (v (Anchor d)) word)
       (λ e.
       let p = both (b && f && o && i) z h in
       let q = both b f (left-true (b && f) o (left-true (b && f && o) i (p .0))) in
       let s : Sound layout (Anchor d := anchorWord (returned a first g n) ∷ TaskState t := a .state ∷ []) =
       omega (arith, task, ltb-true d 64 (q .0), returned-below word first g (ltb-true first n (q .1)) (p .1)) in
-      branch Fit (eqb (a .count + g) n) (λ k. record { sound = (omega (arith, task), s) })
-      (λ k. Moves.f5 v fits few task class (a .state) _ _ s))
-      (λ e. record { sound = omega (arith, task) })))
+      branch (Fit t) (eqb (a .count + g) n) (λ k. record { sound = (omega (arith, task), s); own = omega arith })
+      (λ k. Moves.f5 v fits few task class (a .state) _ _ (record { sound = s; own = omega arith })))
+      (λ e. record { sound = omega (arith, task); own = omega arith })))
 
-  pub f4-clear : Fit (Free.f4Clear v link regions t c)
+  pub f4-clear : Fit t (Free.f4Clear v link regions t c)
   unfolding Free.f4Clear
   f4-clear =
       let r = v (TaskRegion t) in
-      test (ltb r regions) (λ h. record { sound = omega (arith, task, few, ltb-true r regions h) })
+      test (ltb r regions) (λ h. record { sound = omega (arith, task, few, ltb-true r regions h); own = omega arith })

@@ -30,7 +30,8 @@ use Rattle.stepped.specs.Ranges.{isTop}
 use Rattle.stepped.specs.Allocate as Allocate
 use Rattle.stepped.specs.Memory.{Memory, slotOf, memoryOf}
 use Rattle.stepped.specs.Relation.{PopRelated, Related, r-idle, r-partial}
-use Rattle.stepped.proofs.Sets.{toPlace, toCache, setMark}
+use Rattle.stepped.proofs.Slots.{toPlace, toCache}
+use Rattle.stepped.proofs.Sets.{setMark}
 use Rattle.stepped.proofs.Bridge.{mark-set-written}
 use Rattle.stepped.proofs.Tops.{first-of, rest-of}
 use Rattle.stepped.proofs.Couple.{mine}

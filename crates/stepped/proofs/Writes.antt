@@ -15,7 +15,8 @@ use Rattle.plain.specs.Weights.{blockWeight}
 use Rattle.plain.proofs.Places.{taskOf}
 use Rattle.stepped.specs.Memory.{Slot, Memory, slotOf, memoryOf}
 use Rattle.stepped.specs.Relation.{ChainRelated, Related, SlotRelated}
-use Rattle.stepped.proofs.Sets.{toCache, setSlot, setLink, setAnchor, setMap}
+use Rattle.stepped.proofs.Slots.{toCache}
+use Rattle.stepped.proofs.Sets.{setSlot, setLink, setAnchor, setMap}
 use Rattle.stepped.proofs.Bridge.{withSlots, becomes}
 use Rattle.stepped.proofs.Couple.{quiet, linking}
 use Rattle.stepped.proofs.Changes.{anchoring, clearing}
