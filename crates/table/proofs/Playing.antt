@@ -68,6 +68,11 @@ module _ (input : List ℕ) where
     pub room : used ≤ 23 + 35 * n
     pub said : output input s₀ ≡ take used out ++ ahead fuel at n y s
 
+  -- what is used lies within the room for the longest table
+  pub within : {s₀ s : Memories} {used at n : ℕ} {y : Tally} {out : List ℕ} → Ahead s₀ used at n y s out → length input ≤ 65536
+      → 2293888 ≤ length out → used ≤ length out
+  within A long room = omega (arith, A .room, A .most, long, room)
+
   -- the column names are written
   pub begins : {before out : List ℕ} {used : ℕ} {y : Tally} (s : Memories) → Appended before out 0 columnsText used → y ≡ none
       → Ahead s used 0 0 y s out

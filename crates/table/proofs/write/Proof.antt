@@ -6,7 +6,7 @@ use lib.ListN.{length}
 use borrow.Author.Needs.{needs}
 use borrow.Rule.Slice.PartMut.{mid-len}
 use Rattle.text.proofs.Writing.{at-part}
-use Rattle.table.proofs.Playing.{Ahead, begins, short, goes-on, ends, further}
+use Rattle.table.proofs.Playing.{Ahead, within, begins, short, goes-on, ends, further}
 use Rattle.table.proofs.write.Statement.{statement}
 use Rattle.table.proofs.write.Tie as tie
 
@@ -40,15 +40,15 @@ sub-line : tie.Need-sub-line Inv-loop μ-loop
 sub-line c =
     let at-loop = c .before .before .before .before .before .before .before .before .before .before in
     let begun = at-loop .before .before .before .before in
-    let inv = at-loop .loop .inv in
-    omega (arith, inv .0 .room, inv .0 .most, inv .3, begun .columns .ensures .same-length, begun .before .before .before .before .before .before .pre)
+    let start = begun .before .before .before .before .before .before in
+    within _ (at-loop .loop .inv .0) (start .pre .1) (omega (arith, at-loop .loop .inv .3, begun .columns .ensures .same-length, start .pre .2))
 
 part-line-start : tie.Need-part-line-start Inv-loop μ-loop
 part-line-start c =
     let at-loop = c .before .before .before .before .before .before .before .before .before .before in
     let begun = at-loop .before .before .before .before in
-    let inv = at-loop .loop .inv in
-    omega (arith, inv .0 .room, inv .0 .most, inv .3, begun .columns .ensures .same-length, begun .before .before .before .before .before .before .pre)
+    let start = begun .before .before .before .before .before .before in
+    within _ (at-loop .loop .inv .0) (start .pre .1) (omega (arith, at-loop .loop .inv .3, begun .columns .ensures .same-length, start .pre .2))
 
 part-line-end : tie.Need-part-line-end Inv-loop μ-loop
 part-line-end c = omega arith
@@ -100,8 +100,7 @@ loop-again c =
     let start = begun .before .before .before .before .before .before in
     let input = start .args .input .now in
     let inv = at-loop .loop .inv in
-    let fits : at-loop .loop .used ≤ length (at-loop .loop .out) =
-    omega (arith, inv .0 .room, inv .0 .most, inv .3, start .pre, begun .columns .ensures .same-length) in
+    let fits = within input (inv .0) (start .pre .1) (omega (arith, inv .3, begun .columns .ensures .same-length, start .pre .2)) in
     let line-is = line .line2 in
     let written =
     at-part (at-loop .loop .out) (line-is .last .0) _ (at-loop .loop .used) (line-is .result) fits (line-is .ensures) in
