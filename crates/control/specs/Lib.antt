@@ -1,3 +1,4 @@
 -- The control memory.
 pub mod Layout
+pub mod Places
 pub mod Answers

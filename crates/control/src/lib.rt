@@ -4,6 +4,7 @@ pub mod caches;
 pub mod lists;
 pub mod moves;
 pub mod notes;
+pub mod places;
 pub mod regions;
 pub mod started;
 pub mod tasks;

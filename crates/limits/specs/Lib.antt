@@ -1,0 +1,2 @@
+-- How many there are of each thing, by name.
+pub mod Limits

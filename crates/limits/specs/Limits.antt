@@ -1,0 +1,63 @@
+-- How many there are of each thing in the paper. A number of this list stands nowhere else.
+use Prim.Native.Nat.{ℕ, _+_}
+
+-- "Control memory is 8,192 bytes"
+abbrev pub CONTROL-BYTES : ℕ
+CONTROL-BYTES = 8192
+
+-- "The area is 1 to 16 regions of 4,096 bytes"
+abbrev pub REGIONS : ℕ
+REGIONS = 16
+
+abbrev pub REGION-BYTES : ℕ
+REGION-BYTES = 4096
+
+-- "2 area length zero, no multiple of 4,096 or above 65,536"
+abbrev pub AREA-BYTES : ℕ
+AREA-BYTES = 65536
+
+-- "A unit is 8 bytes"
+abbrev pub UNIT-BYTES : ℕ
+UNIT-BYTES = 8
+
+-- a region's units
+abbrev pub REGION-UNITS : ℕ
+REGION-UNITS = 512
+
+-- "a block is named by its first unit, 0 to 8,191"; in a cache's links 8,192 is the bottom
+abbrev pub UNITS : ℕ
+UNITS = 8192
+
+-- "1 to 8 tasks"
+abbrev pub TASKS : ℕ
+TASKS = 8
+
+-- the classes of the paper's table
+abbrev pub CLASSES : ℕ
+CLASSES = 16
+
+-- "There are 64 descriptors"
+abbrev pub DESCRIPTORS : ℕ
+DESCRIPTORS = 64
+
+-- the most blocks that a region has, those of the smallest class
+abbrev pub MOST-BLOCKS : ℕ
+MOST-BLOCKS = 512
+
+-- "after 4,294,967,295 comes 0"
+abbrev pub TAGS : ℕ
+TAGS = 4294967296
+
+-- the largest size: "9 size above 256"
+abbrev pub MOST-BYTES : ℕ
+MOST-BYTES = 256
+
+-- The lists by number: first the partial descriptors of each class, then the spare descriptors, then the spare regions.
+abbrev pub SPARE-DESCRIPTORS : ℕ
+SPARE-DESCRIPTORS = CLASSES
+
+abbrev pub SPARE-REGIONS : ℕ
+SPARE-REGIONS = CLASSES + 1
+
+abbrev pub LISTS : ℕ
+LISTS = CLASSES + 2
