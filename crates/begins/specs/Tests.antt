@@ -6,7 +6,7 @@ use lib.Dec.{eqb}
 use Rattle.fields.specs.Columns.{View}
 use Rattle.stepped.specs.Outcome.{Outcome, refuse}
 use Rattle.stepped.specs.Calls.{tested}
-use Rattle.stepped.specs.Ends.{Tested}
+use Rattle.stepped.specs.Calls.{Tested}
 
 -- the first test that fails is r, or all pass where r is 0, and x follows
 abbrev pub unlessRefused : ℕ → Outcome → Outcome

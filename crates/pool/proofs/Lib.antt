@@ -1,8 +1,3 @@
--- Laws of the exported calls, and the demands.
+-- Laws of the exported calls.
 pub mod Calling
 pub mod Started
-pub mod Numbers
-pub mod Failing
-pub mod Acting
-pub mod Backing
-pub mod Demands

@@ -1,4 +1,2 @@
--- What the exported calls ensure, the tests in their order, and runs of the calls.
+-- What the exported calls ensure.
 pub mod Call
-pub mod Tests
-pub mod Runs

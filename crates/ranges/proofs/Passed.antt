@@ -10,7 +10,7 @@ use lib.Dec.{ltb, leb, eqb}
 use Rattle.words.specs.Anchor.{PARTIAL, isState, anchorOf}
 use Rattle.classes.specs.Places.{regionOf, isFirst}
 use Rattle.stepped.specs.Ranges.{oneTo, isBlock, isTop, isAnchor, hasChain, hasFirst, hasRoom}
-use Rattle.stepped.proofs.Both.{both}
+use Rattle.stepped.proofs.Conjunction.{both}
 use Rattle.ranges.proofs.Ranges.{top-of-none, top-of-some}
 
 -- ---- a function's answer b, tested as `!b`

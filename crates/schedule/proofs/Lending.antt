@@ -8,7 +8,7 @@ use borrow.Author.Tests.{eq-eqb, ne-eqb, lt-ltb, le-ltb}
 use borrow.Rule.Slice.PartMut.{midOf, putMid, put-same}
 use Rattle.fields.specs.Columns.{View}
 use Rattle.control.specs.Layout.{Tasks, Regions, seen}
-use Rattle.stepped.specs.Events.{Memories}
+use Rattle.stepped.specs.Outcome.{Memories}
 use Rattle.pool.specs.Call.{Call, Ensures}
 use Rattle.pool.specs.Call as Call
 use Rattle.schedule.specs.Stand.{start, allocate, free, step}

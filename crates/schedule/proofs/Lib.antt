@@ -5,9 +5,4 @@ pub mod Running
 pub mod Showing
 pub mod Values
 pub mod Counting
-pub mod Parts
-pub mod Fed
-pub mod Beside
-pub mod BesideStart
-pub mod Table
 pub mod Example

@@ -7,7 +7,7 @@ use mathlib.Core.List.{List}
 use native.Mathlib.Omega.{arith}
 use borrow.Author.Tests.{eq-eqb, ne-eqb}
 use lib.Dec.{eqb}
-use Rattle.stepped.specs.Events.{Memories}
+use Rattle.stepped.specs.Outcome.{Memories}
 use Rattle.schedule.specs.Stand.{step, runs}
 use Rattle.schedule.specs.Bytes.{onBytes, Does}
 

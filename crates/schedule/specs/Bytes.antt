@@ -10,7 +10,7 @@ use borrow.Rule.Slice.PartMut.{midOf, putMid}
 use Rattle.fields.specs.Columns.{View}
 use Rattle.control.specs.Layout.{Tasks, Regions, seen}
 use Rattle.control.specs.Answers.{numberOf}
-use Rattle.stepped.specs.Events.{Memories}
+use Rattle.stepped.specs.Outcome.{Memories}
 use Rattle.pool.specs.Call.{Call, effectOf}
 use Rattle.pool.specs.Call as Call
 use Rattle.schedule.specs.Stand.{Request, start, allocate, free, step}

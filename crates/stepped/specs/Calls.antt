@@ -1,7 +1,8 @@
 -- The calls of the stepped pool, with their tests in the paper's order: "Start tests 1, 2, 3. Other calls test 1, 4, 2, 5, then
 -- 6 or 7, then 8, 9 or 10, 11. 14 comes where the bad value is read."
 -- Assumes nothing.
-use Prim.Native.Nat.{ℕ, _*_, _/_, _%_, _-_}
+use Prim.Native.Nat.{ℕ, _*_, _/_, _%_, _-_, _≤_, _<_}
+use mathlib.Core.Path.{_≡_}
 use mathlib.Core.Bool.{cond, _&&_}
 use mathlib.Core.List.{List, [], _∷_}
 use lib.Dec.{ltb, leb, eqb}
@@ -37,6 +38,17 @@ tested control area v t x =
     bad))
     bad)
     (refuse 1)
+
+-- The tests 1, 4, 2, 5 pass: the two memories have their lengths, the started numbers of tasks and regions are in their
+-- ranges, and the task is one of them.
+pub record Tested (control area : ℕ) (v : View) (t : ℕ) : Type 0 where
+  pub control-is : control ≡ 8192
+  pub started : 1 ≤ v Tasks
+  pub tasks : v Tasks ≤ 8
+  pub some : 1 ≤ v Regions
+  pub regions : v Regions ≤ 16
+  pub area-is : area ≡ 4096 * v Regions
+  pub below : t < v Tasks
 
 -- "6 the task has a request in hand"; then the beginning x. Places are 0 to 33.
 unfoldable pub whenIdle : View → ℕ → Outcome → Outcome

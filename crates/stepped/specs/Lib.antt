@@ -7,11 +7,4 @@ pub mod Free
 pub mod Steps
 pub mod Start
 pub mod Calls
-pub mod Ends
-pub mod Memory
-pub mod Relation
-pub mod Events
-pub mod Observe
-pub mod Agreement
-pub mod InRange
 pub mod Done

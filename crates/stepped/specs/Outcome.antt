@@ -33,6 +33,11 @@ accept e ws ls = record { answer = Accepted; decided = e; writes = ws; links = l
 abbrev pub close : Answer → Decided → List Write → List LinkWrite → Outcome
 close a e ws ls = record { answer = a; decided = e; writes = ws; links = ls }
 
+-- the two memories that a call is lent, as bytes
+pub record Memories : Type 0 where
+  pub control : List ℕ
+  pub area : List ℕ
+
 -- "For every input, the answer and each byte of both memories afterwards"
 pub record Effect : Type 0 where
   pub answer : Answer

@@ -1,3 +1,2 @@
 -- Laws of the table's text.
 pub mod Playing
-pub mod Whole

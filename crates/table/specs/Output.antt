@@ -4,7 +4,7 @@ use Prim.Native.Nat.{ℕ}
 use mathlib.Core.List.{List, [], _∷_, _++_}
 use lib.ListN.{length}
 use Rattle.plain.specs.Calls.{unstarted}
-use Rattle.stepped.specs.Events.{Memories}
+use Rattle.stepped.specs.Outcome.{Memories}
 use Rattle.schedule.specs.declared.tally.Tally.{Tally}
 use Rattle.schedule.specs.declared.treat.Line.{Line}
 use Rattle.schedule.specs.Tally.{none}

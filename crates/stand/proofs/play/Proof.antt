@@ -1,7 +1,7 @@
 -- From memories that are zero the table is the plain pool's. Assumes nothing.
 use native.Mathlib.Omega.{arith}
 use borrow.Author.Needs.{needs}
-use Rattle.table.proofs.Whole.{written-is-plain}
+use Rattle.stand_agreement.proofs.Whole.{written-is-plain}
 use Rattle.stand.proofs.play.Statement.{statement}
 use Rattle.stand.proofs.play.Tie as tie
 

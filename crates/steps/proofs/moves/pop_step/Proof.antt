@@ -2,7 +2,7 @@
 use native.Mathlib.Omega.{arith}
 use mathlib.Core.Path.{_∙_}
 use Rattle.stepped.proofs.Doing.{does}
-use Rattle.stepped.proofs.Pops.{pop-steps}
+use Rattle.stepped.proofs.MovePlaces.{pop-steps}
 use Rattle.steps.proofs.Places.{same}
 use borrow.Author.Needs.{needs}
 use Rattle.steps.proofs.moves.pop_step.Statement.{statement}

@@ -1,0 +1,267 @@
+-- Step 3 of allocate, in both pools.
+-- Assumes nothing.
+use mathlib.Core.Path.{_≡_, refl, sym, ap, subst, _∙_}
+use mathlib.Core.Bool.{true, _&&_}
+use mathlib.Core.List.{List, [], _∷_}
+use Prim.Native.Nat.{ℕ, _+_, _≤_, _<_}
+use native.Mathlib.Omega.{arith}
+use borrow.Author.Tests.{eq-eqb, ne-eqb, le-leb, lt-ltb, eqb-true}
+use lib.Dec.{eqb, ltb}
+use lib.ListN.{length}
+use Rattle.rows.specs.Counting.{count}
+use Rattle.rows.specs.Linked.{Linked, ends}
+use Rattle.rows.specs.Weights.{one}
+use Rattle.rows.proofs.Weights.{when-same}
+use Rattle.fields.specs.Columns.{View, _:=_, assigned}
+use Rattle.words.specs.Anchor.{Fields, anchorOf, anchorWord, full}
+use Rattle.words.proofs.Anchors.{anchor-of-word, full-fits, anchor-below}
+use Rattle.words.specs.declared.anchor.Anchor.{Anchor}
+use Rattle.classes.specs.Classes.{perRegion}
+use Rattle.classes.specs.Places.{indexOf}
+use Rattle.classes.proofs.Places.{index-below}
+use Rattle.classes.proofs.Tables.{perRegion-high}
+use Rattle.links.specs.Link.{link}
+use Rattle.plain.specs.State.{State, EMPTY, PARTIAL, FULL, numberOf, Note, read, retire, Place, pushing, a3-read}
+use Rattle.plain.specs.State.{a3-exchange, a4, Mem, setDescriptor}
+use Rattle.plain.specs.Moves.{going, took}
+use Rattle.plain.specs.Steps.{noted, chained, AsNoted, asNoted?, moving}
+use Rattle.plain.specs.Steps as Steps
+use Rattle.plain.specs.Blocks.{isBlock}
+use Rattle.plain.specs.Invariant.{OpenDescriptor, ChainLength}
+use Rattle.plain.specs.States.{IsOpen, ifOpen, isFull}
+use Rattle.plain.proofs.Anchors.{in-hand, class-of}
+use Rattle.plain.proofs.Takes.{taken}
+use Rattle.plain.proofs.Blocks.{counts-block}
+use Rattle.plain.proofs.Places.{taskOf}
+use Rattle.plain.proofs.States.{open-holds}
+use Rattle.control.specs.Layout
+use Rattle.control.specs.Layout.{TaskPlace, TaskClass, TaskAnchor, TaskDescriptor, TaskRegion, TaskIndex, TaskLeft}
+use Rattle.control.specs.Layout.{DescriptorRegion}
+use Rattle.stepped.specs.Ranges.{isAnchor, hasChain}
+use Rattle.stepped.specs.Outcome.{accept}
+use Rattle.stepped.specs.Allocate as Allocate
+use Rattle.agreement.specs.Memory.{slotOf, memoryOf}
+use Rattle.agreement.specs.Relation.{PushRelated, NoteRelated, ChainRelated, r-retire, r-a3-read, r-a3-exchange, r-a4}
+use Rattle.agreement.proofs.Slots.{toPlace, toAnchor, toChain}
+use Rattle.agreement.proofs.Sets.{setAnchor}
+use Rattle.agreement.proofs.Bridge.{withSlots, anchor-written}
+use Rattle.agreement.proofs.Tops.{first-of, descriptor-in-hand}
+use Rattle.agreement.proofs.Couple.{mine}
+use Rattle.agreement.proofs.Changes.{anchoring}
+use Rattle.agreement.proofs.Notes.{note-of, same-unmoved, unmoved-same, same-anchor-word, anchor-word-same}
+use Rattle.agreement.proofs.Notes.{number-open, number-max, re-note}
+use Rattle.stepped.proofs.Conjunction.{both-true}
+use Rattle.agreement.proofs.Both.{Both, pass, meet, miss, decide, has-top}
+use Rattle.agreement.proofs.Turns.{At, goes}
+use Rattle.agreement.proofs.Sharing.{shares}
+
+module _ {regions : ℕ} {v : View} {area : List ℕ} {m : Mem} {t : ℕ} {p : Place} {k : ℕ → List ℕ}
+    (w : At regions v area m t p k) where
+  -- the anchor of one of the 64 descriptors is in its ranges
+  pub anchor-tested : (d : ℕ) → d < 64 → isAnchor (v (Layout.Anchor d)) ≡ true
+  anchor-tested d l =
+      let C = w .pair .rel .core in
+      let b = anchorOf (v (Layout.Anchor d)) in
+      both-true (both-true
+      (le-leb (b .state) 2 (omega (arith, C .descriptors d l .state, number-max (m .descriptor d .state))))
+      (le-leb (b .avail) 512 (C .avails d l)))
+      (le-leb (b .count) 512 (C .chainCounts d l))
+
+-- the word of (FULL, n, 0) says so
+pub full-parts : (c : ℕ) → Fields (full (perRegion c))
+full-parts c = full-fits (perRegion c) (omega (arith, perRegion-high c))
+
+pub full-read : (c : ℕ) → anchorOf (anchorWord (full (perRegion c))) ≡ full (perRegion c)
+full-read c = anchor-of-word (full (perRegion c)) (full-parts c)
+
+-- a chain that has a block begins at an index below n
+pub first-below : {nx : ℕ → ℕ} {f : ℕ} (r c : ℕ) (q : List ℕ) → Linked nx (indexOf c) (perRegion c) f q → 1 ≤ length q
+    → ((y : ℕ) → count y q ≤ isBlock y r c) → f < perRegion c
+first-below r c [] l h i = absurd (omega arith)
+first-below r c (x ∷ q) l h i =
+    omega (arith, first-of l, index-below (counts-block r c x (omega (arith, i x, when-same x 1))))
+
+-- an anchor from which a chain can be taken
+pub chain-tested : (n word : ℕ) → anchorOf word .state ≡ 1 → 1 ≤ anchorOf word .count → anchorOf word .count ≤ n
+    → anchorOf word .avail < n → hasChain n word ≡ true
+chain-tested n word e f g h =
+    let b = anchorOf word in
+    both-true (both-true (eq-eqb (b .state) 1 e) (both-true (le-leb 1 (b .count) f) (le-leb (b .count) n g)))
+    (lt-ltb (b .avail) n h)
+
+module _ {regions : ℕ} {v : View} {area : List ℕ} {m : Mem} {t : ℕ} {k : ℕ → List ℕ} where
+  -- ---- the read
+
+  -- the anchor's state is z
+  read-state : At regions v area m t (a3-read (v (TaskClass t)) (v (TaskDescriptor t))) k → v (TaskDescriptor t) < 64
+      → (z : State) → m .descriptor (v (TaskDescriptor t)) .state ≡ z
+      → Both regions v area m (Allocate.a3ReadOf v (link area) regions t (v (TaskClass t)) (v (TaskDescriptor t)))
+      (Steps.a3Read t k (v (TaskClass t)) (v (TaskDescriptor t)) z m)
+  unfolding Allocate.a3ReadOf
+  read-state w l EMPTY g =
+      let c = v (TaskClass t) in
+      let d = v (TaskDescriptor t) in
+      let b = anchorOf (v (Layout.Anchor d)) in
+      pass (isAnchor (v (Layout.Anchor d))) (anchor-tested w d l)
+      (meet _ (eqb (b .state) 0) (eq-eqb (b .state) 0 (w .pair .rel .core .descriptors d l .state ∙ ap numberOf g)) (record {
+        says = refl;
+        keeps = (refl, refl);
+        rel = goes w (TaskPlace t := 11 ∷ []) (toPlace 11 (slotOf v t)) (pushing (retire c d) read) refl
+            (rw (eq-eqb t t refl)) (λ j n. rw (ne-eqb t j n)) refl refl refl (r-retire (PushRelated.at-read refl));
+        sound = omega (arith, w .pair .turn .fits);
+        apart = tt;
+      }))
+  read-state w l FULL g =
+      let d = v (TaskDescriptor t) in
+      absurd (omega (arith, in-hand (w .pair .turn) d (omega (arith, when-same d 1)) .1, ap isFull g))
+  read-state w l PARTIAL g =
+      let c = v (TaskClass t) in
+      let d = v (TaskDescriptor t) in
+      let word = v (Layout.Anchor d) in
+      let b = anchorOf word in
+      let E = m .descriptor d in
+      let opens : IsOpen (E .state) = λ i. ap (λ (z : State). ifOpen z i) g in
+      let ec : c ≡ E .class =
+      class-of (w .pair .turn) c d (mine (w .pair) .fits) (omega (arith, when-same c (one d d + 0), when-same d 1)) in
+      let en : perRegion c ≡ perRegion (E .class) = ap perRegion ec in
+      let D = w .pair .rel .core .descriptors d l in
+      let C : ChainRelated (link area) b E = open-holds (E .state) opens (D .chain) in
+      let L : OpenDescriptor E = open-holds (E .state) opens (w .pair .turn .inv .chains d l) in
+      let sz : ChainLength PARTIAL (perRegion (E .class)) (length (E .chain)) = rw g at (L .sized) in
+      let st : b .state ≡ 1 = D .state ∙ ap numberOf g in
+      let low : 1 ≤ b .count = omega (arith, C .counts, sz) in
+      let high : b .count ≤ perRegion c = omega (arith, C .counts, sz, en) in
+      let first : b .avail < perRegion c = omega (arith, en, first-below (E .region) (E .class) (E .chain) (C .linked) (sz .0) (L .inside)) in
+      pass (isAnchor word) (anchor-tested w d l)
+      (miss _ (eqb (b .state) 0) (ne-eqb (b .state) 0 (omega arith))
+      (pass (hasChain (perRegion c) word) (chain-tested (perRegion c) word st low high first) (record {
+        says = refl;
+        keeps = (refl, refl);
+        rel = goes w (TaskPlace t := 24 ∷ TaskAnchor t := word ∷ []) (toPlace 24 (toAnchor b (slotOf v t)))
+            (a3-exchange c d (noted E)) refl (rw (eq-eqb t t refl)) (λ j n. rw (ne-eqb t j n)) refl refl refl
+            (r-a3-exchange refl (re-note refl (sym ec) (note-of m d D C L)) st low high first);
+        sound = omega (arith, w .pair .turn .fits, w .fitting (Layout.Anchor d) (omega (arith, l)));
+        apart = tt;
+      })))
+
+  pub a3-read-both : At regions v area m t (a3-read (v (TaskClass t)) (v (TaskDescriptor t))) k
+      → Both regions v area m (Allocate.a3Read v (link area) regions t (v (TaskClass t)))
+      (Steps.stepAt t k (a3-read (v (TaskClass t)) (v (TaskDescriptor t))) m)
+  unfolding Allocate.a3Read
+  a3-read-both w =
+      let d = v (TaskDescriptor t) in
+      let l = descriptor-in-hand (w .pair .turn) d (omega (arith, when-same d 1)) in
+      pass (ltb d 64) (lt-ltb d 64 l) (read-state w l (m .descriptor d .state) refl)
+
+  -- ---- the exchange
+
+  -- it is won: the anchor is as noted
+  exchange-won : (n : Note) → At regions v area m t (a3-exchange (v (TaskClass t)) (v (TaskDescriptor t)) n) k
+      → anchorOf (v (TaskAnchor t)) .count ≤ perRegion (v (TaskClass t))
+      → anchorOf (v (TaskAnchor t)) .avail < perRegion (v (TaskClass t))
+      → v (Layout.Anchor (v (TaskDescriptor t))) ≡ v (TaskAnchor t) → AsNoted (m .descriptor (v (TaskDescriptor t))) n
+      → Both regions v area m
+      (accept (took (v (TaskDescriptor t)))
+      (TaskPlace t := 25
+      ∷ Layout.Anchor (v (TaskDescriptor t)) := anchorWord (full (perRegion (v (TaskClass t))))
+      ∷ TaskRegion t := v (DescriptorRegion (v (TaskDescriptor t)))
+      ∷ TaskIndex t := anchorOf (v (TaskAnchor t)) .avail
+      ∷ TaskLeft t := anchorOf (v (TaskAnchor t)) .count
+      ∷ [])
+      []) (
+        Steps.at t k (moving (v (TaskClass t)) (m .descriptor (v (TaskDescriptor t)) .chain))
+            (setDescriptor (v (TaskDescriptor t)) (chained (m .descriptor (v (TaskDescriptor t))) FULL []) m),
+        going (took (v (TaskDescriptor t))),
+      )
+  exchange-won n w high first e u =
+      let c = v (TaskClass t) in
+      let d = v (TaskDescriptor t) in
+      let r = v (DescriptorRegion d) in
+      let b = anchorOf (v (TaskAnchor t)) in
+      let E = m .descriptor d in
+      let T = taken (w .pair .turn) u in
+      let D = w .pair .rel .core .descriptors d (T .fits) in
+      let C : ChainRelated (link area) (anchorOf (v (Layout.Anchor d))) E = open-holds (E .state) (T .counts) (D .chain) in
+      let same = anchor-word-same (v (Layout.Anchor d)) (v (TaskAnchor t)) e in
+      let s = toPlace 25 (toChain r (b .avail) (b .count) (slotOf v t)) in
+      let lk : Linked (link area) (indexOf c) (perRegion c) (b .avail) (E .chain) =
+      subst (λ (z : ℕ). Linked (link area) (indexOf z) (perRegion z) (b .avail) (E .chain)) (sym (T .class))
+      (subst (λ (z : ℕ). Linked (link area) (indexOf (E .class)) (perRegion (E .class)) z (E .chain)) (same .0 .1) (C .linked)) in
+      let inside : (y : ℕ) → count y (E .chain) ≤ isBlock y r c =
+      λ y. omega (arith, T .opened .inside y, ap (λ (z : ℕ). isBlock y z (E .class)) (D .region), ap (isBlock y r) (T .class)) in
+      let own = TaskRegion t := r ∷ TaskIndex t := b .avail ∷ TaskLeft t := b .count ∷ [] in
+      let S = slotOf (assigned (TaskPlace t := 25 ∷ own) v) in
+      has-top (λ q. (Steps.at t k (moving c q) (setDescriptor d (chained E FULL []) m), going (took d))) (E .chain)
+      (λ i. omega (arith, T .chain, ap length i))
+      (λ x q i. record {
+        says = refl;
+        keeps = (refl, refl);
+        rel = shares w
+            (TaskPlace t := 25 ∷ Layout.Anchor d := anchorWord (full (perRegion c)) ∷ own)
+            s (a4 c x q) (setAnchor d (full (perRegion c)) (memoryOf v area)) (setDescriptor d (chained E FULL []) m)
+            (anchoring (w .pair) d (full (perRegion c)) (chained E FULL []) s (taskOf (a4 c x q) k) (T .fits) refl refl refl
+            (record { linked = ends (ap perRegion (T .class)); counts = refl }) (perRegion-high c) (omega arith))
+            (anchor-written v S area d (anchorWord (full (perRegion c)))
+            ∙ ap (λ (z : Anchor). withSlots S (setAnchor d z (memoryOf v area))) (full-read c))
+            refl refl (rw (eq-eqb t t refl)) (λ j n. rw (ne-eqb t j n)) refl refl refl
+            (r-a4 refl (subst (Linked (link area) (indexOf c) (perRegion c) (b .avail)) i lk)
+            (sym (same .1) ∙ C .counts ∙ ap length i) (λ y. omega (arith, inside y, ap (count y) i)));
+        sound = omega (
+          arith,
+          w .pair .turn .fits,
+          w .pair .small,
+          T .fits,
+          w .pair .rel .core .descriptorRegions d (T .fits),
+          anchor-below (full (perRegion c)) (full-parts c),
+          high,
+          first,
+          perRegion-high c,
+        );
+        apart = tt;
+      })
+
+  pub a3-exchange-both : {n : Note} → At regions v area m t (a3-exchange (v (TaskClass t)) (v (TaskDescriptor t)) n) k
+      → NoteRelated m (v (TaskClass t)) (v (TaskDescriptor t)) n (anchorOf (v (TaskAnchor t)))
+      → anchorOf (v (TaskAnchor t)) .state ≡ 1 → 1 ≤ anchorOf (v (TaskAnchor t)) .count
+      → anchorOf (v (TaskAnchor t)) .count ≤ perRegion (v (TaskClass t))
+      → anchorOf (v (TaskAnchor t)) .avail < perRegion (v (TaskClass t))
+      → Both regions v area m (Allocate.a3Exchange v (link area) regions t (v (TaskClass t)))
+      (Steps.stepAt t k (a3-exchange (v (TaskClass t)) (v (TaskDescriptor t)) n) m)
+  unfolding Allocate.a3Exchange Allocate.a3ExchangeOf
+  a3-exchange-both {n} w N st low high first =
+      let c = v (TaskClass t) in
+      let d = v (TaskDescriptor t) in
+      let word = v (TaskAnchor t) in
+      let b = anchorOf word in
+      let E = m .descriptor d in
+      let l = descriptor-in-hand (w .pair .turn) d (omega (arith, when-same d 1)) in
+      let ec : c ≡ E .class =
+      class-of (w .pair .turn) c d (mine (w .pair) .fits) (omega (arith, when-same c (one d d + 0), when-same d 1)) in
+      let D = w .pair .rel .core .descriptors d l in
+      let N′ = re-note {m = m} {m′ = m} refl ec N in
+      let C : 1 ≤ numberOf (E .state) → ChainRelated (link area) (anchorOf (v (Layout.Anchor d))) E =
+      λ h. open-holds (E .state) (number-open (E .state) h) (D .chain) in
+      let L : 1 ≤ numberOf (E .state) → OpenDescriptor E =
+      λ h. open-holds (E .state) (number-open (E .state) h) (w .pair .turn .inv .chains d l) in
+      pass (ltb d 64 && hasChain (perRegion c) word)
+      (both-true (lt-ltb d 64 l) (chain-tested (perRegion c) word st low high first))
+      (pass (isAnchor (v (Layout.Anchor d))) (anchor-tested w d l)
+      (decide (eqb (v (Layout.Anchor d)) word) (asNoted? E n)
+      (λ h.
+      let same = anchor-word-same (v (Layout.Anchor d)) word (eqb-true (v (Layout.Anchor d)) word h) in
+      let z : 1 ≤ numberOf (E .state) = omega (arith, D .state, same) in
+      same-unmoved m d n D (C z) (L z) N′ same)
+      (λ h.
+      let z : 1 ≤ numberOf (E .state) = omega (arith, h, N .state) in
+      eq-eqb (v (Layout.Anchor d)) word (same-anchor-word (v (Layout.Anchor d)) word (unmoved-same m d n D (C z) (L z) N′ h)))
+      (λ g h.
+      pass (ltb (v (DescriptorRegion d)) regions) (lt-ltb (v (DescriptorRegion d)) regions (w .pair .rel .core .descriptorRegions d l))
+      (exchange-won n w high first (eqb-true (v (Layout.Anchor d)) word g) h))
+      (λ g h. record {
+        says = refl;
+        keeps = (refl, refl);
+        rel = goes w (TaskPlace t := 23 ∷ []) (toPlace 23 (slotOf v t)) (a3-read c d) refl
+            (rw (eq-eqb t t refl)) (λ j n. rw (ne-eqb t j n)) refl refl refl (r-a3-read refl);
+        sound = omega (arith, w .pair .turn .fits);
+        apart = tt;
+      })))

@@ -1,0 +1,252 @@
+-- The beginnings of requests, in both pools.
+-- Assumes nothing.
+use mathlib.Core.Path.{_≡_, refl, sym, ap, subst, _∙_}
+use mathlib.Core.Bool.{true, cond}
+use mathlib.Core.List.{List, [], _∷_}
+use Prim.Native.Nat.{ℕ, zero, suc, _+_, _-_, _/_, _%_, _≤_, _<_}
+use native.Mathlib.Omega.{arith}
+use native.Mathlib.Numerals.{sub-one}
+use native.Mathlib.Decide.{ℕ-discrete, decLt}
+use borrow.Author.Tests.{eq-eqb, ne-eqb, le-leb, lt-ltb, eqb-true, eqb-false, ltb-true}
+use lib.Dec.{eqb, ltb}
+use Rattle.rows.specs.Branch.{if, both}
+use Rattle.fields.specs.Columns.{View, Write, _:=_, assigned}
+use Rattle.rows.specs.Linked.{Linked}
+use Rattle.links.specs.Link.{link}
+use Rattle.words.specs.Anchor.{anchorOf}
+use Rattle.words.specs.Mark.{bitAt, isSet, withClear}
+use Rattle.words.proofs.Marks.{clear-below}
+use Rattle.classes.specs.Classes.{units, perRegion}
+use Rattle.classes.specs.Sizes.{classOf}
+use Rattle.classes.specs.Places.{regionOf, indexOf, isFirst}
+use Rattle.classes.proofs.Sizes.{is-class}
+use Rattle.plain.specs.State.{State, EMPTY, PARTIAL, FULL, numberOf, Place, idle, a1, f1, Mem, Task, setTask, setHands}
+use Rattle.plain.specs.Moves.{going, nothing, refused}
+use Rattle.plain.specs.Steps.{Result}
+use Rattle.plain.specs.Calls as Plain
+use Rattle.plain.specs.Invariant.{Invariant}
+use Rattle.plain.proofs.Homes.{inside-open}
+use Rattle.plain.proofs.Places.{taskOf}
+use Rattle.control.specs.Layout.{Anchor, Marks, TaskUnit, TaskPlace, TaskClass, DescriptorRegion, DescriptorClass}
+use Rattle.stepped.specs.Outcome.{Outcome, refuse}
+use Rattle.stepped.specs.Ranges.{isAnchor}
+use Rattle.stepped.specs.Calls as Stepped
+use Rattle.agreement.specs.Memory.{Slot, Memory, slotOf, memoryOf}
+use Rattle.agreement.specs.Relation
+use Rattle.agreement.specs.Relation.{PopRelated, PushRelated, PlaceRelated, r-idle, r-a1, r-partial, r-spare, r-region, r-retire, r-back, r-release, r-offer, r-a3-read, r-a3-exchange, r-a4, r-a7, r-a8, r-f1, r-f2, r-f2-more, r-f3-read, r-f3-link, r-f3-exchange, r-f4-clear, SlotRelated, Related}
+use Rattle.agreement.proofs.Slots.{toRequest}
+use Rattle.agreement.proofs.Sets.{setSlot, setMark}
+use Rattle.agreement.proofs.Bridge.{becomes, mark-clear-written}
+use Rattle.agreement.proofs.Couple.{quiet, mine}
+use Rattle.agreement.proofs.Changes.{marking}
+use Rattle.agreement.proofs.Notes.{number-max}
+use Rattle.stepped.proofs.Conjunction.{both-true, left-true, right-true}
+use Rattle.agreement.proofs.Both.{Both, pass, meet, choose, decide}
+use Rattle.agreement.proofs.Turns.{At}
+
+module _ {regions : ℕ} {v : View} {area : List ℕ} {m : Mem} (R : Related regions (memoryOf v area) m) where
+  -- a refused call changes nothing
+  pub refusal : (n : ℕ) → Both regions v area m (refuse n) (m, refused n)
+  refusal n = record { says = refl; rel = R; keeps = (refl, refl); sound = tt; apart = tt }
+
+  module _ (t : ℕ) (x : Outcome) (y : Result) where
+    -- test 6 at a place that is not idle
+    busy : (n : ℕ) → v (TaskPlace t) ≡ n → 1 ≤ n → n < 34 → Both regions v area m (Stepped.whenIdle v t x) (m, refused 6)
+    unfolding Stepped.whenIdle
+    busy n e l h = rw (lt-ltb (v (TaskPlace t)) 34 (omega arith), ne-eqb (v (TaskPlace t)) 0 (omega arith)) (refusal 6)
+
+    pop-busy : {b ℓ items : ℕ} {φ : Rattle.plain.specs.State.Phase} → PopRelated m (slotOf v t) b ℓ items φ → 1 ≤ b → b < 32
+        → Both regions v area m (Stepped.whenIdle v t x) (m, refused 6)
+    pop-busy {b} (PopRelated.at-read e) l h = busy b e l (omega arith)
+    pop-busy {b} (PopRelated.at-next e N i j) l h = busy (b + 1) e (omega arith) (omega arith)
+    pop-busy {b} (PopRelated.at-exchange e N i j o p) l h = busy (b + 2) e (omega arith) (omega arith)
+
+    push-busy : {b ℓ items z : ℕ} {nx : ℕ → ℕ} {φ : Rattle.plain.specs.State.Phase} → PushRelated m (slotOf v t) b ℓ items z nx φ → 1 ≤ b → b < 32
+        → Both regions v area m (Stepped.whenIdle v t x) (m, refused 6)
+    push-busy {b} (PushRelated.at-read e) l h = busy b e l (omega arith)
+    push-busy {b} (PushRelated.at-next e N i) l h = busy (b + 1) e (omega arith) (omega arith)
+    push-busy {b} (PushRelated.at-exchange e N i j) l h = busy (b + 2) e (omega arith) (omega arith)
+
+    -- "6 the task has a request in hand"
+    pub when-idle : (p : Place) → PlaceRelated regions (memoryOf v area) m (slotOf v t) p → (p ≡ idle → Both regions v area m x y)
+        → Both regions v area m (Stepped.whenIdle v t x) (Plain.whenIdle p y m)
+    unfolding Stepped.whenIdle
+    when-idle p (r-idle e) h = rw (lt-ltb (v (TaskPlace t)) 34 (omega arith), eq-eqb (v (TaskPlace t)) 0 e) (h refl)
+    when-idle p (r-a1 e) h = busy 1 e (omega arith) (omega arith)
+    when-idle p (r-partial e) h = pop-busy e (omega arith) (omega arith)
+    when-idle p (r-spare e) h = pop-busy e (omega arith) (omega arith)
+    when-idle p (r-region e) h = pop-busy e (omega arith) (omega arith)
+    when-idle p (r-retire e) h = push-busy e (omega arith) (omega arith)
+    when-idle p (r-back e) h = push-busy e (omega arith) (omega arith)
+    when-idle p (r-release i e) h = push-busy e (omega arith) (omega arith)
+    when-idle p (r-offer e) h = push-busy e (omega arith) (omega arith)
+    when-idle p (r-a3-read e) h = busy 23 e (omega arith) (omega arith)
+    when-idle p (r-a3-exchange e N i j k l) h = busy 24 e (omega arith) (omega arith)
+    when-idle p (r-a4 e l n i) h = busy 25 e (omega arith) (omega arith)
+    when-idle p (r-a7 e) h = busy 26 e (omega arith) (omega arith)
+    when-idle p (r-a8 e) h = busy 27 e (omega arith) (omega arith)
+    when-idle p (r-f1 e) h = busy 28 e (omega arith) (omega arith)
+    when-idle p (r-f2 e z) h = busy 29 e (omega arith) (omega arith)
+    when-idle p (r-f2-more e G) h = busy 29 e (omega arith) (omega arith)
+    when-idle p (r-f3-read e G) h = busy 30 e (omega arith) (omega arith)
+    when-idle p (r-f3-link e G N l) h = busy 31 e (omega arith) (omega arith)
+    when-idle p (r-f3-exchange e G N l i) h = busy 32 e (omega arith) (omega arith)
+    when-idle p (r-f4-clear e i) h = busy 33 e (omega arith) (omega arith)
+
+-- ---- an idle task begins a request
+
+module _ {regions : ℕ} {v : View} {area : List ℕ} {m : Mem} {t : ℕ} {k : ℕ → List ℕ} (w : At regions v area m t idle k) where
+  abbrev R : Related regions (memoryOf v area) m
+  R = w .pair .rel
+
+  -- a task's part with its caches as they were, and another class
+  begun : (a′ : Memory) (m′ : Mem) (s : Slot) (p : Place) → a′ .area ≡ area → s .class < 16 → s .top ≡ slotOf v t .top → s .count ≡ slotOf v t .count
+      → PlaceRelated regions a′ m′ s p → SlotRelated regions a′ m′ s (taskOf p k)
+  begun a′ m′ s p e f g h pl = record {
+    fits = f;
+    place = pl;
+    tops = λ c l. subst (λ (z : List ℕ). Linked (link z) (λ u. u) 8192 (s .top c) (k c)) (sym e) (rw (ap (λ (z : ℕ → ℕ). z c) g) (mine (w .pair) .tops c l));
+    counts = λ c l. ap (λ (z : ℕ → ℕ). z c) h ∙ mine (w .pair) .counts c l;
+  }
+
+  -- allocate: "8 size 0; 9 size above 256"
+  pub allocate-both : (size : ℕ) → Both regions v area m (Stepped.beginAllocate t size) (Plain.beginAllocate t size m)
+  unfolding Stepped.beginAllocate
+  allocate-both size =
+      decide (eqb size 0) (ℕ-discrete size 0) (eqb-true size 0) (eq-eqb size 0) (λ e f. refusal R 8)
+      (λ e f. decide (ltb 256 size) (decLt 256 size) (ltb-true 256 size) (lt-ltb 256 size) (λ g h. refusal R 9)
+      (λ g h.
+      let l : classOf size < 16 = is-class size (omega arith) in
+      let s = toRequest 1 (classOf size) (v (TaskUnit t)) (slotOf v t) in
+      let ws = TaskPlace t := 1 ∷ TaskClass t := classOf size ∷ [] in
+      record {
+        says = refl;
+        rel = subst (λ (z : Memory). Related regions z (setTask t (record { place = a1 (classOf size); cache = m .task t .cache }) m))
+            (sym (becomes v (assigned ws v) area t s (memoryOf v area) refl refl (rw (eq-eqb t t refl)) (λ j n. rw (ne-eqb t j n))))
+            (subst (λ (q : ℕ → List ℕ). Related regions (setSlot t s (memoryOf v area)) (setTask t (record { place = a1 (classOf size); cache = q }) m)) (sym cache-is)
+            (quiet (w .pair) s (taskOf (a1 (classOf size)) k) (begun _ _ s (a1 (classOf size)) refl l refl refl (r-a1 refl))));
+        keeps = (refl, refl);
+        sound = omega (arith, w .pair .turn .fits);
+        apart = tt;
+      }))
+    where
+      cache-is : m .task t .cache ≡ k
+      cache-is = ap (λ (T : Task). T .cache) (w .pair .turn .is)
+
+-- ---- free
+
+-- a state is EMPTY exactly where its number is 0
+abbrev notEmpty : (z : State) → 1 ≤ numberOf z → Plain.NotEmpty z
+notEmpty EMPTY h = absurd (omega arith)
+notEmpty PARTIAL h = tt
+notEmpty FULL h = tt
+
+numbered : (z : State) → Plain.NotEmpty z → 1 ≤ numberOf z
+numbered EMPTY h = absurd h
+numbered PARTIAL h = omega arith
+numbered FULL h = omega arith
+
+-- the test of a block's first unit, in both pools
+first-same : (c u : ℕ) → isFirst c u ≡ true → Plain.First c u
+unfolding isFirst
+first-same c u e = (
+  eqb-true (u % 512 % units c) 0 (left-true (eqb (u % 512 % units c) 0) (ltb (indexOf c u) (perRegion c)) e),
+  ltb-true (indexOf c u) (perRegion c) (right-true (eqb (u % 512 % units c) 0) (ltb (indexOf c u) (perRegion c)) e),
+)
+
+same-first : (c u : ℕ) → Plain.First c u → isFirst c u ≡ true
+unfolding isFirst
+same-first c u p = both-true (eq-eqb (u % 512 % units c) 0 (p .0)) (lt-ltb (indexOf c u) (perRegion c) (p .1))
+
+module _ {regions : ℕ} {v : View} {area : List ℕ} {m : Mem} {t : ℕ} {k : ℕ → List ℕ} (w : At regions v area m t idle k) (u : ℕ)
+    (inside : regionOf u < regions) where
+  abbrev I : Invariant regions m
+  I = w .pair .turn .inv
+
+  -- the plain pool after the beginning of the free of a block of the class c
+  abbrev freed : ℕ → Result
+  freed c = (setTask t (record { place = f1 c u; cache = m .task t .cache }) (setHands u 0 m), going nothing)
+
+  -- the test of an open region and a first unit fails
+  ten : {P : Type 0} (e : Dec P) (y : Result) → ¬ P → Both regions v area m (refuse 10) (if e y (m, refused 10))
+  ten (yes p) y n = absurd (n p)
+  ten (no p) y n = refusal (R w) 10
+
+  -- "11 such a unit, but its mark is clear"; else the mark is cleared
+  marked : (c : ℕ) → c < 16 → (e : Dec (m .hands u ≡ 0)) → Both regions v area m (Stepped.freeMarked v t u c) (if e (m, refused 11) (freed c))
+  unfolding Stepped.freeMarked
+  marked c l (yes e) = rw (ne-eqb (bitAt (v (Marks (u / 64))) (u % 64)) 1 (λ i. omega (arith, mark))) (refusal (R w) 11)
+    where
+      mark : bitAt (v (Marks (u / 64))) (u % 64) ≡ m .hands u
+      mark = R w .core .marks u (omega (arith, w .pair .small))
+  marked c l (no e) =
+      meet (refuse 11) (isSet (v (Marks (u / 64))) (u % 64)) (eq-eqb (bitAt (v (Marks (u / 64))) (u % 64)) 1 (mark ∙ one))
+      (record {
+        says = refl;
+        rel = subst (λ (z : Memory). Related regions z (freed c .0))
+            (sym (becomes v (assigned ws v) area t s (setMark u 0 (memoryOf v area)) (mark-clear-written v (slotOf (assigned ws v)) area u) refl (rw (eq-eqb t t refl)) (λ j n. rw (ne-eqb t j n))))
+            (subst (λ (q : ℕ → List ℕ). Related regions (setSlot t s (setMark u 0 (memoryOf v area))) (setTask t (record { place = f1 c u; cache = q }) (setHands u 0 m))) (sym cache-is)
+            (marking (w .pair) u 0 s (taskOf (f1 c u) k) (begun w _ _ s (f1 c u) refl l refl refl (r-f1 refl))));
+        keeps = (refl, refl);
+        sound = omega (arith, w .pair .turn .fits, w .pair .small, clear-below (v (Marks (u / 64))) (u % 64) 64 (w .fitting (Marks (u / 64)) (omega (arith, w .pair .small))) (omega arith));
+        apart = tt;
+      })
+    where
+      mark : bitAt (v (Marks (u / 64))) (u % 64) ≡ m .hands u
+      mark = R w .core .marks u (omega (arith, w .pair .small))
+
+      one : m .hands u ≡ 1
+      one = omega (arith, I .blocks u, inside-open I u)
+
+      ws : List Write
+      ws = TaskPlace t := 28 ∷ TaskClass t := c ∷ TaskUnit t := u ∷ Marks (u / 64) := withClear (v (Marks (u / 64))) (u % 64) ∷ []
+
+      s : Slot
+      s = toRequest 28 c u (slotOf v t)
+
+      cache-is : m .task t .cache ≡ k
+      cache-is = ap (λ (T : Task). T .cache) (w .pair .turn .is)
+
+  -- the descriptor d, which the map names for the region, opens it or not; then its class and the unit
+  opened : (d : ℕ) → d < 64 → Both regions v area m (Stepped.freeBy v regions t u d) (Plain.freeIn (m .descriptor d) t u m)
+  unfolding Stepped.freeBy Stepped.freeOpen
+  opened d l =
+      let D = R w .core .descriptors d l in
+      let n = numberOf (m .descriptor d .state) in
+      let test = both (Plain.opens? (m .descriptor d) (regionOf u)) (Plain.first? (m .descriptor d .class) u) in
+      pass (ltb (v (DescriptorRegion d)) regions) (lt-ltb (v (DescriptorRegion d)) regions (R w .core .descriptorRegions d l))
+      (choose (eqb (v (DescriptorRegion d)) (regionOf u))
+      (λ e.
+      pass (isAnchor (v (Anchor d)))
+      (both-true (both-true (le-leb (anchorOf (v (Anchor d)) .state) 2 (omega (arith, D .state, number-max (m .descriptor d .state)))) (le-leb (anchorOf (v (Anchor d)) .avail) 512 (R w .core .avails d l)))
+      (le-leb (anchorOf (v (Anchor d)) .count) 512 (R w .core .chainCounts d l)))
+      (choose (eqb (anchorOf (v (Anchor d)) .state) 0)
+      (λ z. ten test _ (λ p. absurd (omega (arith, eqb-true (anchorOf (v (Anchor d)) .state) 0 z, D .state, numbered (m .descriptor d .state) (p .0 .1)))))
+      (λ z.
+      let live : Plain.NotEmpty (m .descriptor d .state) = notEmpty (m .descriptor d .state) (omega (arith, eqb-false (anchorOf (v (Anchor d)) .state) 0 z, D .state)) in
+      pass (ltb (v (DescriptorClass d)) 16) (lt-ltb (v (DescriptorClass d)) 16 (R w .core .descriptorClasses d l))
+      (subst (λ (c : ℕ). Both regions v area m (cond (isFirst c u) (Stepped.freeMarked v t u c) (refuse 10)) (Plain.freeIn (m .descriptor d) t u m)) (sym (D .class))
+      (decide (isFirst (m .descriptor d .class) u) test
+      (λ f. ((sym (D .region) ∙ eqb-true (v (DescriptorRegion d)) (regionOf u) e, live), first-same (m .descriptor d .class) u f))
+      (λ p. same-first (m .descriptor d .class) u (p .1))
+      (λ f p. marked (m .descriptor d .class) (omega (arith, D .class, R w .core .descriptorClasses d l)) (ℕ-discrete (m .hands u) 0))
+      (λ f p. refusal (R w) 10))))))
+      (λ e. ten test _ (λ p. absurd (eqb-false (v (DescriptorRegion d)) (regionOf u) e (D .region ∙ p .0 .0)))))
+
+  -- the map's entry
+  entry : (z : ℕ) → z ≤ 64 → Both regions v area m (Stepped.freeEntry v regions t u z) (Plain.freeBy z t u m)
+  unfolding Stepped.freeEntry
+  entry zero l = refusal (R w) 10
+  entry (suc d) l =
+      rw (ne-eqb (suc d) 0 (omega arith), le-leb (suc d) 64 l, sub-one)
+      (opened d l)
+
+-- "10 not the first unit of a block of an open region"
+pub free-both : {regions : ℕ} {v : View} {area : List ℕ} {m : Mem} {t : ℕ} {k : ℕ → List ℕ} (w : At regions v area m t idle k) (u : ℕ)
+    → Both regions v area m (Stepped.beginFree v regions t u) (Plain.beginFree t u regions m)
+unfolding Stepped.beginFree
+free-both {regions} {v} {area} {m} {t} w u =
+    decide (ltb (regionOf u) regions) (decLt (regionOf u) regions) (ltb-true (regionOf u) regions) (lt-ltb (regionOf u) regions)
+    (λ e l. subst (λ (z : ℕ). Both regions v area m (Stepped.freeEntry v regions t u z) (Plain.freeBy (m .map (regionOf u)) t u m))
+    (sym (R w .core .maps (regionOf u) l)) (entry w u l (m .map (regionOf u)) (w .pair .turn .inv .entries (regionOf u))))
+    (λ e l. refusal (R w) 10)

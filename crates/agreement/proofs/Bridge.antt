@@ -1,0 +1,263 @@
+-- Writes to fields, seen column by column: what an assigned view reads as.
+-- Assumes nothing.
+use mathlib.Core.Path.{_≡_, refl, sym, ap, fun-ext, _∙_}
+use mathlib.Core.Logic.{_≢_}
+use mathlib.Core.Bool.{cond}
+use mathlib.Core.List.{List, [], _∷_}
+use Prim.Native.Nat.{ℕ, _+_, _*_, _/_, _%_, _<_}
+use native.Mathlib.Omega.{arith}
+use native.Mathlib.Decide.{ℕ-discrete, decLt}
+use borrow.Author.Tests.{eq-eqb, ne-eqb}
+use lib.Dec.{eqb}
+use Rattle.rows.specs.Branch.{if}
+use Rattle.rows.specs.Update.{update}
+use Rattle.fields.specs.Columns.{View, _:=_, assigned}
+use Rattle.words.specs.Mark.{bitAt, withSet, withClear}
+use Rattle.words.proofs.Marks.{set-here, set-others, clear-here, clear-others}
+use Rattle.control.specs.Layout.{Marks}
+use Rattle.control.specs.Layout
+use Rattle.words.specs.Head.{headOf}
+use Rattle.words.specs.Anchor.{anchorOf}
+use Rattle.words.specs.declared.head.Head.{Head}
+use Rattle.words.specs.declared.anchor.Anchor.{Anchor}
+use Rattle.agreement.specs.Memory.{Slot, Memory, byClass, slotOf, markOf, memoryOf}
+use Rattle.agreement.proofs.Sets.{setSlot, setHead, setDescriptorNext, setRegionNext, setAnchor, setOwner, setMap, setMark}
+
+-- ---- one column
+
+-- a column that is assigned at the index i is that column, updated there; g reads a number of it
+pub column-update : {A : Type 0} (g : ℕ → A) (f : ℕ → ℕ) (i x : ℕ)
+    → (λ (j : ℕ). g (cond (eqb i j) x (f j))) ≡ update (λ (j : ℕ). g (f j)) i (g x)
+unfolding update
+column-update g f i x = fun-ext (λ j. go j (ℕ-discrete j i))
+  where
+    go : (j : ℕ) (d : Dec (j ≡ i)) → g (cond (eqb i j) x (f j)) ≡ if d (g x) (g (f j))
+    go j (yes e) = rw (eq-eqb i j (sym e))
+    go j (no n) = rw (ne-eqb i j (λ e. n (sym e)))
+
+-- ---- the tasks' parts
+
+-- all parts, where that of the task t is now s and the others are as they were
+pub slots-update : (v v′ : View) (t : ℕ) (s : Slot) → slotOf v′ t ≡ s → ((j : ℕ) → t ≢ j → slotOf v′ j ≡ slotOf v j)
+    → slotOf v′ ≡ update (slotOf v) t s
+unfolding update
+slots-update v v′ t s e h = fun-ext (λ j. go j (ℕ-discrete j t))
+  where
+    go : (j : ℕ) (d : Dec (j ≡ t)) → slotOf v′ j ≡ if d s (slotOf v j)
+    go j (yes i) = ap (slotOf v′) i ∙ e
+    go j (no n) = h j (λ i. n (sym i))
+
+-- ---- the caches: tasks and classes apart
+
+-- the column of the caches, assigned at the task t and the class c, as that task sees it
+pub cache-here : (f : ℕ → ℕ) (t c x : ℕ) → c < 16
+    → byClass (λ (i : ℕ). cond (eqb (16 * t + c) i) x (f i)) t ≡ update (byClass f t) c x
+unfolding update
+cache-here f t c x l = fun-ext (λ e. go e (decLt e 16) (ℕ-discrete e c))
+  where
+    go : (e : ℕ) (p : Dec (e < 16)) (q : Dec (e ≡ c))
+        → if p (cond (eqb (16 * t + c) (16 * t + e)) x (f (16 * t + e))) 0 ≡ if q x (if p (f (16 * t + e)) 0)
+    go e (yes p) (yes q) = rw (eq-eqb (16 * t + c) (16 * t + e) (omega arith))
+    go e (yes p) (no q) = rw (ne-eqb (16 * t + c) (16 * t + e) (λ z. q (omega arith)))
+    go e (no p) (yes q) = absurd (p (omega arith))
+    go e (no p) (no q) = refl
+
+-- and as another task sees it
+pub cache-there : (f : ℕ → ℕ) (t c x j : ℕ) → c < 16 → t ≢ j
+    → byClass (λ (i : ℕ). cond (eqb (16 * t + c) i) x (f i)) j ≡ byClass f j
+cache-there f t c x j l n = fun-ext (λ e. go e (decLt e 16))
+  where
+    go : (e : ℕ) (p : Dec (e < 16)) → if p (cond (eqb (16 * t + c) (16 * j + e)) x (f (16 * j + e))) 0 ≡ if p (f (16 * j + e)) 0
+    go e (yes p) = rw (ne-eqb (16 * t + c) (16 * j + e) (λ z. n (omega arith)))
+    go e (no p) = refl
+
+-- ---- the marks
+
+-- the word of the unit u's mark, with one bit changed to b, changes that mark alone
+module _ (v : View) (u b made : ℕ) (here : bitAt made (u % 64) ≡ b)
+    (others : (j : ℕ) → j ≢ u % 64 → bitAt made j ≡ bitAt (v (Marks (u / 64))) j) where
+  marks-update : (λ (w : ℕ). bitAt (cond (eqb (u / 64) (w / 64)) made (v (Marks (w / 64)))) (w % 64)) ≡ update (markOf v) u b
+  unfolding update
+  marks-update = fun-ext (λ w. go w (ℕ-discrete w u) (ℕ-discrete (u / 64) (w / 64)))
+    where
+      go : (w : ℕ) (d : Dec (w ≡ u)) (e : Dec (u / 64 ≡ w / 64))
+          → bitAt (cond (eqb (u / 64) (w / 64)) made (v (Marks (w / 64)))) (w % 64) ≡ if d b (markOf v w)
+      go w (yes d) (yes e) = rw (eq-eqb (u / 64) (w / 64) e, d) here
+      go w (yes d) (no e) = absurd (e (ap (λ (z : ℕ). z / 64) (sym d)))
+      go w (no d) (yes e) =
+          rw (eq-eqb (u / 64) (w / 64) e)
+          (others (w % 64) (λ z. d (omega arith)) ∙ ap (λ (k : ℕ). bitAt (v (Marks k)) (w % 64)) e)
+      go w (no d) (no e) = rw (ne-eqb (u / 64) (w / 64) e)
+
+pub mark-set : (v : View) (u : ℕ)
+    → (λ (w : ℕ). bitAt (cond (eqb (u / 64) (w / 64)) (withSet (v (Marks (u / 64))) (u % 64)) (v (Marks (w / 64)))) (w % 64))
+    ≡ update (markOf v) u 1
+mark-set v u =
+    marks-update v u 1 (withSet (v (Marks (u / 64))) (u % 64)) (set-here (v (Marks (u / 64))) (u % 64))
+    (set-others (v (Marks (u / 64))) (u % 64))
+
+pub mark-clear : (v : View) (u : ℕ)
+    → (λ (w : ℕ). bitAt (cond (eqb (u / 64) (w / 64)) (withClear (v (Marks (u / 64))) (u % 64)) (v (Marks (w / 64)))) (w % 64))
+    ≡ update (markOf v) u 0
+mark-clear v u =
+    marks-update v u 0 (withClear (v (Marks (u / 64))) (u % 64)) (clear-here (v (Marks (u / 64))) (u % 64))
+    (clear-others (v (Marks (u / 64))) (u % 64))
+
+-- ---- the memories
+
+-- the memories with other parts of the tasks
+abbrev pub withSlots : (ℕ → Slot) → Memory → Memory
+withSlots S a = record {
+  head = a .head;
+  descriptorNext = a .descriptorNext;
+  regionNext = a .regionNext;
+  anchor = a .anchor;
+  descriptorRegion = a .descriptorRegion;
+  descriptorClass = a .descriptorClass;
+  map = a .map;
+  mark = a .mark;
+  slot = S;
+  area = a .area;
+}
+
+-- After writes that change the view v to v′: what is shared is as in b, and of the tasks' parts only that of t, now s,
+-- has changed. The first premise is `refl` where only fields of tasks were written.
+pub becomes : (v v′ : View) (area : List ℕ) (t : ℕ) (s : Slot) (b : Memory) → memoryOf v′ area ≡ withSlots (slotOf v′) b
+    → b .slot ≡ slotOf v → slotOf v′ t ≡ s → ((j : ℕ) → t ≢ j → slotOf v′ j ≡ slotOf v j)
+    → memoryOf v′ area ≡ setSlot t s b
+becomes v v′ area t s b e f own others =
+    e ∙ ap (λ (S : ℕ → Slot). withSlots S b) (slots-update v v′ t s own others ∙ ap (λ (S : ℕ → Slot). update S t s) (sym f))
+
+-- what is shared, after a write of one of its columns; S are the tasks' parts
+module _ (v : View) (S : ℕ → Slot) (area : List ℕ) where
+  -- a head
+  pub head-written : (ℓ w : ℕ) → withSlots S (memoryOf (assigned (Layout.Head ℓ := w ∷ []) v) area) ≡ withSlots S (setHead ℓ (headOf w) (memoryOf v area))
+  head-written ℓ w = ap (λ (f : ℕ → Head). record {
+    head = f;
+    descriptorNext = memoryOf v area .descriptorNext;
+    regionNext = memoryOf v area .regionNext;
+    anchor = memoryOf v area .anchor;
+    descriptorRegion = memoryOf v area .descriptorRegion;
+    descriptorClass = memoryOf v area .descriptorClass;
+    map = memoryOf v area .map;
+    mark = memoryOf v area .mark;
+    slot = S;
+    area = area;
+  }) (column-update headOf (λ (j : ℕ). v (Layout.Head j)) ℓ w)
+
+  -- a descriptor's next
+  pub descriptorNext-written : (d x : ℕ) → withSlots S (memoryOf (assigned (Layout.DescriptorNext d := x ∷ []) v) area) ≡ withSlots S (setDescriptorNext d x (memoryOf v area))
+  descriptorNext-written d x = ap (λ (f : ℕ → ℕ). record {
+    head = memoryOf v area .head;
+    descriptorNext = f;
+    regionNext = memoryOf v area .regionNext;
+    anchor = memoryOf v area .anchor;
+    descriptorRegion = memoryOf v area .descriptorRegion;
+    descriptorClass = memoryOf v area .descriptorClass;
+    map = memoryOf v area .map;
+    mark = memoryOf v area .mark;
+    slot = S;
+    area = area;
+  }) (column-update (λ (y : ℕ). y) (λ (j : ℕ). v (Layout.DescriptorNext j)) d x)
+
+  -- a region's next
+  pub regionNext-written : (r x : ℕ) → withSlots S (memoryOf (assigned (Layout.RegionNext r := x ∷ []) v) area) ≡ withSlots S (setRegionNext r x (memoryOf v area))
+  regionNext-written r x = ap (λ (f : ℕ → ℕ). record {
+    head = memoryOf v area .head;
+    descriptorNext = memoryOf v area .descriptorNext;
+    regionNext = f;
+    anchor = memoryOf v area .anchor;
+    descriptorRegion = memoryOf v area .descriptorRegion;
+    descriptorClass = memoryOf v area .descriptorClass;
+    map = memoryOf v area .map;
+    mark = memoryOf v area .mark;
+    slot = S;
+    area = area;
+  }) (column-update (λ (y : ℕ). y) (λ (j : ℕ). v (Layout.RegionNext j)) r x)
+
+  -- an anchor
+  pub anchor-written : (d w : ℕ) → withSlots S (memoryOf (assigned (Layout.Anchor d := w ∷ []) v) area) ≡ withSlots S (setAnchor d (anchorOf w) (memoryOf v area))
+  anchor-written d w = ap (λ (f : ℕ → Anchor). record {
+    head = memoryOf v area .head;
+    descriptorNext = memoryOf v area .descriptorNext;
+    regionNext = memoryOf v area .regionNext;
+    anchor = f;
+    descriptorRegion = memoryOf v area .descriptorRegion;
+    descriptorClass = memoryOf v area .descriptorClass;
+    map = memoryOf v area .map;
+    mark = memoryOf v area .mark;
+    slot = S;
+    area = area;
+  }) (column-update anchorOf (λ (j : ℕ). v (Layout.Anchor j)) d w)
+
+  -- a map entry
+  pub map-written : (r x : ℕ) → withSlots S (memoryOf (assigned (Layout.Map r := x ∷ []) v) area) ≡ withSlots S (setMap r x (memoryOf v area))
+  map-written r x = ap (λ (f : ℕ → ℕ). record {
+    head = memoryOf v area .head;
+    descriptorNext = memoryOf v area .descriptorNext;
+    regionNext = memoryOf v area .regionNext;
+    anchor = memoryOf v area .anchor;
+    descriptorRegion = memoryOf v area .descriptorRegion;
+    descriptorClass = memoryOf v area .descriptorClass;
+    map = f;
+    mark = memoryOf v area .mark;
+    slot = S;
+    area = area;
+  }) (column-update (λ (y : ℕ). y) (λ (j : ℕ). v (Layout.Map j)) r x)
+
+  -- a descriptor written whole, and a map entry
+  pub owner-written : (d w r c e : ℕ)
+      → withSlots S (memoryOf (assigned (Layout.Anchor d := w ∷ Layout.DescriptorRegion d := r ∷ Layout.DescriptorClass d := c ∷ Layout.Map r := e ∷ []) v) area)
+      ≡ withSlots S (setOwner d (anchorOf w) r c e (memoryOf v area))
+  owner-written d w r c e =
+      let all : (ℕ → Anchor) → (ℕ → ℕ) → (ℕ → ℕ) → (ℕ → ℕ) → Memory = λ f g h i. record {
+        head = memoryOf v area .head;
+        descriptorNext = memoryOf v area .descriptorNext;
+        regionNext = memoryOf v area .regionNext;
+        anchor = f;
+        descriptorRegion = g;
+        descriptorClass = h;
+        map = i;
+        mark = memoryOf v area .mark;
+        slot = S;
+        area = area;
+      } in
+      λ z. all
+      (column-update anchorOf (λ (j : ℕ). v (Layout.Anchor j)) d w z)
+      (column-update (λ (y : ℕ). y) (λ (j : ℕ). v (Layout.DescriptorRegion j)) d r z)
+      (column-update (λ (y : ℕ). y) (λ (j : ℕ). v (Layout.DescriptorClass j)) d c z)
+      (column-update (λ (y : ℕ). y) (λ (j : ℕ). v (Layout.Map j)) r e z)
+
+  -- a mark that is set
+  pub mark-set-written : (u : ℕ)
+      → withSlots S (memoryOf (assigned (Layout.Marks (u / 64) := withSet (v (Layout.Marks (u / 64))) (u % 64) ∷ []) v) area)
+      ≡ withSlots S (setMark u 1 (memoryOf v area))
+  mark-set-written u = ap (λ (f : ℕ → ℕ). record {
+    head = memoryOf v area .head;
+    descriptorNext = memoryOf v area .descriptorNext;
+    regionNext = memoryOf v area .regionNext;
+    anchor = memoryOf v area .anchor;
+    descriptorRegion = memoryOf v area .descriptorRegion;
+    descriptorClass = memoryOf v area .descriptorClass;
+    map = memoryOf v area .map;
+    mark = f;
+    slot = S;
+    area = area;
+  }) (mark-set v u)
+
+  -- a mark that is cleared
+  pub mark-clear-written : (u : ℕ)
+      → withSlots S (memoryOf (assigned (Layout.Marks (u / 64) := withClear (v (Layout.Marks (u / 64))) (u % 64) ∷ []) v) area)
+      ≡ withSlots S (setMark u 0 (memoryOf v area))
+  mark-clear-written u = ap (λ (f : ℕ → ℕ). record {
+    head = memoryOf v area .head;
+    descriptorNext = memoryOf v area .descriptorNext;
+    regionNext = memoryOf v area .regionNext;
+    anchor = memoryOf v area .anchor;
+    descriptorRegion = memoryOf v area .descriptorRegion;
+    descriptorClass = memoryOf v area .descriptorClass;
+    map = memoryOf v area .map;
+    mark = f;
+    slot = S;
+    area = area;
+  }) (mark-clear v u)

@@ -1,0 +1,219 @@
+-- One task's turn in both pools: a lemma for each kind of change.
+-- Assumes nothing.
+use mathlib.Core.Path.{_≡_, refl, ap, subst, _∙_}
+use mathlib.Core.Logic.{_≢_}
+use mathlib.Core.List.{List, [], _∷_}
+use Prim.Native.Nat.{ℕ, _*_, _≤_, _<_}
+use native.Mathlib.Omega.{arith}
+use lib.ListN.{length}
+use Rattle.rows.specs.Counting.{count}
+use Rattle.rows.specs.Linked.{Agree, links}
+use Rattle.rows.specs.Tests.{other, same, same?}
+use Rattle.rows.specs.Totals.{total}
+use Rattle.rows.specs.Weights.{one}
+use Rattle.rows.proofs.Linked.{linked-frame}
+use Rattle.rows.proofs.Totals.{total-found, total-one, total-two}
+use Rattle.rows.proofs.Weights.{below-is, below-max, when-same}
+use Rattle.classes.specs.Places.{Block}
+use Rattle.classes.proofs.Places.{inside}
+use Rattle.classes.proofs.Tables.{units-low}
+use Rattle.links.specs.Link.{_⇒_, link, linked, withLink}
+use Rattle.links.proofs.Links.{length-linked, link-other, link-same}
+use Rattle.plain.specs.State.{EMPTY, FULL, Mem, PARTIAL, Place, State, Task, region, setTask}
+use Rattle.plain.specs.Blocks.{isBlock}
+use Rattle.plain.specs.Held.{holdsDescriptor, holdsRegion}
+use Rattle.plain.specs.Invariant.{Invariant}
+use Rattle.plain.specs.States.{IfOpen, IsOpen, ifOpen}
+use Rattle.plain.specs.Weights.{blockWeight, chainWeight, descriptorWeight, insideWeight, openWeight, regionWeight}
+use Rattle.plain.proofs.Blocks.{counts-block}
+use Rattle.plain.proofs.Homes.{inside-open}
+use Rattle.plain.proofs.Places.{taskOf}
+use Rattle.plain.proofs.States.{open-counts}
+use Rattle.plain.proofs.Turn.{Turn}
+use Rattle.agreement.specs.Memory.{Memory, Slot}
+use Rattle.agreement.specs.Relation.{ChainRelated, Core, Related, SlotRelated}
+use Rattle.agreement.proofs.Frames.{after}
+use Rattle.agreement.proofs.Sets.{setLink, setSlot}
+
+-- the relation, and the plain pool's own invariant, at the turn of the task t, which is at the place p with the caches k
+pub record Pair (regions : ℕ) (a : Memory) (m : Mem) (t : ℕ) (p : Place) (k : ℕ → List ℕ) : Type 0 where
+  pub rel : Related regions a m
+  pub turn : Turn regions m t (taskOf p k)
+  pub small : regions ≤ 16
+
+-- ---- blocks of open regions
+pub record Valid (m : Mem) (v : ℕ) : Type 0 where
+  pub d : ℕ
+  pub fits : d < 64
+  pub counts : IsOpen (m .descriptor d .state)
+  pub block : Block (m .descriptor d .region) (m .descriptor d .class) v
+
+pub valid : (m : Mem) (v : ℕ) → 1 ≤ total 64 (insideWeight v) (m .descriptor) → Valid m v
+valid m v h =
+    let f = total-found 64 (insideWeight v) (m .descriptor) h in
+    let g = open-counts (m .descriptor (f .at) .state) (isBlock v (m .descriptor (f .at) .region) (m .descriptor (f .at) .class)) (f .has) in
+    record { d = f .at; fits = f .fits; counts = g .1; block = counts-block (m .descriptor (f .at) .region) (m .descriptor (f .at) .class) v (g .0) }
+
+module _ {regions : ℕ} {m : Mem} (I : Invariant regions m) where
+  same-desc : {u v : ℕ} (b : Valid m u) (c : Valid m v) → m .descriptor (b .d) .region ≡ m .descriptor (c .d) .region → b .d ≡ c .d
+  same-desc b c e = elim (same? (b .d) (c .d)) [
+    | same i ↦ i
+    | other n ↦ absurd (let r = m .descriptor (b .d) .region in
+        omega (
+          arith,
+          total-two 64 (openWeight r) (m .descriptor) (b .d) (c .d) n (b .fits) (c .fits),
+          I .regions r,
+          below-max r regions,
+          b .counts (one r r),
+          c .counts (one r (m .descriptor (c .d) .region)),
+          when-same r 1,
+          ap (one r) e,
+        ))
+  ]
+
+  pub same-class : {u v : ℕ} (b : Valid m u) (c : Valid m v) → m .descriptor (b .d) .region ≡ m .descriptor (c .d) .region → m .descriptor (b .d) .class ≡ m .descriptor (c .d) .class
+  same-class b c e = ap (λ (i : ℕ). m .descriptor i .class) (same-desc b c e)
+
+  pub region-below : {v : ℕ} (b : Valid m v) → m .descriptor (b .d) .region < regions
+  region-below b =
+      let r = m .descriptor (b .d) .region in
+      below-is r regions (omega (arith, total-one 64 (openWeight r) (m .descriptor) (b .d) (b .fits), I .regions r, b .counts (one r r), when-same r 1))
+
+  pub reads : (a : List ℕ) (u x : ℕ) → length a ≡ 4096 * regions → 1 ≤ total 64 (insideWeight u) (m .descriptor) → x < 4294967296 → link (withLink a u x) u ≡ x
+  reads a u x l p h =
+      let b = valid m u p in
+      link-same a u x (omega (arith, region-below b, inside (b .block), units-low (m .descriptor (b .d) .class))) h
+
+module _ {regions : ℕ} {a : Memory} {m : Mem} {t : ℕ} {p : Place} {k : ℕ → List ℕ} (w : Pair regions a m t p k) where
+  pub mine : SlotRelated regions a m (a .slot t) (taskOf p k)
+  mine = subst (SlotRelated regions a m (a .slot t)) (w .turn .is) (w .rel .slots t (w .turn .fits))
+
+  -- what this task holds, no other does
+  pub descriptor-apart : (x j : ℕ) → j < 8 → j ≢ t → 1 ≤ holdsDescriptor x p → holdsDescriptor x (m .task j .place) ≡ 0
+  descriptor-apart x j l d h = omega (
+    arith,
+    w .turn .inv .descriptors x,
+    below-max x 64,
+    total-two 8 (descriptorWeight x) (m .task) j t d l (w .turn .fits),
+    ap (descriptorWeight x t) (w .turn .is),
+  )
+
+  pub region-apart : (x j : ℕ) → j < 8 → j ≢ t → 1 ≤ holdsRegion x p → holdsRegion x (m .task j .place) ≡ 0
+  region-apart x j l d h = omega (
+    arith,
+    w .turn .inv .regions x,
+    below-max x regions,
+    total-two 8 (regionWeight x) (m .task) j t d l (w .turn .fits),
+    ap (regionWeight x t) (w .turn .is),
+  )
+
+  -- a block of this task: once there, and nowhere else
+  pub own-block : (u : ℕ) → 1 ≤ blockWeight u t (taskOf p k) → (1 ≤ total 64 (insideWeight u) (m .descriptor)) × (blockWeight u t (taskOf p k) ≡ 1) × (m .hands u ≡ 0) × (total 64 (chainWeight u) (m .descriptor) ≡ 0)
+  own-block u h = omega (
+    arith,
+    w .turn .inv .blocks u,
+    inside-open (w .turn .inv) u,
+    total-one 8 (blockWeight u) (m .task) t (w .turn .fits),
+    ap (blockWeight u t) (w .turn .is),
+  )
+
+  pub block-apart : (u v j : ℕ) → j < 8 → j ≢ t → 1 ≤ blockWeight u t (taskOf p k) → 1 ≤ blockWeight v 0 (m .task j) → (v ≢ u) × (1 ≤ total 64 (insideWeight v) (m .descriptor))
+  block-apart u v j l d h g = (
+    (λ e. absurd (omega (
+      arith,
+      w .turn .inv .blocks u,
+      inside-open (w .turn .inv) u,
+      total-two 8 (blockWeight u) (m .task) j t d l (w .turn .fits),
+      ap (blockWeight u t) (w .turn .is),
+      ap (λ (z : ℕ). blockWeight z 0 (m .task j)) e,
+    ))),
+    omega (arith, w .turn .inv .blocks v, total-one 8 (blockWeight v) (m .task) j l),
+  )
+
+  -- all but the tasks, as it was
+  pub kept-core : (s : Slot) (T : Task) → Core regions (setSlot t s a) (setTask t T m)
+  kept-core s T =
+      let C = w .rel .core in
+      record {
+        tags = C .tags;
+        rows = C .rows;
+        spareRow = C .spareRow;
+        descriptorNexts = C .descriptorNexts;
+        regionNexts = C .regionNexts;
+        descriptors = C .descriptors;
+        avails = C .avails;
+        chainCounts = C .chainCounts;
+        descriptorRegions = C .descriptorRegions;
+        descriptorClasses = C .descriptorClasses;
+        maps = C .maps;
+        marks = C .marks;
+        length = C .length;
+      }
+
+  -- ---- the task's part alone
+  pub quiet : (s : Slot) (T : Task) → SlotRelated regions (setSlot t s a) (setTask t T m) s T → Related regions (setSlot t s a) (setTask t T m)
+  quiet s T own =
+      after {a = a} {m = m} t s T refl refl
+      (kept-core s T)
+      own
+      (λ j l d. record { wins = λ ℓ. omega arith; still = λ ℓ e. refl; descriptorNexts = λ x h. refl; regionNexts = λ x h. refl; links = λ v h. refl; regions = λ x h. refl })
+      (w .rel .slots)
+
+  -- ---- a link of a block of the task is written
+  pub linking : (u x : ℕ) (s : Slot) (T : Task) → 1 ≤ blockWeight u t (taskOf p k) → SlotRelated regions (setSlot t s (setLink u x a)) (setTask t T m) s T
+      → Related regions (setSlot t s (setLink u x a)) (setTask t T m)
+  linking u x s T o own =
+      let C = w .rel .core in
+      let I = w .turn .inv in
+      let b = own-block u o in
+      after {a = a} {m = m} t s T refl refl
+      (record {
+        tags = C .tags;
+        rows = C .rows;
+        spareRow = C .spareRow;
+        descriptorNexts = C .descriptorNexts;
+        regionNexts = C .regionNexts;
+        descriptors = λ d l. record { state = C .descriptors d l .state; region = C .descriptors d l .region; class = C .descriptors d l .class; chain = chains b d l (m .descriptor d .state) refl (C .descriptors d l .chain) };
+        avails = C .avails;
+        chainCounts = C .chainCounts;
+        descriptorRegions = C .descriptorRegions;
+        descriptorClasses = C .descriptorClasses;
+        maps = C .maps;
+        marks = C .marks;
+        length = length-linked (u ⇒ x ∷ []) (a .area) ∙ C .length;
+      })
+      own
+      (λ j l d. record {
+        wins = λ ℓ. omega arith;
+        still = λ ℓ e. refl;
+        descriptorNexts = λ x h. refl;
+        regionNexts = λ x h. refl;
+        links = λ v h. (let z = block-apart u v j l d o h in link-other (a .area) u x v (z .0));
+        regions = λ x h. refl;
+      })
+      (w .rel .slots)
+    where
+      chain-kept : (1 ≤ total 64 (insideWeight u) (m .descriptor)) × (blockWeight u t (taskOf p k) ≡ 1) × (m .hands u ≡ 0) × (total 64 (chainWeight u) (m .descriptor) ≡ 0)
+          → (d : ℕ) → d < 64 → ((i : ℕ) → ifOpen (m .descriptor d .state) i ≡ i) → ChainRelated (link (a .area)) (a .anchor d) (m .descriptor d) → ChainRelated (link (withLink (a .area) u x)) (a .anchor d) (m .descriptor d)
+      chain-kept b d l g c = record {
+        linked = linked-frame (λ v h. link-other (a .area) u x v
+            (λ e. absurd (omega (arith, b .3, total-one 64 (chainWeight u) (m .descriptor) d l, g (count u (m .descriptor d .chain)), ap (λ (z : ℕ). count z (m .descriptor d .chain)) e)))) (c .linked);
+        counts = c .counts;
+      }
+
+      chains : (1 ≤ total 64 (insideWeight u) (m .descriptor)) × (blockWeight u t (taskOf p k) ≡ 1) × (m .hands u ≡ 0) × (total 64 (chainWeight u) (m .descriptor) ≡ 0)
+          → (d : ℕ) → d < 64 → (z : State) → m .descriptor d .state ≡ z → IfOpen (m .descriptor d .state) (ChainRelated (link (a .area)) (a .anchor d) (m .descriptor d)) → IfOpen (m .descriptor d .state) (ChainRelated (link (withLink (a .area) u x)) (a .anchor d) (m .descriptor d))
+      chains b d l z e = if-open (m .descriptor d .state) (chain-kept b d l)
+        where
+          if-open : (z : State) {X Y : Type 0} → (((i : ℕ) → ifOpen z i ≡ i) → X → Y) → IfOpen z X → IfOpen z Y
+          if-open EMPTY f x = tt
+          if-open PARTIAL f x = f (λ i. refl) x
+          if-open FULL f x = f (λ i. refl) x
+
+  -- ---- what a written link leaves of a row of the task
+  pub agrees : (u x : ℕ) (q : List ℕ) → 1 ≤ blockWeight u t (taskOf p k) → ((v : ℕ) → count v q ≤ blockWeight v t (taskOf p k)) → count u q ≡ 0 → Agree (link (a .area)) (link (withLink (a .area) u x)) q
+  agrees u x q o sub n v e =
+      link-other (a .area) u x v (λ f. absurd (omega (arith, ap (λ (z : ℕ). count z q) f)))
+
+  pub written : (u x : ℕ) → 1 ≤ blockWeight u t (taskOf p k) → x < 4294967296 → link (withLink (a .area) u x) u ≡ x
+  written u x o h = reads (w .turn .inv) (a .area) u x (w .rel .core .length) (own-block u o .0) h

@@ -1,0 +1,277 @@
+-- How a call ends, whatever the two memories hold.
+-- Assumes nothing.
+use Prim.Native.Nat.{ℕ, _+_, _-_, _/_, _%_, _≤_, _<_}
+use mathlib.Core.Path.{_≡_, refl, sym, ap, subst, _∙_}
+use mathlib.Core.Logic.{_≢_, _⊎_, ⊎-map, ⊎-elim, inr, _↔_}
+use mathlib.Core.Bool.{true, _&&_}
+use mathlib.Core.List.{List, [], _∷_, _++_}
+use native.Mathlib.Omega.{arith}
+use borrow.Author.Tests.{eq-eqb, le-leb, lt-ltb, eqb-false, ltb-true, ltb-false}
+use lib.Dec.{eqb, leb, ltb}
+use lib.ListN.{length}
+use Rattle.fields.specs.Columns.{View, Write, _:=_}
+use Rattle.links.specs.Link.{LinkWrite, link, linked}
+use Rattle.words.specs.Head.{itemOf, advancedWord}
+use Rattle.words.specs.Anchor.{EMPTY, anchorOf}
+use Rattle.words.specs.Mark.{isSet}
+use Rattle.classes.specs.Places.{regionOf, isFirst}
+use Rattle.classes.proofs.Sizes.{is-class, holds, smallest}
+use Rattle.plain.specs.Moves.{Decided, found-empty, pushed}
+use Rattle.control.specs.Layout.{Head, TaskHead, Anchor, Marks, TaskPlace, TaskClass, DescriptorRegion, DescriptorClass, Map, Regions, seen, changed}
+use Rattle.control.specs.declared.answer.Answer.{Answer}
+use Rattle.control.specs.declared.answer.Answer.the-variants.{Accepted, Allocated, Freed, NoDescriptor, NoRegion, Refused}
+use Rattle.control.specs.declared.moves.Pop.{Pop}
+use Rattle.control.specs.declared.moves.Pop.the-variants.{Spare, Region}
+use Rattle.control.specs.declared.moves.Push.{Push}
+use Rattle.control.specs.declared.moves.Push.the-variants.{Back}
+use Rattle.stepped.specs.Outcome.{Outcome, refuse, accept, effect}
+use Rattle.stepped.specs.Ranges.{oneTo, isAnchor}
+use Rattle.stepped.specs.Lists as Lists
+use Rattle.stepped.specs.Lists.{pushPlace}
+use Rattle.stepped.specs.Steps as Steps
+use Rattle.stepped.specs.Calls as Calls
+use Rattle.agreement.specs.Ends.{WritesNothing, Leaves, oneOf, testRefusals, allocateRefusals, freeRefusals, stepRefusals, Begins, Goes}
+use Rattle.stepped.specs.Calls.{Tested}
+use Rattle.agreement.specs.Ends.{StartEnds, BeginEnds, StepEnds, FindsEmpty, WinsPush, InPush, placeAfter, IsEnd, Begun}
+use Rattle.agreement.proofs.Ways.{branch, accepted-no, more, tests, passed, Cause, Ending, refused, going, ended, sent, wrong, no-step}
+use Rattle.agreement.proofs.StepWays.{step-at}
+
+-- no start and no beginning ends a request
+pub begins-no-end : (ns : List ℕ) (a : Answer) → Begins ns a → IsEnd a → ⊥
+begins-no-end ns Accepted b i = i
+begins-no-end ns (Allocated u) b i = b
+begins-no-end ns Freed b i = b
+begins-no-end ns NoDescriptor b i = b
+begins-no-end ns NoRegion b i = b
+begins-no-end ns (Refused n) b i = i
+
+-- an outcome that writes nothing where it is refused leaves both memories as they were
+pub leaves : (o : Outcome) (control area : List ℕ) → WritesNothing o → Leaves (effect o control area) control area
+leaves o control area h n e =
+    (ap (λ (ws : List Write). changed ws control) (h n e .0), ap (λ (ls : List LinkWrite). linked ls area) (h n e .1))
+
+-- ---- beginnings
+
+-- a beginning is refused by one of the numbers ns, or accepted
+data Beginning (ns : List ℕ) : Outcome → Type 0 where
+  denied : {n : ℕ} → oneOf ns n ≡ true → Beginning ns (refuse n)
+  begun : {e : Decided} {ws : List Write} {ls : List LinkWrite} → Beginning ns (accept e ws ls)
+
+begin-ends : {ns : List ℕ} {o : Outcome} → Beginning ns o → BeginEnds ns o
+begin-ends (denied h) = record { nothing = λ n e. (refl, refl); answers = h }
+begin-ends begun = record { nothing = λ n e. absurd (accepted-no e); answers = tt }
+
+-- the tests, and "6 the task has a request in hand"
+begin-tests : (P : Outcome → Type 0) (control area : ℕ) (v : View) (t : ℕ) (x : Outcome) (ms : List ℕ)
+    → ((n : ℕ) → oneOf (testRefusals ++ (6 ∷ ms)) n ≡ true → P (refuse n)) → P x
+    → P (Calls.tested control area v t (Calls.whenIdle v t x))
+unfolding Calls.whenIdle
+begin-tests P control area v t x ms r k =
+    tests P control area v t _ (λ n h. r n (more testRefusals (6 ∷ ms) n h))
+    (λ T. branch P (ltb (v (TaskPlace t)) 34) (λ e. branch P (eqb (v (TaskPlace t)) 0) (λ f. k) (λ f. r 6 refl)) (λ e. r 14 refl))
+
+module _ (control area : ℕ) (v : View) (t : ℕ) where
+  pub allocate-ends : (size : ℕ) → BeginEnds allocateRefusals (Calls.allocateOutcome control area v t size)
+  unfolding Calls.allocateOutcome Calls.beginAllocate
+  allocate-ends size =
+      let P = Beginning allocateRefusals in
+      begin-ends (begin-tests P control area v t _ (8 ∷ 9 ∷ []) (λ n h. denied h)
+      (branch P (eqb size 0) (λ e. denied refl) (λ e. branch P (ltb 256 size) (λ f. denied refl) (λ f. begun))))
+
+  pub free-ends : (u : ℕ) → BeginEnds freeRefusals (Calls.freeOutcome control area v t u)
+  unfolding Calls.freeOutcome Calls.beginFree Calls.freeEntry Calls.freeBy Calls.freeOpen Calls.freeMarked
+  free-ends u =
+      let P = Beginning freeRefusals in
+      let entry = v (Map (regionOf u)) in
+      let d = entry - 1 in
+      let a = v (Anchor d) in
+      let r = v (DescriptorRegion d) in
+      let c = v (DescriptorClass d) in
+      begin-ends (begin-tests P control area v t _ (10 ∷ 11 ∷ []) (λ n h. denied h)
+      (branch P (ltb (regionOf u) (v Regions)) (λ e.
+      branch P (eqb entry 0) (λ f. denied refl) (λ f. branch P (leb entry 64) (λ f.
+      branch P (ltb r (v Regions)) (λ g. branch P (eqb r (regionOf u)) (λ h.
+      branch P (isAnchor a) (λ i. branch P (eqb (anchorOf a .state) EMPTY) (λ j. denied refl) (λ j.
+      branch P (ltb c 16) (λ k. branch P (isFirst c u) (λ l.
+      branch P (isSet (v (Marks (u / 64))) (u % 64)) (λ m. begun) (λ m. denied refl))
+      (λ l. denied refl)) (λ k. denied refl))) (λ i. denied refl)) (λ h. denied refl)) (λ g. denied refl)) (λ f. denied refl)))
+      (λ e. denied refl)))
+
+  -- a size that is accepted has the smallest class that holds it, and that class is written
+  pub smallest-class : (size : ℕ) → Calls.allocateOutcome control area v t size .answer ≡ Accepted
+      → Begun t size (Calls.allocateOutcome control area v t size)
+  unfolding Calls.allocateOutcome Calls.beginAllocate
+  smallest-class size =
+      let P : Outcome → Type 0 = λ o. o .answer ≡ Accepted → Begun t size o in
+      begin-tests P control area v t _ [] (λ n h e. absurd (accepted-no (sym e)))
+      (branch P (eqb size 0) (λ e f. absurd (accepted-no (sym f))) (λ e.
+      branch P (ltb 256 size) (λ f g. absurd (accepted-no (sym g))) (λ f g.
+      let z : size ≢ 0 = eqb-false size 0 e in
+      let l : size ≤ 256 = ltb-false 256 size f in
+      record {
+        from = omega arith;
+        to = l;
+        writes = refl;
+        class = is-class size l;
+        holds = holds size l;
+        smallest = smallest size;
+      })))
+
+-- ---- start
+
+pub start-ends : (size : ℕ) (area : List ℕ) (tasks : ℕ) (control before : List ℕ)
+    → StartEnds control before (Calls.startIn size area tasks control before)
+unfolding Calls.startIn
+start-ends size area tasks control before =
+    let P = StartEnds control before in
+    let bytes = length area in
+    branch P (eqb size 8192) (λ e.
+    branch P (eqb (bytes % 4096) 0 && oneTo 65536 bytes) (λ f.
+    branch P (oneTo 8 tasks) (λ g. record { leaves = λ n h. absurd (accepted-no h); answers = tt })
+    (λ g. record { leaves = λ n h. (refl, refl); answers = refl }))
+    (λ f. record { leaves = λ n h. (refl, refl); answers = refl }))
+    (λ e. record { leaves = λ n h. (refl, refl); answers = refl })
+
+-- ---- steps
+
+-- what ends a request is no refusal
+cause-goes : (v : View) (t : ℕ) (a : Answer) → Cause v t a → Goes stepRefusals a
+cause-goes v t Accepted k = tt
+cause-goes v t (Allocated u) k = tt
+cause-goes v t Freed k = tt
+cause-goes v t NoDescriptor k = tt
+cause-goes v t NoRegion k = tt
+cause-goes v t (Refused n) k = absurd k
+
+module _ {v : View} {t : ℕ} where
+  ends : {o : Outcome} → Ending v t o → StepEnds v t o
+  ends (refused h) = record { nothing = λ n e. (refl, refl); answers = h; idle = λ i. absurd i }
+  ends (going h) = record { nothing = λ n e. absurd (accepted-no e); answers = tt; idle = λ i. absurd i }
+  ends (ended {a = a} k h) =
+      record { nothing = λ n e. absurd (subst (Cause v t) e k); answers = cause-goes v t a k; idle = λ i. h }
+
+  -- why a request ends with the answer a
+  cause : {o : Outcome} → Ending v t o → (a : Answer) → IsEnd a → o .answer ≡ a → Cause v t a
+  cause (refused h) a i e = absurd (subst IsEnd (sym e) i)
+  cause (going h) a i e = absurd (subst IsEnd (sym e) i)
+  cause (ended k h) a i e = subst (Cause v t) e k
+
+  -- why a step comes to the push back
+  came : {o : Outcome} → Ending v t o → InPush Back (placeAfter o v t)
+      → (FindsEmpty Region v t × ((n : ℕ) → o .answer ≢ Refused n)) ⊎ InPush Back (v (TaskPlace t))
+  came (refused h) i = inr i
+  came (going h) i = ⊎-map (λ f. (f, λ n. accepted-no)) (λ p. p) (h i)
+  came (ended k h) i = absurd (omega arith)
+
+module _ (control area : ℕ) (v : View) (link : ℕ → ℕ) (t : ℕ) where
+  abbrev o : Outcome
+  o = Calls.stepOutcome control area v link t
+
+  ending : Ending v t o
+  unfolding Calls.stepOutcome Steps.step
+  ending =
+      let P = Ending v t in
+      let c = v (TaskClass t) in
+      tests P control area v t _ (λ n h. refused (more testRefusals (7 ∷ []) n h))
+      (λ T. branch P (ltb 0 (v (TaskPlace t))) (λ e. branch P (ltb c 16) (λ f. step-at v link t (ltb-true c 16 f)) (λ f. wrong))
+      (λ e. no-step))
+
+  -- a step that is not refused has passed the tests
+  not-refused : ((n : ℕ) → o .answer ≢ Refused n) → Tested control area v t
+  unfolding Calls.stepOutcome
+  not-refused =
+      tests (λ x. ((n : ℕ) → x .answer ≢ Refused n) → Tested control area v t) control area v t _
+      (λ n h k. absurd (k n refl)) (λ T k. T)
+
+  end-passed : (a : Answer) → IsEnd a → o .answer ≡ a → Tested control area v t
+  end-passed a i e = not-refused (λ n f. subst IsEnd (sym e ∙ f) i)
+
+  -- a step that passes the tests is that of its place
+  at-place : {place : ℕ} → Tested control area v t → v (TaskPlace t) ≡ place → 1 ≤ place → v (TaskClass t) < 16
+      → o ≡ Steps.stepAt v link (v Regions) t (v (TaskClass t)) place
+  unfolding Calls.stepOutcome Steps.step
+  at-place T e l h =
+      passed control area v t _ T
+      ∙ rw (lt-ltb 0 (v (TaskPlace t)) (omega arith), lt-ltb (v (TaskClass t)) 16 h, e)
+
+  pub step-ends : StepEnds v t o
+  step-ends = ends ending
+
+  -- a pop that finds its list empty
+  finds-empty : (p : Pop) → FindsEmpty p v t
+      → Lists.popRead v (v Regions) t (v (TaskClass t)) p
+      ≡ Lists.whenEmpty v (v Regions) t (v (TaskClass t)) p (found-empty (Lists.popList p (v (TaskClass t))))
+  unfolding Lists.popRead
+  finds-empty p F = rw (eq-eqb (itemOf (v (Head (Lists.popList p (v (TaskClass t)))))) 0 (F .empty))
+
+  -- a push that wins its exchange
+  wins-push : (p : Push) → WinsPush p v t
+      → Lists.pushExchange v (v Regions) t (v (TaskClass t)) p
+      ≡ Lists.whenPushed v (v Regions) t (v (TaskClass t)) p (pushed (Lists.pushList p (v (TaskClass t))) (v (Lists.itemField p t)))
+      (Head (Lists.pushList p (v (TaskClass t))) := advancedWord (v (TaskHead t)) (v (Lists.itemField p t) + 1) ∷ [])
+  unfolding Lists.pushExchange
+  wins-push p W =
+      let items = Lists.pushItems p (v Regions) in
+      rw (
+        W .same,
+        lt-ltb (v (Lists.itemField p t)) items (W .item),
+        le-leb (itemOf (v (TaskHead t))) items (W .noted),
+        eq-eqb (v (TaskHead t)) (v (TaskHead t)) refl,
+      )
+
+  -- "Pop a spare descriptor. Empty: end with 12."
+  pub no-descriptor : (o .answer ≡ NoDescriptor) ↔ (Tested control area v t × FindsEmpty Spare v t)
+  unfolding Steps.stepAt
+  no-descriptor = (
+    λ e. (end-passed NoDescriptor tt e, cause ending NoDescriptor tt e),
+    λ h. ap (λ (x : Outcome). x .answer) (at-place (h .0) (h .1 .place) (omega arith) (h .1 .class) ∙ finds-empty Spare (h .1)),
+  )
+
+  -- "Pop a spare region. Empty: push the descriptor back; the request ends with 13 at that won exchange."
+  pub no-region : (o .answer ≡ NoRegion) ↔ (Tested control area v t × WinsPush Back v t)
+  unfolding Steps.stepAt
+  no-region = (
+    λ e. (end-passed NoRegion tt e, cause ending NoRegion tt e),
+    λ h. ap (λ (x : Outcome). x .answer) (at-place (h .0) (h .1 .place) (omega arith) (h .1 .class) ∙ wins-push Back (h .1)),
+  )
+
+  -- a task that finds the list of spare regions empty goes to the head read of the push back
+  pub to-back : Tested control area v t → FindsEmpty Region v t → placeAfter o v t ≡ pushPlace Back
+  unfolding Steps.stepAt
+  to-back T F =
+      ap (λ (x : Outcome). placeAfter x v t) (at-place T (F .place) (omega arith) (F .class) ∙ finds-empty Region F)
+      ∙ sent v t (pushPlace Back) [] (λ u. refl)
+
+  -- a task that is at no place of the push back comes to one exactly if it finds the list of spare regions empty
+  pub put-back : (InPush Back (v (TaskPlace t)) → ⊥)
+      → InPush Back (placeAfter o v t) ↔ (Tested control area v t × FindsEmpty Region v t)
+  put-back out = (
+    λ i. ⊎-elim (λ f. (not-refused (f .1), f .0)) (λ j. absurd (out j)) (came ending i),
+    λ h. omega (arith, to-back (h .0) (h .1)),
+  )
+
+-- ---- the bytes that a refused call leaves
+
+module _ (control area : List ℕ) (t : ℕ) where
+  abbrev lent : ℕ
+  lent = length control
+
+  abbrev lentArea : ℕ
+  lentArea = length area
+
+  abbrev v₁ : View
+  v₁ = seen control
+
+  pub allocate-leaves : (size : ℕ) → Leaves (Calls.allocate control area t size) control area
+  unfolding Calls.allocate
+  allocate-leaves size =
+      leaves (Calls.allocateOutcome lent lentArea v₁ t size) control area (allocate-ends lent lentArea v₁ t size .nothing)
+
+  pub free-leaves : (u : ℕ) → Leaves (Calls.free control area t u) control area
+  unfolding Calls.free
+  free-leaves u = leaves (Calls.freeOutcome lent lentArea v₁ t u) control area (free-ends lent lentArea v₁ t u .nothing)
+
+  pub go-leaves : Leaves (Calls.go control area t) control area
+  unfolding Calls.go
+  go-leaves =
+      leaves (Calls.stepOutcome lent lentArea v₁ (link area) t) control area (step-ends lent lentArea v₁ (link area) t .nothing)

@@ -1,0 +1,237 @@
+-- The exchange of step 3 of a free, in both pools: the group goes before the chain.
+-- Assumes nothing.
+use mathlib.Core.Path.{_≡_, refl, sym, ap, subst, _∙_}
+use mathlib.Core.List.{List, [], _∷_, _++_}
+use Prim.Native.Nat.{ℕ, _+_, _-_, _≤_, _<_}
+use native.Mathlib.Omega.{arith}
+use native.Mathlib.Decide.{ℕ-discrete}
+use borrow.Author.Tests.{eq-eqb, ne-eqb, lt-ltb, le-leb, eqb-true}
+use lib.Dec.{eqb}
+use lib.ListN.{length, length-append}
+use Rattle.rows.specs.Linked.{Linked}
+use Rattle.rows.proofs.Linked.{linked-append, linked-append-one}
+use Rattle.rows.proofs.Weights.{when-same}
+use Rattle.fields.specs.Columns.{Sound, View, Write, _:=_, assigned}
+use Rattle.links.specs.Link.{link}
+use Rattle.words.specs.Anchor.{Fields, anchorOf, anchorWord, returned}
+use Rattle.words.specs.declared.anchor.Anchor as Declared
+use Rattle.words.proofs.Anchors.{anchor-below, anchor-of-word, returned-fits}
+use Rattle.classes.specs.Classes.{perRegion}
+use Rattle.classes.specs.Places.{indexOf, regionOf}
+use Rattle.classes.proofs.Tables.{perRegion-high}
+use Rattle.plain.specs.State.{EMPTY, PARTIAL, Mem, Note, Place, State, f1, f2, f3-exchange, f3-read, f4-clear}
+use Rattle.plain.specs.State.{numberOf, offer, pushing, read, setDescriptor}
+use Rattle.plain.specs.Moves.{gave, going}
+use Rattle.plain.specs.Steps.{asNoted?, chained}
+use Rattle.plain.specs.Steps as Steps
+use Rattle.plain.specs.States.{IfOpen}
+use Rattle.plain.proofs.Owners.{Owner, owner}
+use Rattle.plain.proofs.Places.{placeHolds, taskOf}
+use Rattle.plain.proofs.States.{open-holds}
+use Rattle.control.specs.Layout.{layout, Anchor, GroupCount, GroupFirst, TaskAnchor, TaskClass, TaskDescriptor}
+use Rattle.control.specs.Layout.{TaskPlace, TaskRegion, TaskState, TaskUnit}
+use Rattle.stepped.specs.Free as Free
+use Rattle.agreement.specs.Memory.{Slot, slotOf, memoryOf}
+use Rattle.agreement.specs.Relation.{ChainRelated, GroupRelated, NoteRelated, PlaceRelated, PushRelated}
+use Rattle.agreement.specs.Relation.{Related, r-f1, r-f2, r-f3-read, r-f4-clear, r-offer}
+use Rattle.agreement.proofs.Slots.{toGrouped, toPlace, toState}
+use Rattle.agreement.proofs.Sets.{setAnchor, setSlot}
+use Rattle.agreement.proofs.Bridge.{anchor-written}
+use Rattle.agreement.proofs.Blocks.{re-slot}
+use Rattle.stepped.proofs.Conjunction.{both-true}
+use Rattle.agreement.proofs.Both.{Both, decide, meet, miss, pass}
+use Rattle.agreement.proofs.Turns.{At, goes}
+use Rattle.agreement.proofs.Following.{five}
+use Rattle.agreement.proofs.Writes.{Writes, anchor-exchanged}
+use Rattle.agreement.proofs.Notes.{SameAnchor, anchor-word-same, number-max, same-anchor-word, re-note}
+use Rattle.agreement.proofs.Notes.{same-unmoved, unmoved-same}
+use Rattle.agreement.proofs.Noting.{note-anchor, note-room}
+use Rattle.agreement.proofs.Groups.{first-below, same-group}
+
+module _ {regions : ℕ} {v : View} {area : List ℕ} {m : Mem} {t : ℕ} {k : ℕ → List ℕ} {y : ℕ} {g : List ℕ} {n : Note}
+    (w : At regions v area m t (f3-exchange (v (TaskClass t)) (v (TaskUnit t)) y g (v (TaskDescriptor t)) n) k)
+    (G : GroupRelated (memoryOf v area) (slotOf v t) y g)
+    (N : NoteRelated m (v (TaskClass t)) (v (TaskDescriptor t)) n (anchorOf (v (TaskAnchor t))))
+    (room : v (GroupCount t) + anchorOf (v (TaskAnchor t)) .count ≤ perRegion (v (TaskClass t)))
+    (tied : link area (G .last) ≡ anchorOf (v (TaskAnchor t)) .avail) where
+  -- the request's class and unit, the descriptor in hand, the group's count and the word of the noted anchor
+  abbrev c : ℕ
+  c = v (TaskClass t)
+
+  abbrev u : ℕ
+  u = v (TaskUnit t)
+
+  abbrev d : ℕ
+  d = v (TaskDescriptor t)
+
+  abbrev h : ℕ
+  h = v (GroupCount t)
+
+  abbrev a : ℕ
+  a = v (TaskAnchor t)
+
+  -- the group, and the chain behind it
+  abbrev J : List ℕ
+  J = y ∷ (g ++ m .descriptor d .chain)
+
+  -- the anchor that is written
+  abbrev new : Declared.Anchor
+  new = returned (anchorOf a) (v (GroupFirst t)) h (perRegion c)
+
+  own : Owner m c y d
+  own = owner (w .pair .turn) y d (omega (arith, when-same y 1)) (placeHolds (w .pair .turn) .3)
+
+  chain-of : ChainRelated (link area) (anchorOf (v (Anchor d))) (m .descriptor d)
+  chain-of =
+      open-holds (m .descriptor d .state) (own .counts)
+      (w .pair .rel .core .descriptors d (own .fits) .chain)
+
+  first-fits : v (GroupFirst t) < perRegion c
+  first-fits = first-below (w .pair) G (λ z. omega arith) refl (placeHolds (w .pair .turn) .2)
+
+  new-fits : Fields new
+  new-fits =
+      returned-fits (anchorOf a) (v (GroupFirst t)) h (perRegion c)
+      (omega (arith, first-fits, perRegion-high c))
+      (record { count = omega arith; blocks = perRegion-high c })
+
+  -- ---- the exchange is won: the anchor is as it was noted
+
+  module _ (same : SameAnchor (anchorOf (v (Anchor d))) (anchorOf a)) where
+    counted : anchorOf a .count + h ≡ length J
+    counted =
+        omega (arith, same .1, chain-of .counts, G .counts, length-append g (m .descriptor d .chain))
+
+    joined : Linked (link area) (indexOf c) (perRegion c) (v (GroupFirst t)) J
+    joined =
+        let D = m .descriptor d in
+        let f : J ≡ (G .front ++ (G .last ∷ [])) ++ D .chain = ap (λ (z : List ℕ). z ++ D .chain) (G .is) in
+        rw f (linked-append (linked-append-one (G .linked) (tied ∙ sym (same .0 .1)))
+        (subst (λ (z : ℕ). Linked (link area) (indexOf z) (perRegion z) (anchorOf (v (Anchor d)) .avail) (D .chain))
+        (own .class) (chain-of .linked)))
+
+    -- the relation after it, where the anchor's state is now z and the task goes to the place p
+    gives : (z : State) → new .state ≡ numberOf z
+        → IfOpen z (ChainRelated (link area) new (chained (m .descriptor d) z J))
+        → (v′ : View) (s : Slot) (p : Place)
+        → Writes v v′ area t s (setAnchor d (anchorOf (anchorWord new)) (memoryOf v area))
+        → s .class ≡ slotOf v t .class → s .top ≡ slotOf v t .top → s .count ≡ slotOf v t .count
+        → PlaceRelated regions (setSlot t s (setAnchor d (anchorOf (anchorWord new)) (memoryOf v area)))
+        (Steps.at t k p (setDescriptor d (chained (m .descriptor d) z J) m)) s p
+        → Related regions (memoryOf v′ area)
+        (Steps.at t k p (setDescriptor d (chained (m .descriptor d) z J) m))
+    gives z e i v′ s p b f f₁ f₂ pl =
+        let W = anchor-of-word new new-fits in
+        anchor-exchanged w v′ s (taskOf p k) d (anchorWord new) (chained (m .descriptor d) z J) b
+        (own .fits) (ap (λ (x : Declared.Anchor). x .state) W ∙ e) refl refl
+        (subst (λ (x : Declared.Anchor). IfOpen z (ChainRelated (link area) x (chained (m .descriptor d) z J))) (sym W) i)
+        (omega (arith, ap (λ (x : Declared.Anchor). x .avail) W, first-fits, perRegion-high c))
+        (omega (arith, ap (λ (x : Declared.Anchor). x .count) W, perRegion-high c))
+        (re-slot (w .pair) _ _ s p refl f f₁ f₂ pl)
+
+    -- the writes of the exchange
+    abbrev ws : List Write
+    ws = Anchor d := anchorWord new ∷ TaskState t := anchorOf a .state ∷ []
+
+    sound : Sound layout ws
+    sound = omega (arith, w .pair .turn .fits, own .fits, anchor-below new new-fits)
+
+    -- the task's part after them, at the place i
+    abbrev part : ℕ → Slot
+    part i = toPlace i (toState (anchorOf a .state) (slotOf v t))
+
+    place-written : (i : ℕ)
+        → Writes v (assigned (TaskPlace t := i ∷ ws) v) area t (part i)
+        (setAnchor d (anchorOf (anchorWord new)) (memoryOf v area))
+    place-written i = record {
+      shared = anchor-written v (slotOf (assigned (TaskPlace t := i ∷ ws) v)) area d (anchorWord new);
+      own = rw (eq-eqb t t refl);
+      others = λ j d. rw (ne-eqb t j d);
+    }
+
+    -- all the region's blocks are back: it closes
+    whole : length J ≡ perRegion c
+        → Both regions v area m
+        (Free.f3Won v (link area) regions t c d a (v (GroupFirst t)) h) (
+          Steps.at t k (f4-clear c u d (n .state) (regionOf y))
+              (setDescriptor d (chained (m .descriptor d) EMPTY J) m),
+          going (gave d),
+        )
+    unfolding Free.f3Won
+    whole e =
+        let i = eq-eqb (anchorOf a .count + h) (perRegion c) (counted ∙ e) in
+        meet _ _ i (record {
+          says = refl;
+          keeps = (refl, refl);
+          rel = rw (← (G .region)) (gives EMPTY (rw i) tt _ (part 33)
+              (f4-clear c u d (n .state) (v (TaskRegion t)))
+              (place-written 33) refl refl refl (r-f4-clear refl (N .state)));
+          sound = (omega (arith, w .pair .turn .fits), sound);
+          apart = tt;
+        })
+
+    -- or step 5 follows
+    some : (length J ≡ perRegion c → ⊥)
+        → Both regions v area m
+        (Free.f3Won v (link area) regions t c d a (v (GroupFirst t)) h) (
+          Steps.at t k (Steps.f5 (n .state) (k c) c u d)
+              (setDescriptor d (chained (m .descriptor d) PARTIAL J) m),
+          going (gave d),
+        )
+    unfolding Free.f3Won
+    some e =
+        let i = ne-eqb (anchorOf a .count + h) (perRegion c) (λ f. e (sym counted ∙ f)) in
+        let to = gives PARTIAL (rw i) (record { linked = rw (own .class) joined; counts = counted }) in
+        let v₂ = assigned (TaskPlace t := 29 ∷ GroupCount t := 0 ∷ ws) v in
+        miss _ _ i (five w (gave d) ws (setDescriptor d (chained (m .descriptor d) PARTIAL J) m) u sound (refl, refl)
+        (to _ (part 28) (f1 c u) (place-written 28) refl refl refl (r-f1 refl))
+        (to v₂ (toGrouped 0 (part 29)) (f2 c u [])
+        (record {
+          shared = anchor-written v (slotOf v₂) area d (anchorWord new);
+          own = rw (eq-eqb t t refl);
+          others = λ j d. rw (ne-eqb t j d);
+        }) refl refl refl (r-f2 refl refl))
+        (anchorOf a .state) (n .state) d (N .state)
+        (to _ (part 20) (pushing (offer c u d) read) (place-written 20) refl refl refl
+        (r-offer (PushRelated.at-read refl))))
+
+    won : (e : Dec (length J ≡ perRegion c))
+        → Both regions v area m
+        (Free.f3Won v (link area) regions t c d a (v (GroupFirst t)) h)
+        (Steps.returned t k e c u y g d (n .state) m)
+    won (yes e) = whole e
+    won (no e) = some e
+
+  -- ---- won or lost
+
+  pub f3-exchange-both : Both regions v area m (Free.f3Exchange v (link area) regions t (v (TaskClass t)))
+      (Steps.stepAt t k (f3-exchange (v (TaskClass t)) (v (TaskUnit t)) y g (v (TaskDescriptor t)) n) m)
+  unfolding Free.f3Exchange Free.f3ExchangeOf
+  f3-exchange-both =
+      let b = v (Anchor d) in
+      let C = w .pair .rel .core in
+      let D = C .descriptors d (own .fits) in
+      let O = open-holds (m .descriptor d .state) (own .counts) (w .pair .turn .inv .chains d (own .fits)) in
+      let M = re-note {m = m} {m′ = m} refl (sym (own .class)) N in
+      pass _ (both-true (both-true (both-true (both-true
+      (lt-ltb d 64 (own .fits))
+      (lt-ltb (v (GroupFirst t)) (perRegion c) first-fits))
+      (both-true (le-leb 1 h (omega (arith, G .counts))) (le-leb h (perRegion c) (omega arith))))
+      (note-anchor a h N room)) (note-room a h N room))
+      (pass _ (both-true (both-true
+      (le-leb (anchorOf b .state) 2 (rw (D .state) (number-max (m .descriptor d .state))))
+      (le-leb (anchorOf b .avail) 512 (C .avails d (own .fits))))
+      (le-leb (anchorOf b .count) 512 (C .chainCounts d (own .fits))))
+      (decide (eqb b a) (asNoted? (m .descriptor d) n)
+      (λ e. same-unmoved m d n D chain-of O M (anchor-word-same b a (eqb-true b a e)))
+      (λ q. eq-eqb b a (same-anchor-word b a (unmoved-same m d n D chain-of O M q)))
+      (λ e q. won (anchor-word-same b a (eqb-true b a e)) (ℕ-discrete (length J) (perRegion c)))
+      (λ e q. record {
+        says = refl;
+        keeps = (refl, refl);
+        rel = goes w (TaskPlace t := 30 ∷ []) (toPlace 30 (slotOf v t)) (f3-read c u y g)
+            refl (rw (eq-eqb t t refl)) (λ j n. rw (ne-eqb t j n)) refl refl refl
+            (r-f3-read refl (same-group refl refl refl refl refl refl G));
+        sound = omega (arith, w .pair .turn .fits);
+        apart = tt;
+      })))

@@ -1,0 +1,137 @@
+-- What a task's step leaves to the other tasks.
+-- Assumes nothing.
+use mathlib.Core.Path.{_≡_, refl, sym, ap, subst, _∙_}
+use mathlib.Core.Logic.{_≢_}
+use mathlib.Core.List.{List, [], _∷_}
+use Prim.Native.Nat.{ℕ, _≤_, _<_}
+use native.Mathlib.Omega.{arith}
+use Rattle.words.specs.declared.anchor.Anchor.{Anchor}
+use Rattle.words.specs.declared.head.Head.{Head}
+use Rattle.rows.specs.Counting.{count}
+use Rattle.rows.specs.Tests.{same}
+use Rattle.rows.specs.Update.{update}
+use Rattle.rows.proofs.Counting.{count-append}
+use Rattle.rows.proofs.Linked.{linked-frame}
+use Rattle.rows.proofs.Totals.{total-one}
+use Rattle.rows.proofs.Update.{update-all₂}
+use Rattle.rows.proofs.Weights.{when-same}
+use Rattle.classes.specs.Classes.{counts}
+use Rattle.links.specs.Link.{link, linked}
+use Rattle.plain.specs.State.{Mem, Note, Phase, Place, Task, a1, a3-exchange, a3-read, a4, a7, a8}
+use Rattle.plain.specs.State.{f1, f2, f3-exchange, f3-link, f3-read, f4-clear, idle, popping, pushing}
+use Rattle.plain.specs.State.{region}
+use Rattle.plain.specs.Held.{holdsDescriptor, holdsRegion, underWay}
+use Rattle.plain.specs.Weights.{blockWeight, rowWeight}
+use Rattle.agreement.specs.Memory.{Memory, Slot}
+use Rattle.agreement.specs.Relation.{Core, GroupRelated, NoteRelated, Noted, PlaceRelated, PopRelated, PushRelated}
+use Rattle.agreement.specs.Relation.{Related, SlotRelated, r-a1, r-a3-exchange, r-a3-read, r-a4, r-a7, r-a8, r-back}
+use Rattle.agreement.specs.Relation.{r-f1, r-f2, r-f2-more, r-f3-exchange, r-f3-link, r-f3-read, r-f4-clear, r-idle}
+use Rattle.agreement.specs.Relation.{r-offer, r-partial, r-region, r-release, r-retire, r-spare}
+
+-- the descriptor that a place noted the anchor of
+abbrev pub Reads : ℕ → Place → Type 0
+Reads x idle = ⊥
+Reads x (a1 c) = ⊥
+Reads x (popping p φ) = ⊥
+Reads x (pushing p φ) = ⊥
+Reads x (a3-read c d) = ⊥
+Reads x (a3-exchange c d n) = x ≡ d
+Reads x (a4 c y q) = ⊥
+Reads x (a7 c d r) = ⊥
+Reads x (a8 c r i) = ⊥
+Reads x (f1 c u) = ⊥
+Reads x (f2 c u g) = ⊥
+Reads x (f3-read c u y g) = ⊥
+Reads x (f3-link c u y g d n) = x ≡ d
+Reads x (f3-exchange c u y g d n) = x ≡ d
+Reads x (f4-clear c u d w r) = ⊥
+
+pub record Kept (a a′ : Memory) (m m′ : Mem) (T : Task) : Type 0 where
+  pub wins : (ℓ : ℕ) → m .won ℓ ≤ m′ .won ℓ
+  pub still : (ℓ : ℕ) → m′ .won ℓ ≡ m .won ℓ → m′ .row ℓ ≡ m .row ℓ
+  pub descriptorNexts : (x : ℕ) → 1 ≤ holdsDescriptor x (T .place) → a′ .descriptorNext x ≡ a .descriptorNext x
+  pub regionNexts : (x : ℕ) → 1 ≤ holdsRegion x (T .place) → a′ .regionNext x ≡ a .regionNext x
+  pub links : (v : ℕ) → 1 ≤ blockWeight v 0 T → link (a′ .area) v ≡ link (a .area) v
+  pub regions : (x : ℕ) → Reads x (T .place) → m′ .descriptor x .region ≡ m .descriptor x .region
+
+module _ {a a′ : Memory} {m m′ : Mem} {T : Task} (K : Kept a a′ m m′ T) where
+  kept-noted : {ℓ : ℕ} {h : Head} {n : ℕ} → Noted m ℓ h n → Noted m′ ℓ h n
+  kept-noted {ℓ} {h} {n} N = record {
+    past = omega (arith, K .wins ℓ, N .past);
+    tags = N .tags;
+    same = λ e. rw (K .still ℓ (omega (arith, K .wins ℓ, N .past, e))) (N .same (omega (arith, K .wins ℓ, N .past, e)));
+  }
+
+  kept-pop : {s : Slot} {b ℓ limit : ℕ} {φ : Phase} → PopRelated m s b ℓ limit φ → PopRelated m′ s b ℓ limit φ
+  kept-pop (PopRelated.at-read e) = PopRelated.at-read e
+  kept-pop (PopRelated.at-next e N p l) = PopRelated.at-next e (kept-noted N) p l
+  kept-pop {ℓ = ℓ} (PopRelated.at-exchange e N p l x f) =
+      PopRelated.at-exchange e (kept-noted N) p l x (λ i. rw (K .still ℓ (omega (arith, K .wins ℓ, N .past, i))) (f (omega (arith, K .wins ℓ, N .past, i))))
+
+  kept-push : {s : Slot} {b ℓ limit x : ℕ} {nx nx′ : ℕ → ℕ} {φ : Phase} → nx′ x ≡ nx x → PushRelated m s b ℓ limit x nx φ → PushRelated m′ s b ℓ limit x nx′ φ
+  kept-push h (PushRelated.at-read e) = PushRelated.at-read e
+  kept-push h (PushRelated.at-next e N l) = PushRelated.at-next e (kept-noted N) l
+  kept-push h (PushRelated.at-exchange e N l f) = PushRelated.at-exchange e (kept-noted N) l (h ∙ f)
+
+  kept-note : {c d : ℕ} {n : Note} {b : Anchor} → m′ .descriptor d .region ≡ m .descriptor d .region → NoteRelated m c d n b → NoteRelated m′ c d n b
+  kept-note {c} {d} {n} e N = record { state = N .state; count = N .count; avail = N .avail; first = rw e (N .first); none = N .none }
+
+  kept-group : {s : Slot} {y : ℕ} {g : List ℕ} → ((v : ℕ) → 1 ≤ count v (y ∷ g) → link (a′ .area) v ≡ link (a .area) v) → GroupRelated a s y g → GroupRelated a′ s y g
+  kept-group {s} {y} {g} h G = record {
+    front = G .front;
+    last = G .last;
+    is = G .is;
+    linked = linked-frame (λ v e. h v (omega (arith, ap (count v) (G .is), count-append v (G .front) (G .last ∷ [])))) (G .linked);
+    lastIs = G .lastIs;
+    counts = G .counts;
+    region = G .region;
+  }
+
+-- the blocks under way count with the task's
+under-links : {a a′ : Memory} {m m′ : Mem} {T : Task} → Kept a a′ m m′ T → (v : ℕ) → 1 ≤ count v (underWay (T .place)) → link (a′ .area) v ≡ link (a .area) v
+under-links K v h = K .links v (omega arith)
+
+kept-place : {regions : ℕ} {a a′ : Memory} {m m′ : Mem} {s : Slot} {p : Place} {k : ℕ → List ℕ} → Kept a a′ m m′ (record { place = p; cache = k })
+    → PlaceRelated regions a m s p → PlaceRelated regions a′ m′ s p
+unfolding kept-group
+kept-place K (r-idle e) = r-idle e
+kept-place K (r-a1 e) = r-a1 e
+kept-place K (r-partial h) = r-partial (kept-pop K h)
+kept-place K (r-spare h) = r-spare (kept-pop K h)
+kept-place K (r-region h) = r-region (kept-pop K h)
+kept-place {s = s} K (r-retire h) = r-retire (kept-push K (K .descriptorNexts (s .descriptor) (omega (arith, when-same (s .descriptor) 1))) h)
+kept-place {s = s} K (r-back h) = r-back (kept-push K (K .descriptorNexts (s .descriptor) (omega (arith, when-same (s .descriptor) 1))) h)
+kept-place {s = s} K (r-release e h) = r-release e (kept-push K (K .regionNexts (s .region) (omega (arith, when-same (s .region) 1))) h)
+kept-place {s = s} K (r-offer h) = r-offer (kept-push K (K .descriptorNexts (s .descriptor) (omega (arith, when-same (s .descriptor) 1))) h)
+kept-place K (r-a3-read e) = r-a3-read e
+kept-place {s = s} K (r-a3-exchange e N i j k l) = r-a3-exchange e (kept-note K (K .regions (s .descriptor) refl) N) i j k l
+kept-place K (r-a4 e l n h) = r-a4 e (linked-frame (under-links K) l) n h
+kept-place K (r-a7 e) = r-a7 e
+kept-place K (r-a8 e) = r-a8 e
+kept-place K (r-f1 e) = r-f1 e
+kept-place K (r-f2 e z) = r-f2 e z
+kept-place K (r-f2-more e G) = r-f2-more e (kept-group K (λ v h. under-links K v (omega arith)) G)
+kept-place K (r-f3-read e G) = r-f3-read e (kept-group K (λ v h. under-links K v (omega arith)) G)
+kept-place {s = s} K (r-f3-link e G N l) = r-f3-link e (kept-group K (λ v h. under-links K v (omega arith)) G) (kept-note K (K .regions (s .descriptor) refl) N) l
+kept-place {s = s} K (r-f3-exchange e G N l f) =
+    r-f3-exchange e (kept-group K (λ v h. under-links K v (omega arith)) G) (kept-note K (K .regions (s .descriptor) refl) N) l
+    (under-links K (G .last) (omega (arith, ap (count (G .last)) (G .is), count-append (G .last) (G .front) (G .last ∷ []), when-same (G .last) 1)) ∙ f)
+kept-place K (r-f4-clear e h) = r-f4-clear e h
+
+pub kept-slot : {regions : ℕ} {a a′ : Memory} {m m′ : Mem} {s : Slot} {T : Task} → Kept a a′ m m′ T → SlotRelated regions a m s T → SlotRelated regions a′ m′ s T
+kept-slot {T = T} K S = record {
+  fits = S .fits;
+  place = kept-place {p = T .place} {k = T .cache} K (S .place);
+  tops = λ c l. linked-frame (λ v h. K .links v (omega (arith, total-one 16 (rowWeight v) (T .cache) c l))) (S .tops c l);
+  counts = S .counts;
+}
+
+-- a task's step: what stands after it for that task, and what is kept for the others
+pub after : {regions : ℕ} {a a′ : Memory} {m m′ : Mem} (t : ℕ) (s : Slot) (T : Task) → a′ .slot ≡ update (a .slot) t s → m′ .task ≡ update (m .task) t T
+    → Core regions a′ m′ → SlotRelated regions a′ m′ s T → ((j : ℕ) → j < 8 → j ≢ t → Kept a a′ m m′ (m .task j))
+    → ((j : ℕ) → j < 8 → SlotRelated regions a m (a .slot j) (m .task j)) → Related regions a′ m′
+after {regions} {a} {a′} {m} {m′} t s T e f C own kept old = record {
+  core = C;
+  slots = subst (λ (F : ℕ → Slot). (j : ℕ) → j < 8 → SlotRelated regions a′ m′ (F j) (m′ .task j)) (sym e) (subst (λ (G : ℕ → Task). (j : ℕ) → j < 8 → SlotRelated regions a′ m′ (update (a .slot) t s j) (G j)) (sym f)
+      (update-all₂ (λ j z U. j < 8 → SlotRelated regions a′ m′ z U) (a .slot) (m .task) t s T (λ l. own) (λ j d l. kept-slot (kept j l d) (old j l))));
+}

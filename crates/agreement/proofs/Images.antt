@@ -1,0 +1,74 @@
+-- What stands in the fields after a start.
+-- Assumes nothing.
+use mathlib.Core.Path.{_≡_, refl, ap, _∙_}
+use mathlib.Core.Bool.{false}
+use mathlib.Core.List.{List, [], _∷_, _++_}
+use Prim.Native.Nat.{ℕ, zero, suc, _+_, _^_, _≤_, _<_}
+use native.Mathlib.Omega.{arith}
+use native.Mathlib.Decide.{ℕ-discrete}
+use borrow.Author.Tests.{eq-eqb, ne-eqb}
+use lib.Dec.{eqb}
+use lib.ListN.{getD, replicate}
+use Rattle.fields.specs.Little.{getLE}
+use Rattle.fields.specs.Columns.{Field, View, Write, _:=_, assign, assigned, Has, Sound}
+use Rattle.control.specs.Layout.{layout}
+use Rattle.stepped.specs.Start.{fill}
+
+-- ---- zeros
+
+pub zeros : (n i : ℕ) → _≡_ {A = ℕ} (getD (replicate n 0) i 0) 0
+zeros zero i = refl
+zeros (suc n) zero = refl
+zeros (suc n) (suc i) = zeros n i
+
+pub getLE-zeros : (n at w : ℕ) → getLE (replicate n 0) at w ≡ 0
+unfolding getLE
+getLE-zeros n at zero = refl
+getLE-zeros n at (suc w) = rw (zeros n at, getLE-zeros n (suc at) w)
+
+-- ---- a run of writes
+
+-- writes after writes
+pub assigned-append : (ws us : List Write) (v : View) (g : Field) → assigned (ws ++ us) v g ≡ assigned us (assigned ws v) g
+assigned-append [] us v g = refl
+assigned-append (w ∷ ws) us v g = assigned-append ws us (assign w v) g
+
+-- a view at a field depends on the view before at that field alone
+pub assigned-same : (ws : List Write) (v u : View) (g : Field) → v g ≡ u g → assigned ws v g ≡ assigned ws u g
+assigned-same [] v u g e = e
+assigned-same ((f := x) ∷ ws) v u g e = assigned-same ws (assign (f := x) v) (assign (f := x) u) g (rw e)
+
+abbrev at : ℕ → ℕ → Field
+at c i = record { column = c; index = i }
+
+-- the fields past the first n of a column that are filled are left
+pub past-fill : (c : ℕ) (x : ℕ → ℕ) (n : ℕ) (v : View) (j : ℕ) → n ≤ j → assigned (fill (at c) x n) v (at c j) ≡ v (at c j)
+past-fill c x zero v j l = refl
+past-fill c x (suc n) v j l =
+    past-fill c x n (assign (at c n := x n) v) j (omega arith) ∙ rw (eq-eqb c c refl, ne-eqb n j (omega arith))
+
+-- and those are filled
+pub filled : (c : ℕ) (x : ℕ → ℕ) (n : ℕ) (v : View) (j : ℕ) → j < n → assigned (fill (at c) x n) v (at c j) ≡ x j
+filled c x zero v j l = absurd (omega arith)
+filled c x (suc n) v j l = elim (ℕ-discrete n j) [
+  | yes e ↦ past-fill c x n (assign (at c n := x n) v) j (omega arith)
+      ∙ rw (eq-eqb c c refl, eq-eqb n j e) (ap x e)
+  | no e ↦ filled c x n (assign (at c n := x n) v) j (omega arith)
+]
+
+-- the other columns are left
+pub other-fill : (c : ℕ) (x : ℕ → ℕ) (n : ℕ) (v : View) (e j : ℕ) → eqb c e ≡ false → assigned (fill (at c) x n) v (at e j) ≡ v (at e j)
+other-fill c x zero v e j h = refl
+other-fill c x (suc n) v e j h = other-fill c x n (assign (at c n := x n) v) e j h ∙ rw h
+
+-- a filled column fits, if each value does
+pub fill-sound : (c : ℕ) (x : ℕ → ℕ) (n k width : ℕ) → ((i x : ℕ) → i < k → x < width → Has layout (at c i) × (x < 256 ^ Rattle.fields.specs.Columns.width layout (at c i)))
+    → ((i : ℕ) → i < n → x i < width) → n ≤ k → Sound layout (fill (at c) x n)
+fill-sound c x zero k width h f l = tt
+fill-sound c x (suc n) k width h f l =
+    (h n (x n) (omega arith) (f n (omega arith)), fill-sound c x n k width h (λ i j. f i (omega arith)) (omega arith))
+
+-- writes that fit, after writes that fit
+pub append-sound : (ws us : List Write) → Sound layout ws → Sound layout us → Sound layout (ws ++ us)
+append-sound [] us p q = q
+append-sound ((f := x) ∷ ws) us p q = (p .0, append-sound ws us (p .1) q)

@@ -1,0 +1,233 @@
+-- The fields of the control memory are in their ranges, after every event of a run that meets the premises.
+-- Assumes nothing.
+use Prim.Native.Nat.{ℕ, _≤_, _<_}
+use mathlib.Core.Path.{_≡_, refl, sym, subst, _∙_}
+use mathlib.Core.Bool.{true}
+use mathlib.Core.List.{List, [], _∷_}
+use native.Mathlib.Omega.{arith}
+use native.Mathlib.Decide.{decLt}
+use lib.ListN.{length}
+use Rattle.rows.specs.Counting.{count}
+use Rattle.rows.specs.Linked.{Linked}
+use Rattle.rows.proofs.Branch.{if-yes}
+use Rattle.rows.proofs.Weights.{when-same}
+use Rattle.fields.specs.Columns.{View}
+use Rattle.links.specs.Link.{link}
+use Rattle.words.specs.Anchor.{FULL, anchorOf}
+use Rattle.classes.specs.Classes.{perRegion}
+use Rattle.plain.specs.State.{State, EMPTY, PARTIAL, numberOf, Place, Mem}
+use Rattle.plain.specs.State as Plain
+use Rattle.plain.specs.Held.{classAt, underWay, owed, holdsDescriptor}
+use Rattle.plain.specs.States.{IsOpen}
+use Rattle.plain.specs.Invariant.{Invariant, ChainLength}
+use Rattle.plain.specs.Steps.{top}
+use Rattle.plain.specs.Calls.{Pool, unstarted}
+use Rattle.plain.specs.Calls as Calls
+use Rattle.plain.proofs.States.{open-holds}
+use Rattle.plain.proofs.Turn.{taskHolds}
+use Rattle.control.specs.Layout.{Anchor, CacheTop, CacheCount, TaskUnit, TaskPlace, TaskClass, TaskDescriptor, TaskState, DescriptorClass, Regions, seen}
+use Rattle.stepped.specs.Ranges.{isBlock, isTop}
+use Rattle.agreement.specs.Memory.{slotOf, memoryOf}
+use Rattle.agreement.specs.Relation.{PlaceRelated, Related}
+use Rattle.agreement.specs.Relation.{r-idle, r-a1, r-partial, r-spare, r-region, r-retire, r-back, r-release, r-offer, r-a3-read, r-a3-exchange}
+use Rattle.agreement.specs.Relation.{r-a4, r-a7, r-a8, r-f1, r-f2, r-f2-more, r-f3-read, r-f3-link, r-f3-exchange, r-f4-clear}
+use Rattle.stepped.specs.Outcome.{Memories}
+use Rattle.agreement.specs.Events.{Event, start, stepped, whole, Premises}
+use Rattle.agreement.specs.Agreement.{Unstarted}
+use Rattle.agreement.specs.InRange.{TaskInRange, Ranged, RangedAlong}
+use Rattle.agreement.proofs.Tops.{top-le, listed, listed-region, descriptor-in-hand}
+use Rattle.agreement.proofs.Notes.{note-of, first-max, number-open, number-max}
+use Rattle.agreement.proofs.Couple.{Pair, mine}
+use Rattle.agreement.proofs.Blocks.{under-unit, below-tested, top-max}
+use Rattle.agreement.proofs.Simulation.{Sim, fitting}
+use Rattle.agreement.proofs.Unstarted.{unstarted-sim}
+use Rattle.agreement.proofs.Starting.{accepted-start}
+use Rattle.agreement.proofs.Theorem.{alike}
+use Rattle.agreement.proofs.TaskHands.{pop-span, push-span, hands-at}
+use Rattle.agreement.proofs.TaskLists.{noted-at}
+
+-- ---- a task
+
+-- What a free has under way, by the task's place: the block that is freed, and the descriptor that it owes to the partial list
+-- from its exchange on, where it found the anchor FULL.
+data Freeing (v : View) (t : ℕ) (p : Place) : Type 0 where
+  allocates : v (TaskPlace t) ≤ 16 → Freeing v t p
+  fills : 23 ≤ v (TaskPlace t) → v (TaskPlace t) ≤ 27 → Freeing v t p
+  frees : 20 ≤ v (TaskPlace t) → v (TaskPlace t) ≤ 32 → classAt p ≡ v (TaskClass t) → 1 ≤ count (v (TaskUnit t)) (underWay p)
+      → Freeing v t p
+  owes : (v (TaskState t) ≡ FULL → 1 ≤ holdsDescriptor (v (TaskDescriptor t)) p) → classAt p ≡ v (TaskClass t)
+      → 1 ≤ count (v (TaskUnit t)) (underWay p) → Freeing v t p
+
+owed-one : (z : State) (d : ℕ) → numberOf z ≡ FULL → 1 ≤ count d (owed z d)
+owed-one EMPTY d e = absurd (omega arith)
+owed-one PARTIAL d e = absurd (omega arith)
+owed-one Plain.FULL d e = omega (arith, when-same d 1)
+
+module _ (regions : ℕ) (v : View) (area : List ℕ) (m : Mem) (t : ℕ) where
+  abbrev u : ℕ
+  u = v (TaskUnit t)
+
+  abbrev d : ℕ
+  d = v (TaskDescriptor t)
+
+  freeing : {p : Place} → PlaceRelated regions (memoryOf v area) m (slotOf v t) p → Freeing v t p
+  freeing (r-idle e) = allocates (omega arith)
+  freeing (r-a1 e) = allocates (omega arith)
+  freeing (r-partial h) = allocates (omega (arith, pop-span h))
+  freeing (r-spare h) = allocates (omega (arith, pop-span h))
+  freeing (r-region h) = allocates (omega (arith, pop-span h))
+  freeing (r-retire h) = allocates (omega (arith, push-span h))
+  freeing (r-back h) = allocates (omega (arith, push-span h))
+  freeing (r-release {w = z} e h) = owes (λ f. omega (arith, owed-one z d (sym e ∙ f))) refl (omega (arith, when-same u 1))
+  freeing (r-offer h) = let i = push-span h in frees (omega arith) (omega arith) refl (omega (arith, when-same u 1))
+  freeing (r-a3-read e) = fills (omega arith) (omega arith)
+  freeing (r-a3-exchange e N i j l o) = fills (omega arith) (omega arith)
+  freeing (r-a4 e l n h) = fills (omega arith) (omega arith)
+  freeing (r-a7 e) = fills (omega arith) (omega arith)
+  freeing (r-a8 e) = fills (omega arith) (omega arith)
+  freeing (r-f1 e) = frees (omega arith) (omega arith) refl (omega (arith, when-same u 1))
+  freeing (r-f2 e z) = frees (omega arith) (omega arith) refl (omega (arith, when-same u 1))
+  freeing (r-f2-more e G) = frees (omega arith) (omega arith) refl (omega (arith, when-same u 1))
+  freeing (r-f3-read e G) = frees (omega arith) (omega arith) refl (omega (arith, when-same u 1))
+  freeing (r-f3-link e G N l) = frees (omega arith) (omega arith) refl (omega (arith, when-same u 1))
+  freeing (r-f3-exchange e G N l i) = frees (omega arith) (omega arith) refl (omega (arith, when-same u 1))
+  freeing (r-f4-clear {w = z} e i) = owes (λ f. omega (arith, owed-one z d (sym i ∙ f))) refl (omega (arith, when-same u 1))
+
+  module _ {p : Place} {k : ℕ → List ℕ} (w : Pair regions (memoryOf v area) m t p k) where
+    abbrev c : ℕ
+    c = v (TaskClass t)
+
+    -- the block that is freed is one of its class
+    freed-unit : classAt p ≡ c → 1 ≤ count u (underWay p) → isBlock regions c u ≡ true
+    freed-unit e h = subst (λ (z : ℕ). isBlock regions z u ≡ true) e (under-unit w u h)
+
+    -- at the places of a free, which are 17 to 22 and 28 to 33
+    unit-at : Freeing v t p → 17 ≤ v (TaskPlace t) → (23 ≤ v (TaskPlace t) → 28 ≤ v (TaskPlace t)) → isBlock regions c u ≡ true
+    unit-at (allocates h) i j = absurd (omega arith)
+    unit-at (fills h l) i j = absurd (omega (arith, j h))
+    unit-at (frees h l e o) i j = freed-unit e o
+    unit-at (owes f e o) i j = freed-unit e o
+
+    -- at those where a descriptor may be owed, which are 17 to 19 and 33
+    owed-at : Freeing v t p → 17 ≤ v (TaskPlace t) → (20 ≤ v (TaskPlace t) → 33 ≤ v (TaskPlace t)) → v (TaskState t) ≡ FULL → d < 64
+    owed-at (allocates h) i j f = absurd (omega arith)
+    owed-at (fills h l) i j f = absurd (omega (arith, j (omega arith)))
+    owed-at (frees h l e o) i j f = absurd (omega (arith, j h))
+    owed-at (owes g e o) i j f = descriptor-in-hand (w .turn) d (g f)
+
+    -- a cache's two fields
+    module _ (e : ℕ) (l : e < 16) where
+      abbrev row : List ℕ
+      row = k e
+
+      count-is : v (CacheCount t e) ≡ length row
+      count-is = sym (if-yes (decLt e 16) (v (CacheCount t e)) 0 l) ∙ mine w .counts e l
+
+      top-linked : Linked (link area) (λ x. x) 8192 (v (CacheTop t e)) row
+      top-linked =
+          subst (λ (z : ℕ). Linked (link area) (λ x. x) 8192 z row) (if-yes (decLt e 16) (v (CacheTop t e)) 0 l) (mine w .tops e l)
+
+      top-is : isTop regions e (v (CacheCount t e)) (v (CacheTop t e)) ≡ true
+      top-is = rw count-is (below-tested w e (v (CacheTop t e)) row (λ x. omega arith) top-linked)
+
+      top-below : v (CacheTop t e) ≤ 8192
+      top-below = top-max w e (v (CacheTop t e)) row top-linked (λ x. omega arith)
+
+    task-in-range : PlaceRelated regions (memoryOf v area) m (slotOf v t) p → TaskInRange regions v t
+    task-in-range P =
+        let F = freeing P in
+        let N = hands-at regions v area m t k w P in
+        record {
+          class = mine w .fits;
+          lists = noted-at regions v area m t P;
+          hands = N .0;
+          chains = N .1;
+          unit-pushing = λ i j. unit-at F i (λ h. absurd (omega arith));
+          unit = λ i j. unit-at F (omega arith) (λ h. i);
+          descriptor-released = λ i j. owed-at F i (λ h. absurd (omega arith));
+          descriptor-cleared = λ i j. owed-at F (omega arith) (λ h. i);
+          counts = λ e l. omega (arith, count-is e l, taskHolds (w .turn) .lengths e);
+          tops = top-is;
+          tops-max = top-below;
+        }
+
+-- ---- the pool
+
+-- the anchor of an open descriptor: avail and count are those of its chain
+record OpenAnchor (n avail count : ℕ) : Type 0 where
+  avails : avail ≤ n
+  counts : count ≤ n
+
+-- how many blocks a chain has at most
+chain-most : (z : State) (n l : ℕ) → IsOpen z → ChainLength z n l → l ≤ n
+chain-most EMPTY n l o h = absurd (omega (arith, o 1))
+chain-most PARTIAL n l o h = omega arith
+chain-most Plain.FULL n l o h = omega arith
+
+module _ {regions : ℕ} (v : View) {area : List ℕ} {m : Mem} (R : Related regions (memoryOf v area) m) (I : Invariant regions m) where
+  open-anchor : (e : ℕ) → e < 64 → 1 ≤ anchorOf (v (Anchor e)) .state
+      → OpenAnchor (perRegion (v (DescriptorClass e))) (anchorOf (v (Anchor e)) .avail) (anchorOf (v (Anchor e)) .count)
+  open-anchor e l h =
+      let D = R .core .descriptors e l in
+      let E = m .descriptor e in
+      let o = number-open (E .state) (omega (arith, D .state)) in
+      let C = open-holds (E .state) o (D .chain) in
+      let O = open-holds (E .state) o (I .chains e l) in
+      let N = note-of m e D C O in
+      subst (λ (c : ℕ). OpenAnchor (perRegion c) (anchorOf (v (Anchor e)) .avail) (anchorOf (v (Anchor e)) .count)) (sym (D .class))
+      (record {
+        avails = omega (arith, N .avail, first-max (E .region) (E .class) (top (E .chain)) (N .first));
+        counts = omega (arith, C .counts, chain-most (E .state) (perRegion (E .class)) (length (E .chain)) o (O .sized));
+      })
+
+-- Once a pool is started, the relation between the bytes and the plain pool gives every field's range.
+pub in-range : {s₁ : Memories} {s : Pool} → Sim s₁ s → Ranged s₁
+in-range {s₁} {s} S started =
+    let v = seen (s₁ .control) in
+    let q : 1 ≤ s .tasks = omega (arith, S .tasks) in
+    let R = S .related q in
+    let C = R .core in
+    let I = S .good .inv q in
+    let e : v Regions ≡ s .regions = S .regions q in
+    let pair : (t : ℕ) (l : t < 8) → Pair (s .regions) (memoryOf v (s₁ .area)) (s .mem) t (s .mem .task t .place) (s .mem .task t .cache) =
+    λ t l. record { rel = R; turn = record { inv = I; fits = l; is = refl }; small = S .good .small q } in
+    record {
+      widths = fitting (s₁ .control) (S .bytes);
+      tasks = omega (arith, S .tasks, S .good .few);
+      regions = omega (arith, S .some q, S .good .small q);
+      heads = λ ℓ l. top-le (C .rows ℓ l) (listed I ℓ l);
+      head-regions = rw e (top-le (C .spareRow) (listed-region I));
+      descriptor-nexts = C .descriptorNexts;
+      region-nexts = rw e (C .regionNexts);
+      states = λ d l. omega (arith, C .descriptors d l .state, number-max (s .mem .descriptor d .state));
+      avails = C .avails;
+      chain-counts = C .chainCounts;
+      open-avails = λ d l h. open-anchor v R I d l h .avails;
+      open-counts = λ d l h. open-anchor v R I d l h .counts;
+      descriptor-regions = rw e (C .descriptorRegions);
+      descriptor-classes = C .descriptorClasses;
+      maps = λ r l. omega (arith, C .maps r (omega arith), I .entries r);
+      each-task = λ t l. rw e (task-in-range (s .regions) v (s₁ .area) (s .mem) t (pair t l) (R .slots t l .place));
+    }
+
+-- ---- a run
+
+along : (es : List Event) (s₁ : Memories) (s : Pool) → Sim s₁ s → Premises es s → RangedAlong es s₁
+along [] s₁ s S p = tt
+along (e ∷ es) s₁ s S p =
+    let A = alike e s₁ s S (p .0) in
+    (in-range (A .sim), along es (stepped e s₁ .0) (whole e s .0) (A .sim) (p .1))
+
+-- Along every list of events that meets the premises, from any control memory that is not started, every field that the pool
+-- stores is in its range.
+pub ranges : (es : List Event) (s₁ : Memories) → Unstarted s₁ → Premises es unstarted → RangedAlong es s₁
+ranges es s₁ U p = along es s₁ unstarted (unstarted-sim U) p
+
+-- The same from an accepted start on any memories and in any pool: right after it, and along every list of events behind it.
+pub ranges-from-start : (es : List Event) (s₁ : Memories) (s : Pool) (area : List ℕ) (tasks : ℕ) → Calls.Area (length area)
+    → Calls.Tasks tasks → Premises es (whole (start 8192 area tasks) s .0)
+    → Ranged (stepped (start 8192 area tasks) s₁ .0) × RangedAlong es (stepped (start 8192 area tasks) s₁ .0)
+unfolding Calls.call
+ranges-from-start es s₁ s area tasks a t p =
+    let A = accepted-start s₁ s area tasks a t in
+    (in-range (A .sim), along es (stepped (start 8192 area tasks) s₁ .0) (whole (start 8192 area tasks) s .0) (A .sim) p)

@@ -1,0 +1,125 @@
+-- The calls of the stepped run are the calls on bytes: with the lengths of the pool's memories they are the calls on these, and
+-- with other lengths they answer as the calls on the other memories do, which leave these as they are.
+-- Assumes nothing.
+use mathlib.Core.Path.{_≡_, refl}
+use mathlib.Core.Logic.{_≢_, _⊎_, inl, inr}
+use mathlib.Core.Bool.{Bool, true, false, cond, _&&_}
+use mathlib.Core.List.{List}
+use Prim.Native.Nat.{ℕ, _*_, _/_, _%_, _≤_}
+use native.Mathlib.Omega.{arith}
+use borrow.Author.Tests.{ne-eqb}
+use lib.Dec.{eqb}
+use lib.ListN.{length}
+use Rattle.fields.specs.Columns.{View}
+use Rattle.plain.specs.Moves.{nothing}
+use Rattle.control.specs.Layout.{Regions}
+use Rattle.control.specs.Answers.{codeOf}
+use Rattle.control.specs.declared.answer.Answer.{Answer}
+use Rattle.control.specs.declared.answer.Answer.the-variants.{Accepted, Allocated, Freed, NoDescriptor, NoRegion, Refused}
+use Rattle.stepped.specs.Outcome.{Outcome, Effect, effect, refuse}
+use Rattle.stepped.specs.Ranges.{oneTo}
+use Rattle.stepped.specs.Start.{startImage}
+use Rattle.stepped.specs.Calls as Stepped
+use Rattle.agreement.specs.Ends.{WritesNothing, Leaves}
+use Rattle.agreement.specs.Agreement.{Unchanged}
+use Rattle.agreement.proofs.Ends.{leaves}
+use Rattle.stepped.specs.Outcome.{Memories}
+use Rattle.agreement.specs.Events.{ran, start, allocate, free, go, stepped}
+
+-- ---- the pool's own memories
+
+module _ (s : Memories) where
+  pub start-is : (tasks : ℕ)
+      → stepped (start (length (s .control)) (s .area) tasks) s ≡ ran (Stepped.start (s .control) (s .area) tasks)
+  start-is tasks = refl
+
+  pub allocate-is : (t size : ℕ)
+      → stepped (allocate (length (s .control)) (length (s .area)) t size) s ≡ ran (Stepped.allocate (s .control) (s .area) t size)
+  unfolding Stepped.allocate
+  allocate-is t size = refl
+
+  pub free-is : (t u : ℕ)
+      → stepped (free (length (s .control)) (length (s .area)) t u) s ≡ ran (Stepped.free (s .control) (s .area) t u)
+  unfolding Stepped.free
+  free-is t u = refl
+
+  pub go-is : (t : ℕ)
+      → stepped (go (length (s .control)) (length (s .area)) t) s ≡ ran (Stepped.go (s .control) (s .area) t)
+  unfolding Stepped.go
+  go-is t = refl
+
+-- ---- other memories
+
+-- a control memory of another length: whatever it holds
+pub other-control : (control area : ℕ) (v : View) (t : ℕ) (x : Outcome) → control ≢ 8192
+    → Stepped.tested control area v t x ≡ refuse 1
+unfolding Stepped.tested
+other-control control area v t x h = rw (ne-eqb control 8192 h)
+
+-- the pool's control memory and an area of another length: no field but the started numbers and no link is read
+pub other-area : (control area : ℕ) (v : View) (t : ℕ) (x y : Outcome) → area ≢ 4096 * v Regions
+    → Stepped.tested control area v t x ≡ Stepped.tested control area v t y
+unfolding Stepped.tested
+other-area control area v t x y h = rw (ne-eqb area (4096 * v Regions) h)
+
+-- ---- starts
+
+module _ (area : List ℕ) (tasks : ℕ) where
+  -- a start by the outcomes of its tests 1, 2 and 3
+  abbrev By : Bool → Bool → Bool → List ℕ → List ℕ → Effect
+  By p q r c b =
+      cond p
+      (cond q
+      (cond r
+      (record { answer = Accepted; decided = nothing; control = startImage tasks (length area / 4096); area = area })
+      (effect (refuse 3) c b))
+      (effect (refuse 2) c b))
+      (effect (refuse 1) c b)
+
+  -- two starts that are both refused by the number n
+  abbrev BothRefused : Effect → Effect → List ℕ → List ℕ → List ℕ → List ℕ → Type 0
+  BothRefused e e′ c b c′ b′ = (n : ℕ) × ((e ≡ effect (refuse n) c b) × (e′ ≡ effect (refuse n) c′ b′))
+
+  elsewhere : (p q r : Bool) (c b c′ b′ : List ℕ)
+      → (By p q r c b ≡ By p q r c′ b′) ⊎ BothRefused (By p q r c b) (By p q r c′ b′) c b c′ b′
+  elsewhere true true true c b c′ b′ = inl refl
+  elsewhere true true false c b c′ b′ = inr (3, (refl, refl))
+  elsewhere true false r c b c′ b′ = inr (2, (refl, refl))
+  elsewhere false q r c b c′ b′ = inr (1, (refl, refl))
+
+  area-kept : (p q r : Bool) (c b : List ℕ) → codeOf (By p q r c b .answer) ≡ 0 → By p q r c b .area ≡ area
+  area-kept true true true c b h = refl
+  area-kept true true false c b h = absurd (omega arith)
+  area-kept true false r c b h = absurd (omega arith)
+  area-kept false q r c b h = absurd (omega arith)
+
+  -- A start on memories that are not the pool's: the same effect if it is accepted, and if it is refused, by the same number.
+  pub start-elsewhere : (size : ℕ) (c b c′ b′ : List ℕ)
+      → (Stepped.startIn size area tasks c b ≡ Stepped.startIn size area tasks c′ b′)
+      ⊎ BothRefused (Stepped.startIn size area tasks c b) (Stepped.startIn size area tasks c′ b′) c b c′ b′
+  unfolding Stepped.startIn
+  start-elsewhere size =
+      elsewhere (eqb size 8192) (eqb (length area % 4096) 0 && oneTo 65536 (length area)) (oneTo 8 tasks)
+
+  -- An accepted start "leaves the area as it is": its area is the one that it is lent.
+  pub start-leaves : (size : ℕ) (c b : List ℕ) → codeOf (Stepped.startIn size area tasks c b .answer) ≡ 0
+      → Stepped.startIn size area tasks c b .area ≡ area
+  unfolding Stepped.startIn
+  start-leaves size = area-kept (eqb size 8192) (eqb (length area % 4096) 0 && oneTo 65536 (length area)) (oneTo 8 tasks)
+
+-- ---- refusals
+
+-- a call that is refused by one of the numbers 1 to 11 leaves the pool's memories
+pub refused-leaves : (e : Effect) (s : Memories) → Leaves e (s .control) (s .area) → Unchanged s (ran e)
+refused-leaves e s h = by (e .answer) refl
+  where
+    by : (a : Answer) → e .answer ≡ a → 1 ≤ codeOf a → codeOf a ≤ 11 → ran e .0 ≡ s
+    by Accepted i k l = absurd (omega arith)
+    by (Allocated u) i k l = absurd (omega arith)
+    by Freed i k l = absurd (omega arith)
+    by NoDescriptor i k l = absurd (omega arith)
+    by NoRegion i k l = absurd (omega arith)
+    by (Refused n) i k l = λ j. record { control = h n i .0 j; area = h n i .1 j }
+
+pub outcome-leaves : (o : Outcome) (s : Memories) → WritesNothing o → Unchanged s (ran (effect o (s .control) (s .area)))
+outcome-leaves o s h = refused-leaves (effect o (s .control) (s .area)) s (leaves o (s .control) (s .area) h)

@@ -1,0 +1,154 @@
+-- How the steps of the pops and the pushes end, and free's steps 5 and 6 that follow two of them.
+-- Assumes nothing.
+use Prim.Native.Nat.{ℕ, _+_, _-_, _<_}
+use mathlib.Core.Path.{_≡_, refl}
+use mathlib.Core.Logic.{inl, inr}
+use mathlib.Core.Bool.{_&&_}
+use mathlib.Core.List.{List, [], _∷_}
+use native.Mathlib.Omega.{arith}
+use borrow.Author.Tests.{eqb-true, leb-true, ltb-true}
+use lib.Dec.{eqb, leb, ltb}
+use Rattle.fields.specs.Columns.{View, Write, _:=_}
+use Rattle.links.specs.Link.{LinkWrite}
+use Rattle.words.specs.Head.{itemOf, advancedWord}
+use Rattle.words.specs.Anchor.{FULL, isState}
+use Rattle.classes.specs.Classes.{perRegion}
+use Rattle.plain.specs.Moves.{Decided, found-empty, popped, pushed}
+use Rattle.control.specs.Layout.{Head, TaskHead, CacheCount, TaskPlace, TaskClass, TaskNext, TaskState, Regions}
+use Rattle.control.specs.declared.moves.Pop.{Pop}
+use Rattle.control.specs.declared.moves.Pop.the-variants.{Partial, Spare, Region}
+use Rattle.control.specs.declared.moves.Push.{Push}
+use Rattle.control.specs.declared.moves.Push.the-variants.{Retire, Back, Release, Offer}
+use Rattle.stepped.specs.Outcome.{Outcome, accept}
+use Rattle.stepped.specs.Ranges.{oneTo}
+use Rattle.stepped.specs.Lists as Lists
+use Rattle.stepped.specs.Lists.{popPlace, pushPlace}
+use Rattle.agreement.specs.Ends.{FindsEmpty, WinsPush, InPush}
+use Rattle.stepped.proofs.Conjunction.{left-true, right-true}
+use Rattle.agreement.proofs.Ways.{branch, Ending, going, Keeps, wrong, either, test, to, finish}
+
+-- the places of the pops come before those of the push back
+before : (p : Pop) → popPlace p + 2 < pushPlace Back
+before Partial = omega arith
+before Spare = omega arith
+before Region = omega arith
+
+-- the next of an item is no place
+next-keeps : (t : ℕ) (p : Push) (x y : ℕ) → Keeps t (Lists.pushNextField p x := y ∷ [])
+next-keeps t Retire x y u = refl
+next-keeps t Back x y u = refl
+next-keeps t Release x y u = refl
+next-keeps t Offer x y u = refl
+
+module _ (v : View) (t : ℕ) (fits : v (TaskClass t) < 16) where
+  abbrev c : ℕ
+  c = v (TaskClass t)
+
+  abbrev regions : ℕ
+  regions = v Regions
+
+  abbrev End : Outcome → Type 0
+  End = Ending v t
+
+  -- ---- pops
+
+  when-empty : (p : Pop) → FindsEmpty p v t → End (Lists.whenEmpty v regions t c p (found-empty (Lists.popList p c)))
+  when-empty Partial h = to (popPlace Spare) (omega arith) (λ u. refl)
+  when-empty Spare h = finish h (λ u. refl)
+  when-empty Region h = going (λ i. inl h)
+
+  pub pop-read : (p : Pop) → v (TaskPlace t) ≡ popPlace p → End (Lists.popRead v regions t c p)
+  unfolding Lists.popRead
+  pop-read p e =
+      let item = itemOf (v (Head (Lists.popList p c))) in
+      branch End (eqb item 0) (λ h. when-empty p (record { place = e; class = fits; empty = eqb-true item 0 h }))
+      (λ h. test (leb item (Lists.popItems p regions)) (to (popPlace p + 1) (omega (arith, before p)) (λ u. refl)))
+
+  pub pop-next : (p : Pop) → End (Lists.popNext v regions t c p)
+  unfolding Lists.popNext Lists.popNextOf
+  pop-next p =
+      let item = itemOf (v (TaskHead t)) in
+      let items = Lists.popItems p regions in
+      test (oneTo items item)
+      (test (leb (v (Lists.popNextField p (item - 1))) items) (to (popPlace p + 2) (omega (arith, before p)) (λ u. refl)))
+
+  when-popped : (p : Pop) (x : ℕ) (e : Decided) (ws : List Write) → Keeps t ws → End (Lists.whenPopped v regions t c p x e ws)
+  when-popped Partial x e ws h = to 23 (omega arith) (λ u. h _)
+  when-popped Spare x e ws h = to (popPlace Region) (omega arith) (λ u. h _)
+  when-popped Region x e ws h = to 26 (omega arith) (λ u. h _)
+
+  pub pop-exchange : (p : Pop) → End (Lists.popExchange v regions t c p)
+  unfolding Lists.popExchange
+  pop-exchange p =
+      let ℓ = Lists.popList p c in
+      let items = Lists.popItems p regions in
+      let word = v (TaskHead t) in
+      let x = itemOf word - 1 in
+      test (oneTo items (itemOf word) && leb (v (TaskNext t)) items && leb (itemOf (v (Head ℓ))) items)
+      (either (eqb (v (Head ℓ)) word)
+      (when-popped p x (popped ℓ x) (Head ℓ := advancedWord word (v (TaskNext t)) ∷ []) (λ u. refl))
+      (to (popPlace p) (omega (arith, before p)) (λ u. refl)))
+
+  -- ---- pushes
+
+  -- from one place of a push to another
+  within : {e : Decided} {ws : List Write} {ls : List LinkWrite} (p : Push) (q : ℕ) → InPush p q → InPush p (v (TaskPlace t))
+      → Keeps t ws → End (accept e (TaskPlace t := q ∷ ws) ls)
+  within Retire q i h k = to q (omega arith) k
+  within Back q i h k = going (λ j. inr h)
+  within Release q i h k = to q (omega arith) k
+  within Offer q i h k = to q (omega arith) k
+
+  pub push-read : (p : Push) → v (TaskPlace t) ≡ pushPlace p → End (Lists.pushRead v regions t c p)
+  unfolding Lists.pushRead
+  push-read p e =
+      test (leb (itemOf (v (Head (Lists.pushList p c)))) (Lists.pushItems p regions))
+      (within p (pushPlace p + 1) (omega arith) (omega arith) (λ u. refl))
+
+  pub push-next : (p : Push) → v (TaskPlace t) ≡ pushPlace p + 1 → End (Lists.pushNext v regions t c p)
+  unfolding Lists.pushNext
+  push-next p e =
+      let x = v (Lists.itemField p t) in
+      let below = itemOf (v (TaskHead t)) in
+      let items = Lists.pushItems p regions in
+      test (ltb x items && leb below items) (within p (pushPlace p + 2) (omega arith) (omega arith) (next-keeps t p x below))
+
+  -- free, steps 6 and 5
+  f6 : (e : Decided) (ws : List Write) → Keeps t ws → End (Lists.f6 v regions t c e ws)
+  unfolding Lists.f6
+  f6 e ws h =
+      let k = v (CacheCount t c) in
+      test (leb k (perRegion c)) (either (eqb k 0) (to 28 (omega arith) h) (to 29 (omega arith) (λ u. h _)))
+
+  pub f5 : (was : ℕ) (e : Decided) (ws : List Write) → Keeps t ws → End (Lists.f5 v regions t c was e ws)
+  unfolding Lists.f5
+  f5 was e ws h = either (eqb was FULL) (to (pushPlace Offer) (omega arith) h) (f6 e ws h)
+
+  when-pushed : (p : Push) (e : Decided) (ws : List Write) → WinsPush p v t → Keeps t ws
+      → End (Lists.whenPushed v regions t c p e ws)
+  when-pushed Retire e ws w h = to (popPlace Partial) (omega arith) h
+  when-pushed Back e ws w h = finish w h
+  when-pushed Release e ws w h = test (isState (v (TaskState t))) (f5 (v (TaskState t)) e ws h)
+  when-pushed Offer e ws w h = f6 e ws h
+
+  pub push-exchange : (p : Push) → v (TaskPlace t) ≡ pushPlace p + 2 → End (Lists.pushExchange v regions t c p)
+  unfolding Lists.pushExchange
+  push-exchange p e =
+      let ℓ = Lists.pushList p c in
+      let items = Lists.pushItems p regions in
+      let word = v (TaskHead t) in
+      let x = v (Lists.itemField p t) in
+      let tests = ltb x items && leb (itemOf word) items in
+      branch End (tests && leb (itemOf (v (Head ℓ))) items)
+      (λ h.
+      let q = left-true tests (leb (itemOf (v (Head ℓ))) items) h in
+      branch End (eqb (v (Head ℓ)) word)
+      (λ i. when-pushed p (pushed ℓ x) (Head ℓ := advancedWord word (x + 1) ∷ []) (record {
+        place = e;
+        class = fits;
+        item = ltb-true x items (left-true (ltb x items) (leb (itemOf word) items) q);
+        noted = leb-true (itemOf word) items (right-true (ltb x items) (leb (itemOf word) items) q);
+        same = eqb-true (v (Head ℓ)) word i;
+      }) (λ u. refl))
+      (λ i. within p (pushPlace p) (omega arith) (omega arith) (λ u. refl)))
+      (λ h. wrong)

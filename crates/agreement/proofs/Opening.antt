@@ -1,0 +1,199 @@
+-- Step 7 of allocate, in both pools: a spare descriptor and a spare region in hand become an open region.
+-- Assumes nothing.
+use mathlib.Core.Path.{_≡_, refl, sym, ap, subst, _∙_}
+use mathlib.Core.Bool.{_&&_}
+use mathlib.Core.List.{List, [], _∷_}
+use Prim.Native.Nat.{ℕ, suc, _+_, _≤_, _<_}
+use native.Mathlib.Omega.{arith}
+use native.Mathlib.Numerals.{add-one}
+use borrow.Author.Tests.{eq-eqb, ne-eqb, lt-ltb}
+use lib.Dec.{ltb}
+use Rattle.rows.specs.Linked.{ends}
+use Rattle.rows.specs.Tests.{same, other, same?}
+use Rattle.rows.specs.Update.{update}
+use Rattle.rows.specs.Weights.{one}
+use Rattle.rows.proofs.Totals.{total-one}
+use Rattle.rows.proofs.Update.{update-same, update-other, update-all, update-all₂}
+use Rattle.rows.proofs.Weights.{when-same}
+use Rattle.fields.specs.Columns.{View, _:=_, assigned}
+use Rattle.words.specs.Anchor.{anchorWord, full}
+use Rattle.words.proofs.Anchors.{anchor-below}
+use Rattle.words.specs.declared.anchor.Anchor.{Anchor}
+use Rattle.classes.specs.Classes.{perRegion}
+use Rattle.classes.proofs.Tables.{perRegion-high}
+use Rattle.links.specs.Link.{link}
+use Rattle.plain.specs.State.{State, EMPTY, PARTIAL, FULL, Descriptor, Place, idle, a1, popping, pushing, a3-read}
+use Rattle.plain.specs.State.{a3-exchange, a4, a7, a8, f1, f2, f3-read, f3-link, f3-exchange, f4-clear, Mem, Task}
+use Rattle.plain.specs.State.{setTask, setDescriptor, setMap}
+use Rattle.plain.specs.Steps as Steps
+use Rattle.plain.specs.Held.{holdsDescriptor}
+use Rattle.plain.specs.States.{isEmpty}
+use Rattle.plain.specs.Weights.{spareWeight}
+use Rattle.plain.proofs.Owners.{owner}
+use Rattle.plain.proofs.Places.{taskOf, placeHolds}
+use Rattle.plain.proofs.States.{open-not-empty}
+use Rattle.plain.proofs.Turn.{Turn}
+use Rattle.control.specs.Layout
+use Rattle.control.specs.Layout.{TaskPlace, TaskClass, TaskDescriptor, TaskRegion, TaskIndex, TaskLeft}
+use Rattle.control.specs.Layout.{DescriptorRegion, DescriptorClass, Map}
+use Rattle.stepped.specs.Allocate as Allocate
+use Rattle.agreement.specs.Memory.{Memory, Slot, slotOf, memoryOf}
+use Rattle.agreement.specs.Relation.{DescriptorRelated, SlotRelated, Core, Related, r-a8}
+use Rattle.agreement.proofs.Slots.{toPlace, toChain}
+use Rattle.agreement.proofs.Sets.{setSlot, setOwner}
+use Rattle.agreement.proofs.Bridge.{withSlots, owner-written}
+use Rattle.agreement.proofs.Tops.{descriptor-in-hand, region-in-hand}
+use Rattle.agreement.proofs.Frames.{Reads, after}
+use Rattle.agreement.proofs.Couple.{Pair, mine, descriptor-apart}
+use Rattle.stepped.proofs.Conjunction.{both-true}
+use Rattle.agreement.proofs.Both.{Both, pass}
+use Rattle.agreement.proofs.Turns.{At}
+use Rattle.agreement.proofs.Sharing.{shares}
+use Rattle.agreement.proofs.Anchors.{full-parts, full-read}
+
+-- a descriptor that a task noted the anchor of is in its hand, or open
+reads-open : {regions : ℕ} {m : Mem} {j : ℕ} {p : Place} {k : ℕ → List ℕ} (w : Turn regions m j (taskOf p k)) (x : ℕ)
+    → Reads x p → holdsDescriptor x p ≡ 0 → isEmpty (m .descriptor x .state) ≡ 0
+reads-open {p = idle} w x h o = absurd h
+reads-open {p = a1 c} w x h o = absurd h
+reads-open {p = popping p φ} w x h o = absurd h
+reads-open {p = pushing p φ} w x h o = absurd h
+reads-open {p = a3-read c d} w x h o = absurd h
+reads-open {p = a3-exchange c d n} w x h o = absurd (omega (arith, ap (one x) h, when-same x 1))
+reads-open {p = a4 c y q} w x h o = absurd h
+reads-open {p = a7 c d r} w x h o = absurd h
+reads-open {p = a8 c r i} w x h o = absurd h
+reads-open {p = f1 c u} w x h o = absurd h
+reads-open {p = f2 c u g} w x h o = absurd h
+reads-open {p = f3-read c u y g} w x h o = absurd h
+reads-open {m = m} {p = f3-link c u y g d n} w x h o =
+    let f = owner w y d (omega (arith, when-same y 1)) (placeHolds w .3) in
+    rw h (open-not-empty (m .descriptor d .state) (f .counts))
+reads-open {m = m} {p = f3-exchange c u y g d n} w x h o =
+    let f = owner w y d (omega (arith, when-same y 1)) (placeHolds w .3) in
+    rw h (open-not-empty (m .descriptor d .state) (f .counts))
+reads-open {p = f4-clear c u d s r} w x h o = absurd h
+
+empty-max : (s : State) → isEmpty s ≤ 1
+empty-max EMPTY = omega arith
+empty-max PARTIAL = omega arith
+empty-max FULL = omega arith
+
+-- the new descriptor
+abbrev opened : ℕ → ℕ → Descriptor
+opened r c = record { state = FULL; region = r; class = c; chain = [] }
+
+-- the change over records: the descriptor d is written whole, and the map's entry e of the region r names it
+opening : {regions : ℕ} {a : Memory} {m : Mem} {t c d r : ℕ} {k : ℕ → List ℕ} (w : Pair regions a m t (a7 c d r) k) (e : ℕ)
+    (s : Slot) (T : Task) → c < 16 → e ≡ suc d
+    → SlotRelated regions (setSlot t s (setOwner d (full (perRegion c)) r c e a))
+    (setTask t T (setMap r (suc d) (setDescriptor d (opened r c) m))) s T
+    → Related regions (setSlot t s (setOwner d (full (perRegion c)) r c e a))
+    (setTask t T (setMap r (suc d) (setDescriptor d (opened r c) m)))
+opening {regions} {a} {m} {t} {c} {d} {r} w e s T low i own =
+    let C = w .rel .core in
+    let lr = region-in-hand (w .turn) r (omega (arith, when-same r 1)) in
+    let empty : isEmpty (m .descriptor d .state) ≡ 1 =
+    omega (
+      arith,
+      w .turn .inv .spares d,
+      total-one 8 (spareWeight d) (m .task) t (w .turn .fits),
+      ap (spareWeight d t) (w .turn .is),
+      when-same d 1,
+      empty-max (m .descriptor d .state),
+    ) in
+    after {a = a} {m = m} t s T refl refl
+    (record {
+      tags = C .tags;
+      rows = C .rows;
+      spareRow = C .spareRow;
+      descriptorNexts = C .descriptorNexts;
+      regionNexts = C .regionNexts;
+      descriptors = descriptors C;
+      avails = update-all (λ j x. j < 64 → x .avail ≤ 512) (a .anchor) d (full (perRegion c)) (λ l. perRegion-high c)
+          (λ j n. C .avails j);
+      chainCounts = update-all (λ j x. j < 64 → x .count ≤ 512) (a .anchor) d (full (perRegion c)) (λ l. omega arith)
+          (λ j n. C .chainCounts j);
+      descriptorRegions = update-all (λ j x. j < 64 → x < regions) (a .descriptorRegion) d r (λ l. lr)
+          (λ j n. C .descriptorRegions j);
+      descriptorClasses = update-all (λ j x. j < 64 → x < 16) (a .descriptorClass) d c (λ l. low) (λ j n. C .descriptorClasses j);
+      maps = update-all₂ (λ j x y. j < regions → x ≡ y) (a .map) (m .map) r e (suc d) (λ l. i) (λ j n. C .maps j);
+      marks = C .marks;
+      length = C .length;
+    })
+    own
+    (λ j l n. record {
+      wins = λ ℓ. omega arith;
+      still = λ ℓ e. refl;
+      descriptorNexts = λ x h. refl;
+      regionNexts = λ x h. refl;
+      links = λ y h. refl;
+      regions = λ x h. ap (λ (F : Descriptor). F .region) (update-other (m .descriptor) d (opened r c) x (λ f.
+          let z : holdsDescriptor x (m .task j .place) ≡ 0 =
+          subst (λ (y : ℕ). holdsDescriptor y (m .task j .place) ≡ 0) (sym f)
+          (descriptor-apart w d j l n (omega (arith, when-same d 1))) in
+          absurd (omega (
+            arith,
+            reads-open (record { inv = w .turn .inv; fits = l; is = refl }) x h z,
+            ap (λ (y : ℕ). isEmpty (m .descriptor y .state)) f,
+          ))));
+    })
+    (w .rel .slots)
+  where
+    descriptors : Core regions a m → (j : ℕ) → j < 64
+        → DescriptorRelated (link (a .area)) (update (a .anchor) d (full (perRegion c)) j) (update (a .descriptorRegion) d r j)
+        (update (a .descriptorClass) d c j) (update (m .descriptor) d (opened r c) j)
+    descriptors C j l = elim (same? j d) [
+      | same e ↦ rw (
+        e,
+        update-same (a .anchor) d (full (perRegion c)),
+        update-same (a .descriptorRegion) d r,
+        update-same (a .descriptorClass) d c,
+        update-same (m .descriptor) d (opened r c),
+      )
+          (record { state = refl; region = refl; class = refl; chain = record { linked = ends refl; counts = refl } })
+      | other n ↦ rw (
+        update-other (a .anchor) d (full (perRegion c)) j n,
+        update-other (a .descriptorRegion) d r j n,
+        update-other (a .descriptorClass) d c j n,
+        update-other (m .descriptor) d (opened r c) j n,
+      )
+          (C .descriptors j l)
+    ]
+
+module _ {regions : ℕ} {v : View} {area : List ℕ} {m : Mem} {t : ℕ} {k : ℕ → List ℕ} where
+  pub a7-both : At regions v area m t (a7 (v (TaskClass t)) (v (TaskDescriptor t)) (v (TaskRegion t))) k
+      → Both regions v area m (Allocate.a7 v (link area) regions t (v (TaskClass t)))
+      (Steps.stepAt t k (a7 (v (TaskClass t)) (v (TaskDescriptor t)) (v (TaskRegion t))) m)
+  unfolding Allocate.a7
+  a7-both w =
+      let c = v (TaskClass t) in
+      let d = v (TaskDescriptor t) in
+      let r = v (TaskRegion t) in
+      let ld = descriptor-in-hand (w .pair .turn) d (omega (arith, when-same d 1)) in
+      let lr = region-in-hand (w .pair .turn) r (omega (arith, when-same r 1)) in
+      let s = toPlace 27 (toChain r 0 (v (TaskLeft t)) (slotOf v t)) in
+      let S = slotOf (assigned (TaskPlace t := 27 ∷ TaskIndex t := 0 ∷ []) v) in
+      let word = anchorWord (full (perRegion c)) in
+      let writes = Layout.Anchor d := word ∷ DescriptorRegion d := r ∷ DescriptorClass d := c ∷ Map r := (d + 1) ∷ [] in
+      pass (ltb d 64 && ltb r regions) (both-true (lt-ltb d 64 ld) (lt-ltb r regions lr)) (record {
+        says = refl;
+        keeps = (refl, refl);
+        rel = shares w
+            (TaskPlace t := 27 ∷ TaskIndex t := 0 ∷ writes) s (a8 c r 0)
+            (setOwner d (full (perRegion c)) r c (d + 1) (memoryOf v area)) (setMap r (suc d) (setDescriptor d (opened r c) m))
+            (opening (w .pair) (d + 1) s (taskOf (a8 c r 0) k) (mine (w .pair) .fits) (add-one d))
+            (owner-written v S area d word r c (d + 1)
+            ∙ ap (λ (z : Anchor). withSlots S (setOwner d z r c (d + 1) (memoryOf v area))) (full-read c))
+            refl refl (rw (eq-eqb t t refl)) (λ j n. rw (ne-eqb t j n)) refl refl refl (r-a8 refl);
+        sound = omega (
+          arith,
+          w .pair .turn .fits,
+          w .pair .small,
+          mine (w .pair) .fits,
+          ld,
+          lr,
+          anchor-below (full (perRegion c)) (full-parts c),
+        );
+        apart = tt;
+      })

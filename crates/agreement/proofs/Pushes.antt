@@ -1,0 +1,270 @@
+-- The three steps of a push, in both pools, for every reason.
+-- Assumes nothing.
+use mathlib.Core.Path.{_≡_, refl, sym, subst, _∙_}
+use mathlib.Core.Bool.{_&&_}
+use mathlib.Core.List.{List, [], _∷_}
+use Prim.Native.Nat.{ℕ, suc, _+_, _≤_, _<_}
+use native.Mathlib.Omega.{arith}
+use native.Mathlib.Numerals.{add-one}
+use borrow.Author.Tests.{lt-ltb, le-leb}
+use lib.Dec.{ltb, leb}
+use Rattle.rows.specs.Linked.{Linked, links}
+use Rattle.rows.proofs.Weights.{when-same}
+use Rattle.fields.specs.Columns.{View, _:=_}
+use Rattle.words.specs.Head.{itemOf}
+use Rattle.words.specs.Anchor.{isState}
+use Rattle.plain.specs.State.{State, EMPTY, PARTIAL, FULL, numberOf, Phase, read, next, exchange}
+use Rattle.plain.specs.State.{Place, idle, popping, pushing, Mem, SPARES, REGIONS}
+use Rattle.plain.specs.State as Plain
+use Rattle.plain.specs.Moves.{pushed, lost}
+use Rattle.plain.specs.Steps as Steps
+use Rattle.control.specs.Layout.{Head, TaskPlace, TaskHead, TaskClass, TaskUnit, TaskDescriptor, TaskRegion, TaskState}
+use Rattle.control.specs.declared.answer.Answer.the-variants.{Accepted, NoRegion}
+use Rattle.control.specs.declared.moves.Push.{Push}
+use Rattle.control.specs.declared.moves.Push.the-variants.{Retire, Back, Release, Offer}
+use Rattle.stepped.specs.Lists as Lists
+use Rattle.stepped.specs.Steps as Stepped
+use Rattle.stepped.proofs.MovePlaces.{push-steps}
+use Rattle.agreement.specs.Events.{Recent}
+use Rattle.agreement.specs.Memory.{Slot, Memory, slotOf, memoryOf}
+use Rattle.agreement.specs.Relation.{PopRelated, PushRelated, PlaceRelated}
+use Rattle.agreement.specs.Relation.{r-idle, r-partial, r-retire, r-back, r-release, r-offer}
+use Rattle.agreement.proofs.Slots.{toPlace}
+use Rattle.agreement.proofs.Couple.{mine}
+use Rattle.stepped.proofs.Conjunction.{both-true}
+use Rattle.agreement.proofs.Both.{Both, pass}
+use Rattle.agreement.proofs.Turns.{At}
+use Rattle.agreement.proofs.Heads.{Kind, descriptors, spare-regions, list-of, Won}
+use Rattle.agreement.proofs.Heads.{kept, moves, notes, exchanges}
+use Rattle.agreement.proofs.Nexts.{Holds, next-set, held-below, writes-next}
+use Rattle.agreement.proofs.Putting.{advanced, leads-to, leads-five, leads-six}
+
+-- the plain pool's push, by the reason, the class, the block being freed, the descriptor, the state found, the region
+abbrev pub plainPush : Push → ℕ → ℕ → ℕ → State → ℕ → Plain.Push
+plainPush Retire c u d z r = Plain.retire c d
+plainPush Back c u d z r = Plain.back c d
+plainPush Release c u d z r = Plain.release c u d z r
+plainPush Offer c u d z r = Plain.offer c u d
+
+-- the item in hand
+abbrev pub inHand : Push → Slot → ℕ
+inHand Retire s = s .descriptor
+inHand Back s = s .descriptor
+inHand Release s = s .region
+inHand Offer s = s .descriptor
+
+-- the column of the nexts of the list's items
+abbrev pub pushNexts : Push → Memory → ℕ → ℕ
+pushNexts Retire a = a .descriptorNext
+pushNexts Back a = a .descriptorNext
+pushNexts Release a = a .regionNext
+pushNexts Offer a = a .descriptorNext
+
+-- a release has noted the state that it found, for the step after it
+abbrev pub Found : Push → ℕ → State → Type 0
+Found Retire was z = Unit {0}
+Found Back was z = Unit {0}
+Found Release was z = was ≡ numberOf z
+Found Offer was z = Unit {0}
+
+-- the place of a push
+pub push-place : {regions : ℕ} {a : Memory} {m : Mem} {s : Slot} {φ : Phase} (P : Push) (z : State)
+    → Found P (s .state) z
+    → PushRelated m s (Lists.pushPlace P) (Lists.pushList P (s .class)) (Lists.pushItems P regions) (inHand P s)
+    (pushNexts P a) φ
+    → PlaceRelated regions a m s (pushing (plainPush P (s .class) (s .unit) (s .descriptor) z (s .region)) φ)
+push-place Retire z f h = r-retire h
+push-place Back z f h = r-back h
+push-place Release z f h = r-release f h
+push-place Offer z f h = r-offer h
+
+-- a state is one of three
+state-max : (was : ℕ) (z : State) → was ≡ numberOf z → was ≤ 2
+state-max was EMPTY h = omega arith
+state-max was PARTIAL h = omega arith
+state-max was FULL h = omega arith
+
+-- the last place of a push is below 256
+place-max : (P : Push) → Lists.pushPlace P + 2 < 256
+place-max Retire = omega arith
+place-max Back = omega arith
+place-max Release = omega arith
+place-max Offer = omega arith
+
+push-kind : (P : Push) (regions c : ℕ) → c < 16
+    → Kind regions (Lists.pushList P c) (Lists.pushItems P regions) (Lists.pushNextField P) (pushNexts P)
+push-kind Retire regions c h = descriptors {ℓ = SPARES} (omega arith)
+push-kind Back regions c h = descriptors {ℓ = SPARES} (omega arith)
+push-kind Release regions c h = spare-regions
+push-kind Offer regions c h = descriptors {ℓ = c} (omega arith)
+
+-- ---- the push that the task t has under way, where z is the state found; its list; and its item
+
+abbrev pub pushOf : View → ℕ → State → Push → Plain.Push
+pushOf v t z P = plainPush P (v (TaskClass t)) (v (TaskUnit t)) (v (TaskDescriptor t)) z (v (TaskRegion t))
+
+abbrev pub listOf : View → ℕ → Push → ℕ
+listOf v t P = Lists.pushList P (v (TaskClass t))
+
+abbrev pub itemAt : View → ℕ → Push → ℕ
+itemAt v t P = v (Lists.itemField P t)
+
+-- both pools name the same list
+push-list : (v : View) (t : ℕ) (z : State) (P : Push) → Steps.pushList (pushOf v t z P) ≡ listOf v t P
+push-list v t z Retire = refl
+push-list v t z Back = refl
+push-list v t z Release = refl
+push-list v t z Offer = refl
+
+-- the item is in the task's part, at whatever place
+item-is : (v : View) (t b : ℕ) (P : Push) → inHand P (toPlace b (slotOf v t)) ≡ itemAt v t P
+item-is v t b Retire = refl
+item-is v t b Back = refl
+item-is v t b Release = refl
+item-is v t b Offer = refl
+
+-- so is its next in the column
+next-is : (v : View) (area : List ℕ) (t : ℕ) (P : Push)
+    → pushNexts P (memoryOf v area) (inHand P (slotOf v t)) ≡ v (Lists.pushNextField P (itemAt v t P))
+next-is v area t Retire = refl
+next-is v area t Back = refl
+next-is v area t Release = refl
+next-is v area t Offer = refl
+
+-- the item is held
+item-held : (v : View) (regions t : ℕ) (h : v (TaskClass t) < 16) (z : State) (P : Push) (φ : Phase)
+    → Holds (push-kind P regions (v (TaskClass t)) h) (itemAt v t P) (pushing (pushOf v t z P) φ)
+unfolding push-kind
+item-held v regions t h z Retire φ = omega (arith, when-same (v (TaskDescriptor t)) 1)
+item-held v regions t h z Back φ = omega (arith, when-same (v (TaskDescriptor t)) 1)
+item-held v regions t h z Release φ = omega (arith, when-same (v (TaskRegion t)) 1)
+item-held v regions t h z Offer φ = omega (arith, when-same (v (TaskDescriptor t)) 1)
+
+module _ {regions : ℕ} {v : View} {area : List ℕ} {m : Mem} {t : ℕ} {k : ℕ → List ℕ} where
+  kind : {p : Place} (P : Push) → At regions v area m t p k
+      → Kind regions (listOf v t P) (Lists.pushItems P regions) (Lists.pushNextField P) (pushNexts P)
+  kind P w = push-kind P regions (v (TaskClass t)) (mine (w .pair) .fits)
+
+  -- ---- the head read
+
+  pub push-read : (P : Push) (z : State) → At regions v area m t (pushing (pushOf v t z P) read) k
+      → Found P (v (TaskState t)) z
+      → Both regions v area m (Lists.pushRead v regions t (v (TaskClass t)) P)
+      (Steps.pushStep t k (pushOf v t z P) read m)
+  unfolding Lists.pushRead
+  push-read P z w f =
+      let ℓ = listOf v t P in
+      let L = list-of w (kind P w) in
+      let item = itemOf (v (Head ℓ)) in
+      let items = Lists.pushItems P regions in
+      let p′ = pushing (pushOf v t z P) (next (m .won ℓ)) in
+      rw (push-list v t z P)
+      (pass (leb item items) (le-leb item items (L .head))
+      (notes w ℓ (Lists.pushPlace P + 1) p′ (L .below) (omega (arith, place-max P))
+      (push-place P z f (PushRelated.at-next refl (kept w p′ (L .noted)) (L .head)))))
+
+  -- ---- the next written
+
+  pub push-next : (P : Push) (z : State) {n : ℕ} → At regions v area m t (pushing (pushOf v t z P) (next n)) k
+      → Found P (v (TaskState t)) z
+      → PushRelated m (slotOf v t) (Lists.pushPlace P) (listOf v t P) (Lists.pushItems P regions)
+      (inHand P (slotOf v t)) (pushNexts P (memoryOf v area)) (next n)
+      → Both regions v area m (Lists.pushNext v regions t (v (TaskClass t)) P)
+      (Steps.pushStep t k (pushOf v t z P) (next n) m)
+  unfolding Lists.pushNext kind
+  push-next P z {n} w f (PushRelated.at-next e N l) =
+      let K = kind P w in
+      let x = itemAt v t P in
+      let items = Lists.pushItems P regions in
+      let below = itemOf (v (TaskHead t)) in
+      let b = Lists.pushPlace P + 2 in
+      let p′ = pushing (pushOf v t z P) (exchange n) in
+      let h = item-held v regions t (mine (w .pair) .fits) z P (next n) in
+      pass (ltb x items && leb below items) (both-true (lt-ltb x items (held-below w K x h)) (le-leb below items l))
+      (writes-next w K x below b p′ h l (place-max P)
+      (push-place P z f (PushRelated.at-exchange refl (kept w p′ N) l
+      (rw (item-is v t b P) (next-set K t (toPlace b (slotOf v t)) x below (memoryOf v area))))))
+
+  -- ---- the exchange
+
+  push-won : (P : Push) (z : State) {n : ℕ} → At regions v area m t (pushing (pushOf v t z P) (exchange n)) k
+      → Found P (v (TaskState t)) z
+      → Won v m t (listOf v t P) (Lists.pushNextField P) (itemAt v t P + 1) (itemAt v t P ∷ m .row (listOf v t P))
+      → Both regions v area m (Lists.whenPushed v regions t (v (TaskClass t)) P (pushed (listOf v t P) (itemAt v t P))
+      (Head (listOf v t P) := advanced v t (itemAt v t P) ∷ []))
+      (Steps.pushPut t k (pushOf v t z P) m)
+  push-won Retire z w f W =
+      let d = v (TaskDescriptor t) in
+      leads-to w (kind Retire w) d W Accepted (pushed SPARES d) 2 (popping (Plain.partial (v (TaskClass t))) read)
+      (omega arith) (r-partial (PopRelated.at-read refl))
+  push-won Back z w f W =
+      let d = v (TaskDescriptor t) in
+      leads-to w (kind Back w) d W NoRegion (pushed SPARES d) 0 idle (omega arith) (r-idle refl)
+  push-won Release z w f W =
+      let r = v (TaskRegion t) in
+      let was = v (TaskState t) in
+      pass (isState was) (le-leb was 2 (state-max was z f)) (leads-five w (kind Release w) r W (pushed REGIONS r) z f)
+  push-won Offer z w f W =
+      let d = v (TaskDescriptor t) in
+      leads-six w (kind Offer w) d W (pushed (v (TaskClass t)) d)
+
+  pub push-exchange : (P : Push) (z : State) {n : ℕ} → At regions v area m t (pushing (pushOf v t z P) (exchange n)) k
+      → Found P (v (TaskState t)) z
+      → PushRelated m (slotOf v t) (Lists.pushPlace P) (listOf v t P) (Lists.pushItems P regions)
+      (inHand P (slotOf v t)) (pushNexts P (memoryOf v area)) (exchange n)
+      → m .won (listOf v t P) < n + 4294967296
+      → Both regions v area m (Lists.pushExchange v regions t (v (TaskClass t)) P)
+      (Steps.pushStep t k (pushOf v t z P) (exchange n) m)
+  unfolding Lists.pushExchange kind
+  push-exchange P z {n} w f (PushRelated.at-exchange e N l g) near =
+      let ℓ = listOf v t P in
+      let K = kind P w in
+      let L = list-of w K in
+      let x = itemAt v t P in
+      let items = Lists.pushItems P regions in
+      let item = itemOf (v (TaskHead t)) in
+      let head = itemOf (v (Head ℓ)) in
+      let i = held-below w K x (item-held v regions t (mine (w .pair) .fits) z P (exchange n)) in
+      rw (push-list v t z P)
+      (pass (ltb x items && leb item items && leb head items)
+      (both-true (both-true (lt-ltb x items i) (le-leb item items l)) (le-leb head items (L .head)))
+      (exchanges w L N near
+      (λ y u.
+      let same = L .noted .same refl ∙ sym (N .same (sym y)) ∙ sym g ∙ next-is v area t P in
+      rw (push-list v t z P) at (push-won P z w f (record {
+        tag = u;
+        most = omega (arith, L .most);
+        linked = links (add-one x)
+            (subst (λ (h : ℕ). Linked (λ (y : ℕ). v (Lists.pushNextField P y)) suc 0 h (m .row ℓ)) same (L .linked));
+      })))
+      (moves w Accepted (lost ℓ) (Lists.pushPlace P) (pushing (pushOf v t z P) read) (omega (arith, place-max P))
+      (push-place P z f (PushRelated.at-read refl)))))
+
+-- ---- the step list
+
+-- a step of a push, wherever it is
+pub push-both : {regions : ℕ} {v : View} {area : List ℕ} {m : Mem} {t : ℕ} {k : ℕ → List ℕ} {φ : Phase} (link : ℕ → ℕ)
+    (P : Push) (z : State) → At regions v area m t (pushing (pushOf v t z P) φ) k → Found P (v (TaskState t)) z
+    → PushRelated m (slotOf v t) (Lists.pushPlace P) (listOf v t P) (Lists.pushItems P regions) (inHand P (slotOf v t))
+    (pushNexts P (memoryOf v area)) φ
+    → Recent (m .won (listOf v t P)) φ
+    → Both regions v area m (Stepped.stepAt v link regions t (v (TaskClass t)) (v (TaskPlace t)))
+    (Steps.pushStep t k (pushOf v t z P) φ m)
+push-both {regions} {v} {t = t} link P z w f (PushRelated.at-read e) near =
+    rw (e, push-steps v link regions t (v (TaskClass t)) P .0) (push-read P z w f)
+push-both {regions} {v} {t = t} link P z w f (PushRelated.at-next e N l) near =
+    rw (e, push-steps v link regions t (v (TaskClass t)) P .1) (push-next P z w f (PushRelated.at-next e N l))
+push-both {regions} {v} {t = t} link P z w f (PushRelated.at-exchange e N l g) near =
+    rw (e, push-steps v link regions t (v (TaskClass t)) P .2)
+    (push-exchange P z w f (PushRelated.at-exchange e N l g) near)
+
+-- a step at a place of a push, from what the relation says of the place; only a release has a state found
+pub pushes : {regions : ℕ} {v : View} {area : List ℕ} {m : Mem} {t : ℕ} {k : ℕ → List ℕ} {p : Plain.Push} {φ : Phase}
+    (link : ℕ → ℕ) → At regions v area m t (pushing p φ) k
+    → PlaceRelated regions (memoryOf v area) m (slotOf v t) (pushing p φ) → Recent (m .won (Steps.pushList p)) φ
+    → Both regions v area m (Stepped.stepAt v link regions t (v (TaskClass t)) (v (TaskPlace t)))
+    (Steps.stepAt t k (pushing p φ) m)
+pushes link w (r-retire h) near = push-both link Retire EMPTY w tt h near
+pushes link w (r-back h) near = push-both link Back EMPTY w tt h near
+pushes link w (r-release {w = z} f h) near = push-both link Release z w f h near
+pushes link w (r-offer h) near = push-both link Offer EMPTY w tt h near

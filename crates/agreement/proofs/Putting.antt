@@ -1,0 +1,94 @@
+-- Where a won push of the item x leads, after which the list's row is q: to a place alone, or to step 5 or 6 of free.
+-- Assumes nothing.
+use mathlib.Core.Path.{_≡_, refl}
+use mathlib.Core.List.{List, [], _∷_}
+use Prim.Native.Nat.{ℕ, _+_, _<_}
+use native.Mathlib.Omega.{arith}
+use borrow.Author.Tests.{eq-eqb, ne-eqb}
+use Rattle.fields.specs.Columns.{Field, View, _:=_, assigned, Sound}
+use Rattle.words.specs.Head.{headOf, advancedWord}
+use Rattle.words.proofs.Heads.{advancedWord-below}
+use Rattle.plain.specs.State.{State, numberOf, read, offer, Place, pushing, f1, f2, Mem, setRow}
+use Rattle.plain.specs.Moves.{Decided, going}
+use Rattle.plain.specs.Steps as Steps
+use Rattle.control.specs.Layout.{layout, Head, GroupCount, TaskPlace, TaskHead, TaskClass}
+use Rattle.control.specs.Layout.{TaskUnit, TaskDescriptor, TaskState}
+use Rattle.control.specs.Answers.{codeOf, valueOf}
+use Rattle.control.specs.declared.answer.Answer.{Answer}
+use Rattle.stepped.specs.Outcome.{close}
+use Rattle.stepped.specs.Lists as Lists
+use Rattle.agreement.specs.Memory.{Memory, slotOf, memoryOf}
+use Rattle.agreement.specs.Relation.{PushRelated, PlaceRelated, Related, r-offer, r-f1, r-f2}
+use Rattle.agreement.proofs.Slots.{toPlace, toGrouped}
+use Rattle.agreement.proofs.Sets.{setSlot, setHead}
+use Rattle.agreement.proofs.Bridge.{head-written}
+use Rattle.agreement.proofs.Both.{Both}
+use Rattle.agreement.proofs.Turns.{At}
+use Rattle.agreement.proofs.Following.{six, five}
+use Rattle.agreement.proofs.Heads.{Kind, list-of, Won, wins}
+
+-- the head word that it writes
+abbrev pub advanced : View → ℕ → ℕ → ℕ
+advanced v t x = advancedWord (v (TaskHead t)) (x + 1)
+
+module _ {regions : ℕ} {v : View} {area : List ℕ} {m : Mem} {t : ℕ} {p : Place} {k : ℕ → List ℕ}
+    (w : At regions v area m t p k) {ℓ items : ℕ} {nx : ℕ → Field} {column : Memory → ℕ → ℕ} {q : List ℕ}
+    (K : Kind regions ℓ items nx column) (x : ℕ) (W : Won v m t ℓ nx (x + 1) q) where
+  exchange-sound : Sound layout (Head ℓ := advanced v t x ∷ [])
+  exchange-sound =
+      omega (arith, list-of w K .below, advancedWord-below (v (TaskHead t)) (x + 1) (omega (arith, W .most)))
+
+  -- to a place, and nothing else
+  leads : (b : ℕ) (p′ : Place)
+      → PlaceRelated regions (setSlot t (toPlace b (slotOf v t))
+      (setHead ℓ (headOf (advanced v t x)) (memoryOf v area))) (Steps.at t k p′ (setRow ℓ q m))
+      (toPlace b (slotOf v t)) p′
+      → Related regions (memoryOf (assigned (TaskPlace t := b ∷ Head ℓ := advanced v t x ∷ []) v) area)
+      (Steps.at t k p′ (setRow ℓ q m))
+  leads b p′ pl =
+      let ws = TaskPlace t := b ∷ Head ℓ := advanced v t x ∷ [] in
+      wins w K W ws (toPlace b (slotOf v t)) p′ (head-written v (slotOf (assigned ws v)) area ℓ (advanced v t x))
+      (rw (eq-eqb t t refl)) (λ j n. rw (ne-eqb t j n)) refl refl refl pl
+
+  pub leads-to : (A : Answer) (e : Decided) (b : ℕ) (p′ : Place) → b < 256
+      → PlaceRelated regions (setSlot t (toPlace b (slotOf v t))
+      (setHead ℓ (headOf (advanced v t x)) (memoryOf v area))) (Steps.at t k p′ (setRow ℓ q m))
+      (toPlace b (slotOf v t)) p′
+      → Both regions v area m (close A e (TaskPlace t := b ∷ Head ℓ := advanced v t x ∷ []) [])
+      (Steps.at t k p′ (setRow ℓ q m), record { code = codeOf A; value = valueOf A; decided = e })
+  leads-to A e b p′ l pl =
+      let fits = w .pair .turn .fits in
+      record { says = refl; keeps = (refl, refl); rel = leads b p′ pl; sound = (omega arith, exchange-sound); apart = tt }
+
+  -- to step 2 of a free, with a group of none
+  leads-f2 : Related regions
+      (memoryOf (assigned (TaskPlace t := 29 ∷ GroupCount t := 0 ∷ Head ℓ := advanced v t x ∷ []) v) area)
+      (Steps.at t k (f2 (v (TaskClass t)) (v (TaskUnit t)) []) (setRow ℓ q m))
+  leads-f2 =
+      let ws = TaskPlace t := 29 ∷ GroupCount t := 0 ∷ Head ℓ := advanced v t x ∷ [] in
+      wins w K W ws (toPlace 29 (toGrouped 0 (slotOf v t))) (f2 (v (TaskClass t)) (v (TaskUnit t)) [])
+      (head-written v (slotOf (assigned ws v)) area ℓ (advanced v t x))
+      (rw (eq-eqb t t refl)) (λ j n. rw (ne-eqb t j n)) refl refl refl (r-f2 refl refl)
+
+  -- to step 6 of a free
+  pub leads-six : (e : Decided)
+      → Both regions v area m (Lists.f6 v regions t (v (TaskClass t)) e (Head ℓ := advanced v t x ∷ []))
+      (Steps.at t k (Steps.f6 (k (v (TaskClass t))) (v (TaskClass t)) (v (TaskUnit t))) (setRow ℓ q m), going e)
+  leads-six e =
+      six w e (Head ℓ := advanced v t x ∷ []) (setRow ℓ q m) (v (TaskUnit t)) exchange-sound (refl, refl)
+      (leads 28 (f1 (v (TaskClass t)) (v (TaskUnit t))) (r-f1 refl)) leads-f2
+
+  -- to step 5
+  pub leads-five : (e : Decided) (z : State) → v (TaskState t) ≡ numberOf z
+      → Both regions v area m
+      (Lists.f5 v regions t (v (TaskClass t)) (v (TaskState t)) e (Head ℓ := advanced v t x ∷ [])) (
+        Steps.at t k (Steps.f5 z (k (v (TaskClass t))) (v (TaskClass t)) (v (TaskUnit t)) (v (TaskDescriptor t)))
+            (setRow ℓ q m),
+        going e,
+      )
+  leads-five e z f =
+      let c = v (TaskClass t) in
+      let u = v (TaskUnit t) in
+      let d = v (TaskDescriptor t) in
+      five w e (Head ℓ := advanced v t x ∷ []) (setRow ℓ q m) u exchange-sound (refl, refl) (leads 28 (f1 c u) (r-f1 refl)) leads-f2
+      (v (TaskState t)) z d f (leads 20 (pushing (offer c u d) read) (r-offer (PushRelated.at-read refl)))

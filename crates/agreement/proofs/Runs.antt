@@ -1,0 +1,145 @@
+-- What a list of events answers in each run; and how a list is seen to meet the premises by running the plain pool.
+-- Assumes nothing.
+use mathlib.Core.Path.{_≡_, refl, ap, _∙_}
+use mathlib.Core.List.{List, [], _∷_}
+use Prim.Native.Nat.{ℕ, suc, _+_, _*_, _/_, _≤_, _<_}
+use native.Mathlib.Omega.{arith}
+use native.Mathlib.Decide.{decLt, decLe}
+use lib.ListN.{length}
+use Rattle.rows.specs.Branch.{both}
+use Rattle.classes.specs.Classes.{block}
+use Rattle.classes.specs.Places.{unitOf, regionOf, indexOf}
+use Rattle.plain.specs.State.{Phase, read, next, exchange, Place, idle, a1, popping, pushing, a3-read, a3-exchange, a4, a7, a8, f1, f2, f3-read, f3-link, f3-exchange, f4-clear, Mem}
+use Rattle.plain.specs.Moves.{Answer}
+use Rattle.plain.specs.Steps.{popList, pushList}
+use Rattle.plain.specs.Calls.{Pool, unstarted}
+use Rattle.plain.specs.Calls as Plain
+use Rattle.plain.specs.Codes.{AtMost}
+use Rattle.plain.proofs.Answers.{most}
+use Rattle.stepped.specs.Outcome.{Memories}
+use Rattle.agreement.specs.Events.{Event, start, allocate, free, go, write, stepped, whole, Recent, Near, classThere, Premises}
+use Rattle.agreement.specs.Agreement.{Agree, Unstarted}
+use Rattle.agreement.proofs.Theorem.{agreement}
+
+-- ---- the answers
+
+-- what each event of the list answers in the stepped run, and in the whole run
+abbrev pub steppedAnswers : List Event → Memories → List Answer
+steppedAnswers [] s = []
+steppedAnswers (e ∷ es) s = stepped e s .1 ∷ steppedAnswers es (stepped e s .0)
+
+abbrev pub wholeAnswers : List Event → Pool → List Answer
+wholeAnswers [] s = []
+wholeAnswers (e ∷ es) s = whole e s .1 ∷ wholeAnswers es (whole e s .0)
+
+-- runs that agree answer alike
+same-answers : (es : List Event) (s₁ : Memories) (s : Pool) → Agree es s₁ s → steppedAnswers es s₁ ≡ wholeAnswers es s
+same-answers [] s₁ s A = refl
+same-answers (e ∷ es) s₁ s A =
+    ap (λ (a : Answer). a ∷ steppedAnswers es (stepped e s₁ .0)) (A .0 .0 .says)
+    ∙ ap (λ (q : List Answer). whole e s .1 ∷ q) (same-answers es (stepped e s₁ .0) (whole e s .0) (A .1))
+
+-- so from a pool that is not started, under the premises, the stepped run answers what the whole run does
+pub answered : (es : List Event) (s₁ : Memories) → Unstarted s₁ → Premises es unstarted
+    → steppedAnswers es s₁ ≡ wholeAnswers es unstarted
+answered es s₁ U p = same-answers es s₁ unstarted (agreement es s₁ U p)
+
+-- the plain pool after a list of events
+abbrev pub after : List Event → Pool → Pool
+after [] s = s
+after (e ∷ es) s = after es (whole e s .0)
+
+-- ---- the premise on heads
+
+-- a head that has changed fewer than 2^32 times in all has not changed 2^32 times since a task's read
+recent : (won : ℕ) (φ : Phase) → won < 4294967296 → Recent won φ
+recent won read h = tt
+recent won (next n) h = tt
+recent won (exchange n) h = omega arith
+
+near : (m : Mem) (p : Place) → ((ℓ : ℕ) → m .won ℓ < 4294967296) → Near m p
+near m idle h = tt
+near m (a1 c) h = tt
+near m (popping p φ) h = recent (m .won (popList p)) φ (h (popList p))
+near m (pushing p φ) h = recent (m .won (pushList p)) φ (h (pushList p))
+near m (a3-read c d) h = tt
+near m (a3-exchange c d n) h = tt
+near m (a4 c x q) h = tt
+near m (a7 c d r) h = tt
+near m (a8 c r i) h = tt
+near m (f1 c u) h = tt
+near m (f2 c u g) h = tt
+near m (f3-read c u y g) h = tt
+near m (f3-link c u y g d n) h = tt
+near m (f3-exchange c u y g d n) h = tt
+near m (f4-clear c u d w r) h = tt
+
+-- ---- the premise on users' writes
+
+-- the block that the byte lies in, by the class of its region
+abbrev pub blockAt : ℕ → Pool → ℕ
+blockAt at s = let c = classThere (at / 8) s in unitOf (regionOf (at / 8)) c (indexOf c (at / 8))
+
+-- it is in a user's hands, and the byte lies in it
+abbrev pub HeldAt : ℕ → Pool → Type 0
+HeldAt at s =
+    let u = blockAt at s in
+    (1 ≤ s .tasks) × ((1 ≤ s .mem .hands u) × ((8 * u ≤ at) × (at < 8 * u + block (classThere u s))))
+
+-- every write of the list is into a block in a user's hands
+abbrev pub Writes : List Event → Pool → Type 0
+Writes [] s = Unit {0}
+Writes (start control area tasks ∷ es) s = Writes es (whole (start control area tasks) s .0)
+Writes (allocate control area t size ∷ es) s = Writes es (whole (allocate control area t size) s .0)
+Writes (free control area t u ∷ es) s = Writes es (whole (free control area t u) s .0)
+Writes (go control area t ∷ es) s = Writes es (whole (go control area t) s .0)
+Writes (write at b ∷ es) s = HeldAt at s × Writes es s
+
+-- whether it is so is found by running the plain pool
+unfoldable pub writes? : (es : List Event) (s : Pool) → Dec (Writes es s)
+writes? [] s = yes tt
+writes? (start control area tasks ∷ es) s = writes? es (whole (start control area tasks) s .0)
+writes? (allocate control area t size ∷ es) s = writes? es (whole (allocate control area t size) s .0)
+writes? (free control area t u ∷ es) s = writes? es (whole (free control area t u) s .0)
+writes? (go control area t ∷ es) s = writes? es (whole (go control area t) s .0)
+writes? (write at b ∷ es) s =
+    let u = blockAt at s in
+    both
+    (both (decLe 1 (s .tasks)) (both (decLe 1 (s .mem .hands u)) (both (decLe (8 * u) at) (decLt at (8 * u + block (classThere u s))))))
+    (writes? es s)
+
+-- the answer of a test is yes
+abbrev pub Yes : {P : Type 0} → Dec P → Type 0
+Yes (yes p) = Unit {0}
+Yes (no n) = ⊥
+
+pub found : {P : Type 0} (d : Dec P) → Yes d → P
+found (yes p) h = p
+found (no n) h = absurd h
+
+-- ---- both premises
+
+-- A list of events that ends before the 2^32nd, counted from the last start, meets the premise on heads; so what is left to
+-- ask is that of the writes. No list of the pool s has won more than n exchanges.
+pub short : (n : ℕ) (es : List Event) (s : Pool) → AtMost n s → n + length es ≤ 4294967296 → Writes es s → Premises es s
+short n [] s a l w = tt
+short n (start control area tasks ∷ es) s a l w =
+    (tt, short (suc n) es _ (most n (Plain.start control (length area) tasks) s a) (omega arith) w)
+short n (allocate control area t size ∷ es) s a l w =
+    (tt, short (suc n) es _ (most n (Plain.allocate control area t size) s a) (omega arith) w)
+short n (free control area t u ∷ es) s a l w =
+    (tt, short (suc n) es _ (most n (Plain.free control area t u) s a) (omega arith) w)
+short n (go control area t ∷ es) s a l w = (
+  λ T. near (s .mem) (s .mem .task t .place) (λ ℓ. omega (arith, a (T .started) ℓ)),
+  short (suc n) es _ (most n (Plain.go control area t) s a) (omega arith) w,
+)
+short n (write at b ∷ es) s a l w = (
+  record {
+    started = w .0 .0;
+    unit = blockAt at s;
+    held = omega (arith, w .0 .1 .0);
+    from = w .0 .1 .1 .0;
+    to = omega (arith, w .0 .1 .1 .1);
+  },
+  short (suc n) es s (λ h ℓ. omega (arith, a h ℓ)) (omega arith) (w .1),
+)

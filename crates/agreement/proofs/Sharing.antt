@@ -1,0 +1,32 @@
+-- A task's turn that writes what is shared, too: from the writes to the relation after it.
+-- Assumes nothing.
+use mathlib.Core.Path.{_≡_, sym, subst}
+use mathlib.Core.Logic.{_≢_}
+use mathlib.Core.List.{List}
+use Prim.Native.Nat.{ℕ}
+use Rattle.fields.specs.Columns.{View, Write, assigned}
+use Rattle.plain.specs.State.{Place, Mem}
+use Rattle.plain.specs.Steps.{at}
+use Rattle.plain.proofs.Places.{taskOf}
+use Rattle.agreement.specs.Memory.{Slot, Memory, slotOf, memoryOf}
+use Rattle.agreement.specs.Relation.{PlaceRelated, SlotRelated, Related}
+use Rattle.agreement.proofs.Sets.{setSlot}
+use Rattle.agreement.proofs.Bridge.{withSlots, becomes}
+use Rattle.agreement.proofs.Blocks.{re-slot}
+use Rattle.agreement.proofs.Turns.{At}
+
+module _ {regions : ℕ} {v : View} {area : List ℕ} {m : Mem} {t : ℕ} {p : Place} {k : ℕ → List ℕ}
+    (w : At regions v area m t p k) where
+  -- The writes ws make s of the task's own part, but not of its caches, and b of what is shared, as the plain pool's m₁; the
+  -- task goes to the place p′. `change` is the lemma of the kind of change: heading, anchoring, clearing, ..
+  pub shares : (ws : List Write) (s : Slot) (p′ : Place) (b : Memory) (m₁ : Mem)
+      → (SlotRelated regions (setSlot t s b) (at t k p′ m₁) s (taskOf p′ k) → Related regions (setSlot t s b) (at t k p′ m₁))
+      → memoryOf (assigned ws v) area ≡ withSlots (slotOf (assigned ws v)) b → b .slot ≡ slotOf v → b .area ≡ area
+      → slotOf (assigned ws v) t ≡ s → ((j : ℕ) → t ≢ j → slotOf (assigned ws v) j ≡ slotOf v j)
+      → s .class ≡ slotOf v t .class → s .top ≡ slotOf v t .top → s .count ≡ slotOf v t .count
+      → PlaceRelated regions (setSlot t s b) (at t k p′ m₁) s p′
+      → Related regions (memoryOf (assigned ws v) area) (at t k p′ m₁)
+  shares ws s p′ b m₁ change e f i own others g h j pl =
+      subst (λ (z : Memory). Related regions z (at t k p′ m₁))
+      (sym (becomes v (assigned ws v) area t s b e f own others))
+      (change (re-slot (w .pair) (setSlot t s b) (at t k p′ m₁) s p′ i g h j pl))

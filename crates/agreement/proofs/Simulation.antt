@@ -1,0 +1,143 @@
+-- What holds between the bytes of the stepped run and the plain pool, and how one call keeps it.
+-- Assumes nothing.
+use mathlib.Core.Path.{_≡_, refl, sym, _∙_}
+use mathlib.Core.Bool.{cond}
+use mathlib.Core.List.{List}
+use Prim.Native.Nat.{ℕ, _*_, _≤_, _<_}
+use native.Mathlib.Omega.{arith}
+use native.Mathlib.Decide.{ℕ-discrete, decLt}
+use borrow.Author.Tests.{eq-eqb, ne-eqb, le-leb, lt-ltb, le-ltb}
+use lib.Dec.{eqb, ltb}
+use lib.ListN.{length}
+use Rattle.rows.specs.Branch.{if}
+use Rattle.rows.proofs.Branch.{if-yes, if-no}
+use Rattle.fields.specs.Little.{Bytes}
+use Rattle.fields.specs.Columns.{Field, View, Has, width, at, assigned}
+use Rattle.fields.proofs.Numbers.{getLE-lt}
+use Rattle.fields.proofs.Layouts.{length-written, bytes-written}
+use Rattle.links.specs.Link.{linked}
+use Rattle.plain.specs.Moves.{Answer}
+use Rattle.plain.specs.Steps.{Result}
+use Rattle.plain.specs.Calls.{Pool}
+use Rattle.plain.specs.Calls as Plain
+use Rattle.plain.specs.Invariant.{Good}
+use Rattle.control.specs.Layout.{layout, Tasks, Regions, seen, changed}
+use Rattle.control.proofs.Fields.{seen-changed}
+use Rattle.stepped.specs.Outcome.{Outcome, effect, refuse}
+use Rattle.stepped.specs.Calls as Stepped
+use Rattle.agreement.specs.Memory.{memoryOf}
+use Rattle.agreement.specs.Relation.{Related}
+use Rattle.stepped.specs.Outcome.{Memories}
+use Rattle.agreement.specs.Events.{ran, Taken}
+use Rattle.agreement.specs.Agreement.{Kept}
+use Rattle.agreement.proofs.Both.{Both, Fitting}
+use Rattle.agreement.proofs.Views.{views-related}
+use Rattle.agreement.proofs.Writing.{byte-kept}
+
+pub record Sim (s₁ : Memories) (s : Pool) : Type 0 where
+  pub length : lib.ListN.length (s₁ .control) ≡ 8192
+  pub bytes : Bytes (s₁ .control)
+  pub tasks : seen (s₁ .control) Tasks ≡ s .tasks
+  pub good : Good s
+  -- once it is started: its regions, and the relation
+  pub some : 1 ≤ s .tasks → 1 ≤ s .regions
+  pub regions : 1 ≤ s .tasks → seen (s₁ .control) Regions ≡ s .regions
+  pub related : 1 ≤ s .tasks → Related (s .regions) (memoryOf (seen (s₁ .control)) (s₁ .area)) (s .mem)
+
+-- the same answer, the relation after it, and what else is shown of the memories after it
+pub record Alike (Shown : Memories → Type 0) (x : Memories × Answer) (y : Pool × Answer) : Type 0 where
+  pub says : x .1 ≡ y .1
+  pub sim : Sim (x .0) (y .0)
+  pub shows : Shown (x .0)
+
+-- the fields of bytes hold numbers of their widths
+pub fitting : (b : List ℕ) → Bytes b → Fitting (seen b)
+fitting b h f k = getLE-lt b (at layout f) (width layout f) h
+
+module _ {s₁ : Memories} {s : Pool} (S : Sim s₁ s) where
+  abbrev v : View
+  v = seen (s₁ .control)
+
+  -- a refused call
+  pub stays : (Shown : Memories → Type 0) → Shown s₁ → (n : ℕ) → Alike Shown (ran (effect (refuse n) (s₁ .control) (s₁ .area))) (Plain.refuse n s)
+  stays Shown h n = record {
+    says = refl;
+    shows = h;
+    sim = record { length = S .length; bytes = S .bytes; tasks = S .tasks; good = S .good; some = S .some; regions = S .regions; related = S .related };
+  }
+
+  -- an outcome whose writes are done on the bytes
+  pub moves : (o : Outcome) (y : Result) → 1 ≤ s .tasks → Good (Plain.became s y .0)
+      → Both (s .regions) v (s₁ .area) (s .mem) o y → Alike (Kept s₁ s) (ran (effect o (s₁ .control) (s₁ .area))) (Plain.became s y)
+  moves o y h g B = record {
+    says = B .says;
+    shows = λ at k. byte-kept (S .good .inv h) (k .unit) at (k .held) (k .from) (k .to) (o .links) (s₁ .area) (B .apart);
+    sim = record {
+      length = length-written layout (o .writes) (s₁ .control) ∙ S .length;
+      bytes = bytes-written layout (o .writes) (s₁ .control) (S .bytes);
+      tasks = view Tasks (omega arith) ∙ B .keeps .0 ∙ S .tasks;
+      good = g;
+      some = S .some;
+      regions = λ k. view Regions (omega arith) ∙ B .keeps .1 ∙ S .regions k;
+      related = λ k. views-related view (linked (o .links) (s₁ .area)) (S .good .small k) (g .inv k) (B .rel);
+    };
+  }
+    where
+      view : (f : Field) → Has layout f → seen (changed (o .writes) (s₁ .control)) f ≡ assigned (o .writes) v f
+      view f k = seen-changed (o .writes) (s₁ .control) f (S .length) (B .sound) k
+
+  -- ---- tests 1, 4, 2, 5
+
+  module _ (control area t : ℕ) (x : Outcome) (y : Result) (g : Taken control area t s → Good (Plain.became s y .0))
+      (both : Taken control area t s → Both (s .regions) v (s₁ .area) (s .mem) x y) where
+    abbrev Run : Outcome → Memories × Answer
+    Run o = ran (effect o (s₁ .control) (s₁ .area))
+
+    test-five : control ≡ 8192 → 1 ≤ s .tasks → area ≡ 4096 * s .regions → (d : Dec (t < s .tasks))
+        → Alike (Kept s₁ s) (Run (cond (ltb t (v Tasks)) x (refuse 5))) (if d (Plain.became s y) (Plain.refuse 5 s))
+    test-five p q r (yes l) =
+        let T : Taken control area t s = record { control-is = p; started = q; area-is = r; below = l } in
+        rw (S .tasks, lt-ltb t (s .tasks) l) (moves x y q (g T) (both T))
+    test-five p q r (no l) = rw (S .tasks, le-ltb t (s .tasks) (omega arith)) (stays (Kept s₁ s) (λ at k. refl) 5)
+
+    test-two : control ≡ 8192 → 1 ≤ s .tasks → (d : Dec (area ≡ 4096 * s .regions))
+        → Alike (Kept s₁ s) (Run (cond (eqb area (4096 * v Regions)) (cond (ltb t (v Tasks)) x (refuse 5)) (refuse 2)))
+        (if d (if (decLt t (s .tasks)) (Plain.became s y) (Plain.refuse 5 s)) (Plain.refuse 2 s))
+    test-two p q (yes e) =
+        rw (S .regions q, eq-eqb area (4096 * s .regions) e) (test-five p q e (decLt t (s .tasks)))
+    test-two p q (no e) = rw (S .regions q, ne-eqb area (4096 * s .regions) e) (stays (Kept s₁ s) (λ at k. refl) 2)
+
+    -- the stored numbers are in their ranges
+    test-four : control ≡ 8192 → (d : Dec (s .tasks ≡ 0))
+        → Alike (Kept s₁ s) (Run (Stepped.tested 8192 area v t x))
+        (if d (Plain.refuse 4 s)
+        (if (ℕ-discrete area (4096 * s .regions)) (if (decLt t (s .tasks)) (Plain.became s y) (Plain.refuse 5 s)) (Plain.refuse 2 s)))
+    unfolding Stepped.tested
+    test-four p (yes e) =
+        rw (le-leb (v Tasks) 8 (omega (arith, S .tasks)), eq-eqb (v Tasks) 0 (S .tasks ∙ e)) (stays (Kept s₁ s) (λ at k. refl) 4)
+    test-four p (no e) =
+        let q : 1 ≤ s .tasks = omega arith in
+        rw (
+          le-leb (v Tasks) 8 (omega (arith, S .tasks, S .good .few)),
+          ne-eqb (v Tasks) 0 (λ i. e (sym (S .tasks) ∙ i)),
+          le-leb 1 (v Regions) (omega (arith, S .regions q, S .some q)),
+          le-leb (v Regions) 16 (omega (arith, S .regions q, S .good .small q)),
+        )
+        (test-two p q (ℕ-discrete area (4096 * s .regions)))
+
+    pub tested-alike : (d : Dec (control ≡ 8192))
+        → Alike (Kept s₁ s) (Run (Stepped.tested control area v t x))
+        (if d
+        (if (ℕ-discrete (s .tasks) 0) (Plain.refuse 4 s)
+        (if (ℕ-discrete area (4096 * s .regions)) (if (decLt t (s .tasks)) (Plain.became s y) (Plain.refuse 5 s)) (Plain.refuse 2 s)))
+        (Plain.refuse 1 s))
+    unfolding Stepped.tested
+    tested-alike (yes e) = rw e (test-four e (ℕ-discrete (s .tasks) 0))
+    tested-alike (no e) = rw (ne-eqb control 8192 e) (stays (Kept s₁ s) (λ at k. refl) 1)
+
+-- a call that passes the tests does what follows them
+pub taken-is : {control area t : ℕ} {s : Pool} (y : Result) → Taken control area t s → Plain.tested control area t s y ≡ Plain.became s y
+taken-is {control} {area} {t} {s} y T =
+    if-yes (ℕ-discrete control 8192) _ _ (T .control-is)
+    ∙ if-no (ℕ-discrete (s .tasks) 0) _ _ (λ e. absurd (omega (arith, T .started)))
+    ∙ if-yes (ℕ-discrete area (4096 * s .regions)) _ _ (T .area-is) ∙ if-yes (decLt t (s .tasks)) _ _ (T .below)

@@ -1,0 +1,138 @@
+-- Whatever bytes the control memory holds: each field holds after a step what the step's outcome writes to it, and no call of a
+-- task moves another.
+-- Assumes nothing.
+use Prim.Native.Nat.{ℕ, _-_, _/_, _%_, _<_}
+use mathlib.Core.Path.{_≡_, refl, sym, _∙_}
+use mathlib.Core.Logic.{_≢_}
+use mathlib.Core.Bool.{Bool, true, false, cond, _&&_}
+use mathlib.Core.List.{List, [], _∷_}
+use native.Mathlib.Omega.{arith}
+use borrow.Author.Tests.{ne-eqb, ltb-true, ltb-false}
+use lib.Dec.{eqb, leb, ltb}
+use lib.ListN.{length}
+use Rattle.fields.specs.Columns.{Field, View, Write, _:=_, assign, assigned, at, width, Has}
+use Rattle.fields.specs.Little.{Bytes}
+use Rattle.fields.proofs.Numbers.{getLE-lt}
+use Rattle.words.specs.Anchor.{EMPTY, anchorOf}
+use Rattle.words.specs.Mark.{isSet}
+use Rattle.words.proofs.Marks.{clear-below}
+use Rattle.classes.specs.Places.{regionOf, isFirst}
+use Rattle.classes.proofs.Sizes.{is-class}
+use Rattle.control.specs.Layout.{layout, seen, changed, Anchor, Marks, Map, Regions, DescriptorRegion, DescriptorClass, TaskPlace}
+use Rattle.control.proofs.Fields.{seen-changed}
+use Rattle.stepped.specs.Outcome.{Outcome}
+use Rattle.stepped.specs.Ranges.{isAnchor}
+use Rattle.stepped.specs.Steps as Steps
+use Rattle.stepped.specs.Calls as Calls
+use Rattle.stepped.specs.Calls.{Tested}
+use Rattle.agreement.specs.Ends.{placeAfter}
+use Rattle.agreement.proofs.Both.{Fitting}
+use Rattle.agreement.proofs.Ways.{branch, tests}
+use Rattle.agreement.proofs.SoundMoves.{OwnPlace, OwnPlaces, Fit, none, test}
+use Rattle.agreement.proofs.SoundSteps.{step-fit}
+
+-- ---- the beginnings
+
+module _ {control area : ℕ} {v : View} (fits : Fitting v) {t : ℕ} (T : Tested control area v t) where
+  task : t < 8
+  task = omega (arith, T .below, T .tasks)
+
+  idle-fit : (x : Outcome) → Fit t x → Fit t (Calls.whenIdle v t x)
+  unfolding Calls.whenIdle
+  idle-fit x f = test (ltb (v (TaskPlace t)) 34) (λ e. branch (Fit t) (eqb (v (TaskPlace t)) 0) (λ h. f) (λ h. none))
+
+  allocate-fit : (size : ℕ) → Fit t (Calls.whenIdle v t (Calls.beginAllocate t size))
+  unfolding Calls.beginAllocate
+  allocate-fit size =
+      idle-fit (Calls.beginAllocate t size)
+      (branch (Fit t) (eqb size 0) (λ e. none) (λ e. branch (Fit t) (ltb 256 size) (λ h. none)
+      (λ h. record { sound = omega (arith, task, is-class size (ltb-false 256 size h)); own = omega arith })))
+
+  marked-fit : (u c : ℕ) → u < 8192 → c < 16 → Fit t (Calls.freeMarked v t u c)
+  unfolding Calls.freeMarked
+  marked-fit u c l k =
+      let marks = v (Marks (u / 64)) in
+      branch (Fit t) (isSet marks (u % 64))
+      (λ e. record {
+        sound = omega (arith, task, l, k, clear-below marks (u % 64) 64 (fits (Marks (u / 64)) (omega (arith, l))) (omega arith));
+        own = omega arith;
+      })
+      (λ e. none)
+
+  free-fit : (u : ℕ) → Fit t (Calls.whenIdle v t (Calls.beginFree v (v Regions) t u))
+  unfolding Calls.beginFree Calls.freeEntry Calls.freeBy Calls.freeOpen
+  free-fit u =
+      let P = Fit t in
+      let entry = v (Map (regionOf u)) in
+      let d = entry - 1 in
+      let a = v (Anchor d) in
+      let r = v (DescriptorRegion d) in
+      let c = v (DescriptorClass d) in
+      idle-fit (Calls.beginFree v (v Regions) t u)
+      (branch P (ltb (regionOf u) (v Regions)) (λ e.
+      branch P (eqb entry 0) (λ f. none) (λ f. test (leb entry 64) (λ f.
+      test (ltb r (v Regions)) (λ g. branch P (eqb r (regionOf u)) (λ h.
+      test (isAnchor a) (λ i. branch P (eqb (anchorOf a .state) EMPTY) (λ j. none) (λ j.
+      test (ltb c 16) (λ k. branch P (isFirst c u)
+      (λ l. marked-fit u c (omega (arith, ltb-true (regionOf u) (v Regions) e, T .regions)) (ltb-true c 16 k))
+      (λ l. none))))) (λ h. none))))) (λ e. none))
+
+-- ---- the bytes
+
+-- what stands in bytes fits
+seen-fitting : (control : List ℕ) → Bytes control → Fitting (seen control)
+seen-fitting control b g h = getLE-lt control (at layout g) (width layout g) b
+
+-- A step on bytes, with any bytes: the task's place is afterwards the one that its outcome leads to.
+module _ (area : ℕ) (link : ℕ → ℕ) (t : ℕ) (b : List ℕ) (bytes : Bytes b) where
+  abbrev o : Outcome
+  o = Calls.stepOutcome (length b) area (seen b) link t
+
+  -- each field of the layout holds what the outcome writes to it, or what it held; and any field, where a test of the call fails
+  pub step-seen : (g : Field) → (Tested (length b) area (seen b) t → Has layout g) → seen (changed (o .writes) b) g ≡ assigned (o .writes) (seen b) g
+  unfolding Calls.stepOutcome
+  step-seen g has =
+      let P : Outcome → Type 0 = λ x. seen (changed (x .writes) b) g ≡ assigned (x .writes) (seen b) g in
+      tests P (length b) area (seen b) t _ (λ n h. refl)
+      (λ T. seen-changed (Steps.step (seen b) link (seen b Regions) t .writes) b g (T .control-is) (step-fit (seen-fitting b bytes) link T .sound) (has T))
+
+  pub step-place : seen (changed (o .writes) b) (TaskPlace t) ≡ placeAfter o (seen b) t
+  step-place = step-seen (TaskPlace t) (λ T. omega (arith, T .below, T .tasks))
+
+-- ---- the other tasks
+
+module _ {t u : ℕ} (other : u ≢ t) where
+  -- a write to no place but that of t leaves the place of u
+  write-keeps : (f : Field) (x : ℕ) → OwnPlace t (f := x) → (v : View) → assign (f := x) v (TaskPlace u) ≡ v (TaskPlace u)
+  write-keeps f x own v = by (eqb (f .column) (TaskPlace u .column)) own
+    where
+      by : (b : Bool) → cond b (f .index ≡ t) (Unit {0}) → cond (b && eqb (f .index) u) x (v (TaskPlace u)) ≡ v (TaskPlace u)
+      by true e = rw (ne-eqb (f .index) u (λ h. other (sym h ∙ e))) refl
+      by false e = refl
+
+  writes-keep : (ws : List Write) → OwnPlaces t ws → (v : View) → assigned ws v (TaskPlace u) ≡ v (TaskPlace u)
+  writes-keep [] own v = refl
+  writes-keep ((f := x) ∷ ws) own v = writes-keep ws (own .1) (assign (f := x) v) ∙ write-keeps f x (own .0) v
+
+  module _ (area : ℕ) (b : List ℕ) (bytes : Bytes b) (task-is : u < 8) where
+    -- the outcome x leaves the place of u
+    abbrev Stays : Outcome → Type 0
+    Stays x = seen (changed (x .writes) b) (TaskPlace u) ≡ seen b (TaskPlace u)
+
+    stays : (x : Outcome) → length b ≡ 8192 → Fit t x → Stays x
+    stays x l f = seen-changed (x .writes) b (TaskPlace u) l (f .sound) (omega (arith, task-is)) ∙ writes-keep (x .writes) (f .own) (seen b)
+
+    tested-stays : (x : Outcome) → (Tested (length b) area (seen b) t → Fit t x) → Stays (Calls.tested (length b) area (seen b) t x)
+    tested-stays x f = tests Stays (length b) area (seen b) t x (λ n h. refl) (λ T. stays x (T .control-is) (f T))
+
+    pub step-others : (link : ℕ → ℕ) → Stays (Calls.stepOutcome (length b) area (seen b) link t)
+    unfolding Calls.stepOutcome
+    step-others link = tested-stays _ (λ T. step-fit (seen-fitting b bytes) link T)
+
+    pub allocate-others : (size : ℕ) → Stays (Calls.allocateOutcome (length b) area (seen b) t size)
+    unfolding Calls.allocateOutcome
+    allocate-others size = tested-stays _ (λ T. allocate-fit (seen-fitting b bytes) T size)
+
+    pub free-others : (unit : ℕ) → Stays (Calls.freeOutcome (length b) area (seen b) t unit)
+    unfolding Calls.freeOutcome
+    free-others unit = tested-stays _ (λ T. free-fit (seen-fitting b bytes) T unit)

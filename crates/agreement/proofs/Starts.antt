@@ -1,0 +1,167 @@
+-- The relation after a start, on any bytes.
+-- Assumes nothing.
+use mathlib.Core.Path.{_≡_, refl, sym, ap, _∙_}
+use mathlib.Core.Bool.{Bool, true, false, cond}
+use mathlib.Core.List.{List, [], _∷_, _++_}
+use Prim.Native.Nat.{ℕ, zero, suc, _+_, _*_, _/_, _%_, _^_, _≤_, _<_}
+use native.Mathlib.Nat.{zero-div}
+use native.Mathlib.Omega.{arith}
+use native.Mathlib.Decide.{decLt, ℕ-discrete}
+use borrow.Author.Tests.{eq-eqb, ne-eqb}
+use lib.Dec.{eqb}
+use lib.ListN.{length}
+use Rattle.rows.specs.Branch.{if}
+use Rattle.rows.specs.Linked.{Linked, ends, links}
+use Rattle.rows.proofs.Branch.{if-yes}
+use Rattle.fields.specs.Columns.{Field, View, _:=_, assigned}
+use Rattle.words.specs.Head.{itemOf, tagOf}
+use Rattle.words.specs.Mark.{bitAt}
+use Rattle.plain.specs.State.{SPARES, REGIONS}
+use Rattle.plain.specs.Steps.{top}
+use Rattle.plain.specs.Calls.{rising, startMem}
+use Rattle.control.specs.Layout.{Head, Tasks, Regions, DescriptorNext, RegionNext, Top}
+use Rattle.stepped.specs.Start.{fill, nextUp, startWrites}
+use Rattle.agreement.specs.Memory.{memoryOf}
+use Rattle.agreement.specs.Relation.{Related, r-idle}
+use Rattle.agreement.proofs.Images.{assigned-append, filled, other-fill}
+
+-- the view of a memory of zeros
+abbrev pub zeroed : View
+zeroed g = 0
+
+abbrev at : ℕ → ℕ → Field
+at c i = record { column = c; index = i }
+
+module _ (tasks regions : ℕ) where
+  -- the fields after a start, in the order of the writes
+  abbrev first : View
+  first = assigned (Tasks := tasks ∷ Regions := regions ∷ Head SPARES := 1 ∷ Head REGIONS := 1 ∷ []) zeroed
+
+  abbrev second : View
+  second = assigned (fill DescriptorNext (nextUp 64) 64) first
+
+  abbrev third : View
+  third = assigned (fill RegionNext (nextUp regions) regions) second
+
+  abbrev pub startView : View
+  startView = assigned (fill Top (λ i. 8192) 128) third
+
+  -- these are all its writes
+  pub start-view : (g : Field) → assigned (startWrites tasks regions) zeroed g ≡ startView g
+  unfolding startWrites
+  start-view g =
+      assigned-append (fill DescriptorNext (nextUp 64) 64) (fill RegionNext (nextUp regions) regions ++ fill Top (λ i. 8192) 128) first g
+      ∙ assigned-append (fill RegionNext (nextUp regions) regions) (fill Top (λ i. 8192) 128) second g
+
+  -- a column that is not filled
+  unfilled : (e j : ℕ) → eqb 5 e ≡ false → eqb 20 e ≡ false → eqb 19 e ≡ false → startView (at e j) ≡ first (at e j)
+  unfilled e j p q r =
+      other-fill 5 (λ i. 8192) 128 third e j p ∙ other-fill 20 (nextUp regions) regions second e j q
+      ∙ other-fill 19 (nextUp 64) 64 first e j r
+
+  -- ---- the columns
+
+  pub at-tasks : startView Tasks ≡ tasks
+  at-tasks = unfilled 24 0 refl refl refl
+
+  pub at-regions : startView Regions ≡ regions
+  at-regions = unfilled 25 0 refl refl refl
+
+  at-head : (ℓ : ℕ) → startView (Head ℓ) ≡ cond (eqb 17 ℓ) 1 (cond (eqb 16 ℓ) 1 0)
+  at-head ℓ = unfilled 0 ℓ refl refl refl
+
+  at-next : (d : ℕ) → d < 64 → startView (DescriptorNext d) ≡ nextUp 64 d
+  at-next d l =
+      other-fill 5 (λ i. 8192) 128 third 19 d refl ∙ other-fill 20 (nextUp regions) regions second 19 d refl
+      ∙ filled 19 (nextUp 64) 64 first d l
+
+  at-region-next : (r : ℕ) → r < regions → startView (RegionNext r) ≡ nextUp regions r
+  at-region-next r l = other-fill 5 (λ i. 8192) 128 third 20 r refl ∙ filled 20 (nextUp regions) regions second r l
+
+  at-top : (i : ℕ) → i < 128 → startView (Top i) ≡ 8192
+  at-top i l = filled 5 (λ i. 8192) 128 third i l
+
+-- ---- the lists
+
+-- the items i to n - 1, rising
+rises : (nx : ℕ → ℕ) (n k i : ℕ) → ((j : ℕ) → j < n → nx j ≡ nextUp n j) → i + k ≡ n → (f : ℕ) → f ≡ top (rising k i)
+    → Linked nx suc 0 f (rising k i)
+unfolding rising
+rises nx n zero i h e f g = ends g
+rises nx n (suc zero) i h e f g = links g (ends (h i (omega arith) ∙ rw (eq-eqb (i + 1) n (omega arith))))
+rises nx n (suc (suc k)) i h e f g =
+    links g (rises nx n (suc k) (suc i) h (omega arith) (nx i) (h i (omega arith) ∙ rw (ne-eqb (i + 1) n (omega arith)) (omega arith)))
+
+pub next-max : (n x : ℕ) → x < n → nextUp n x ≤ n
+next-max n x h = elim (ℕ-discrete (x + 1) n) [
+  | yes e ↦ rw (eq-eqb (x + 1) n e) (omega arith)
+  | no e ↦ rw (ne-eqb (x + 1) n e) (omega arith)
+]
+
+top-rising : (n : ℕ) → 1 ≤ n → 1 ≡ top (rising n 0)
+unfolding rising
+top-rising zero h = absurd (omega arith)
+top-rising (suc n) h = refl
+
+module _ (tasks regions : ℕ) (few : 1 ≤ regions) where
+  abbrev v : View
+  v = startView tasks regions
+
+  row : (ℓ : ℕ) → ℓ < 17 → (d : Dec (ℓ ≡ 16)) (e : Dec (ℓ ≡ 17))
+      → Linked (λ (x : ℕ). v (DescriptorNext x)) suc 0 (itemOf (v (Head ℓ))) (if d (rising 64 0) (if e (rising regions 0) []))
+  row ℓ l (yes d) e =
+      let one : v (Head ℓ) ≡ 1 = at-head tasks regions ℓ ∙ rw (ne-eqb 17 ℓ (omega arith), eq-eqb 16 ℓ (sym d)) in
+      rises (λ (x : ℕ). v (DescriptorNext x)) 64 64 0 (at-next tasks regions) refl (itemOf (v (Head ℓ)))
+      (ap itemOf one ∙ top-rising 64 (omega arith))
+  row ℓ l (no d) (yes e) = absurd (omega arith)
+  row ℓ l (no d) (no e) =
+      let none : v (Head ℓ) ≡ 0 = at-head tasks regions ℓ ∙ rw (ne-eqb 17 ℓ (omega arith), ne-eqb 16 ℓ (λ i. d (sym i))) in
+      ends (ap itemOf none)
+
+  spare : (d : Dec (_≡_ {A = ℕ} 17 16)) (e : Dec (_≡_ {A = ℕ} 17 17))
+      → Linked (λ (x : ℕ). v (RegionNext x)) suc 0 (itemOf (v (Head REGIONS))) (if d (rising 64 0) (if e (rising regions 0) []))
+  spare (yes d) e = absurd (omega arith)
+  spare (no d) (no e) = absurd (e refl)
+  spare (no d) (yes e) =
+      rises (λ (x : ℕ). v (RegionNext x)) regions regions 0 (at-region-next tasks regions) (omega arith) (itemOf (v (Head REGIONS)))
+      (ap itemOf (at-head tasks regions 17) ∙ top-rising regions few)
+
+  tags : (ℓ : ℕ) (b c : Bool) → tagOf (cond b 1 (cond c 1 0)) ≡ 0
+  tags ℓ true c = refl
+  tags ℓ false true = refl
+  tags ℓ false false = refl
+
+  -- the relation between the control memory that a start leaves, with any area of the length, and the plain pool after a start
+  pub start-related : (area : List ℕ) → length area ≡ 4096 * regions → regions ≤ 16 → Related regions (memoryOf v area) (startMem regions)
+  unfolding startMem
+  start-related area e h = record {
+    core = record {
+      tags = λ ℓ l. ap tagOf (at-head tasks regions ℓ) ∙ tags ℓ (eqb 17 ℓ) (eqb 16 ℓ);
+      rows = λ ℓ l. row ℓ l (ℕ-discrete ℓ 16) (ℕ-discrete ℓ 17);
+      spareRow = spare (ℕ-discrete 17 16) (ℕ-discrete 17 17);
+      descriptorNexts = λ d l. rw (at-next tasks regions d l) (next-max 64 d l);
+      regionNexts = λ r l. rw (at-region-next tasks regions r l) (next-max regions r l);
+      descriptors = λ d l. record {
+        state = ap (λ (x : ℕ). x % 4) (unfilled tasks regions 1 d refl refl refl);
+        region = unfilled tasks regions 21 d refl refl refl;
+        class = unfilled tasks regions 22 d refl refl refl;
+        chain = tt;
+      };
+      avails = λ d l. rw (unfilled tasks regions 1 d refl refl refl) (omega arith);
+      chainCounts = λ d l. rw (unfilled tasks regions 1 d refl refl refl) (omega arith);
+      descriptorRegions = λ d l. rw (unfilled tasks regions 21 d refl refl refl) few;
+      descriptorClasses = λ d l. rw (unfilled tasks regions 22 d refl refl refl) (omega arith);
+      maps = λ r l. unfilled tasks regions 23 r refl refl refl;
+      marks = λ u l. ap (λ (x : ℕ). bitAt x (u % 64)) (unfilled tasks regions 2 (u / 64) refl refl refl) ∙ no-bit (u % 64);
+      length = e;
+    };
+    slots = λ t l. record {
+      fits = rw (unfilled tasks regions 14 t refl refl refl) (omega arith);
+      place = r-idle (unfilled tasks regions 13 t refl refl refl);
+      tops = λ c i. ends (if-yes (decLt c 16) _ _ i ∙ at-top tasks regions (16 * t + c) (omega arith));
+      counts = λ c i. if-yes (decLt c 16) _ _ i ∙ unfilled tasks regions 6 (16 * t + c) refl refl refl;
+    };
+  }
+    where
+      no-bit : (i : ℕ) → bitAt 0 i ≡ 0
+      no-bit i = rw (zero-div (2 ^ i))

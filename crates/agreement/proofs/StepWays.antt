@@ -1,0 +1,209 @@
+-- How each step of the step list ends: the steps that are no list moves, and one pass over the list.
+-- Assumes nothing.
+use Prim.Native.Nat.{ℕ, zero, suc, _+_, _-_, _<_}
+use mathlib.Core.Path.{_≡_, refl}
+use mathlib.Core.Bool.{_&&_}
+use mathlib.Core.List.{List, [], _∷_}
+use native.Mathlib.Omega.{arith}
+use lib.Dec.{eqb, leb, ltb}
+use lib.ListN.{getD}
+use Rattle.fields.specs.Columns.{View, _:=_}
+use Rattle.words.specs.Anchor.{EMPTY, anchorOf, anchorWord, returned}
+use Rattle.classes.specs.Classes.{perRegion}
+use Rattle.classes.specs.Places.{regionOf, unitOf}
+use Rattle.plain.specs.Moves.{gave}
+use Rattle.control.specs.Layout.{Anchor, TaskAnchor, CacheTop, CacheCount, TaskUnit, TaskIndex, TaskLeft, GroupFirst, GroupLast, GroupCount}
+use Rattle.control.specs.Layout.{TaskPlace, TaskClass, TaskDescriptor, TaskRegion, TaskState, DescriptorRegion, Map, Regions}
+use Rattle.control.specs.declared.moves.Pop.the-variants.{Partial, Spare, Region}
+use Rattle.control.specs.declared.moves.Push.the-variants.{Retire, Back, Release, Offer}
+use Rattle.stepped.specs.Outcome.{Outcome, bad}
+use Rattle.stepped.specs.Ranges.{oneTo, isBlock, isTop, isAnchor, hasChain, hasFirst, hasRoom}
+use Rattle.stepped.specs.Lists.{popPlace, pushPlace}
+use Rattle.stepped.specs.Allocate as Allocate
+use Rattle.stepped.specs.Free as Free
+use Rattle.stepped.specs.Steps as Steps
+use Rattle.agreement.proofs.Ways.{Ending, no-step, wrong, either, test, to, stay, finish}
+use Rattle.agreement.proofs.MoveWays.{pop-read, pop-next, pop-exchange, push-read, push-next, push-exchange, f5}
+
+module _ (v : View) (link : ℕ → ℕ) (t : ℕ) (fits : v (TaskClass t) < 16) where
+  abbrev c : ℕ
+  c = v (TaskClass t)
+
+  abbrev regions : ℕ
+  regions = v Regions
+
+  abbrev End : Outcome → Type 0
+  End = Ending v t
+
+  -- ---- allocate
+
+  a1 : End (Allocate.a1 v link regions t c)
+  unfolding Allocate.a1 Allocate.a1Take
+  a1 =
+      let k = v (CacheCount t c) in
+      let u = v (CacheTop t c) in
+      either (eqb k 0) (to (popPlace Partial) (omega arith) (λ u. refl))
+      (test (leb k (perRegion c)) (test (isBlock regions c u && isTop regions c (k - 1) (link u)) (finish tt (λ u. refl))))
+
+  a3-read : End (Allocate.a3Read v link regions t c)
+  unfolding Allocate.a3Read Allocate.a3ReadOf
+  a3-read =
+      let d = v (TaskDescriptor t) in
+      let word = v (Anchor d) in
+      test (ltb d 64) (test (isAnchor word)
+      (either (eqb (anchorOf word .state) EMPTY) (to (pushPlace Retire) (omega arith) (λ u. refl))
+      (test (hasChain (perRegion c) word) (to 24 (omega arith) (λ u. refl)))))
+
+  a3-exchange : End (Allocate.a3Exchange v link regions t c)
+  unfolding Allocate.a3Exchange Allocate.a3ExchangeOf
+  a3-exchange =
+      let d = v (TaskDescriptor t) in
+      let word = v (TaskAnchor t) in
+      test (ltb d 64 && hasChain (perRegion c) word) (test (isAnchor (v (Anchor d)))
+      (either (eqb (v (Anchor d)) word)
+      (test (ltb (v (DescriptorRegion d)) regions) (to 25 (omega arith) (λ u. refl)))
+      (to 23 (omega arith) (λ u. refl))))
+
+  a4 : End (Allocate.a4 v link regions t c)
+  unfolding Allocate.a4 Allocate.a4Move
+  a4 =
+      let r = v (TaskRegion t) in
+      let i = v (TaskIndex t) in
+      let left = v (TaskLeft t) in
+      let k = v (CacheCount t c) in
+      let n = perRegion c in
+      test (ltb r regions && ltb i n && oneTo n left && ltb k n && isTop regions c k (v (CacheTop t c)))
+      (either (eqb left 1) (to 1 (omega arith) (λ u. refl)) (test (ltb (link (unitOf r c i)) n) (stay (λ u. refl))))
+
+  a7 : End (Allocate.a7 v link regions t c)
+  unfolding Allocate.a7
+  a7 = test (ltb (v (TaskDescriptor t)) 64 && ltb (v (TaskRegion t)) regions) (to 27 (omega arith) (λ u. refl))
+
+  a8 : End (Allocate.a8 v link regions t c)
+  unfolding Allocate.a8 Allocate.a8Put
+  a8 =
+      let i = v (TaskIndex t) in
+      let k = v (CacheCount t c) in
+      let n = perRegion c in
+      test (ltb (v (TaskRegion t)) regions && ltb i n && ltb k n && isTop regions c k (v (CacheTop t c)))
+      (either (eqb (i + 1) n) (to 1 (omega arith) (λ u. refl)) (stay (λ u. refl)))
+
+  -- ---- free
+
+  f1 : End (Free.f1 v link regions t c)
+  unfolding Free.f1 Free.f1Put
+  f1 =
+      let k = v (CacheCount t c) in
+      let n = perRegion c in
+      test (leb k n)
+      (either (ltb k n)
+      (test (isBlock regions c (v (TaskUnit t)) && isTop regions c k (v (CacheTop t c))) (finish tt (λ u. refl)))
+      (to 29 (omega arith) (λ u. refl)))
+
+  f2 : End (Free.f2 v link regions t c)
+  unfolding Free.f2 Free.f2Top Free.f2First Free.f2More
+  f2 =
+      let k = v (CacheCount t c) in
+      let g = v (GroupCount t) in
+      let u = v (CacheTop t c) in
+      let r = v (TaskRegion t) in
+      let n = perRegion c in
+      let below = isTop regions c (k - 1) (link u) in
+      let close = to 30 (omega arith) (λ u. refl) in
+      test (leb k n && leb g n) (either (eqb k 0) close
+      (test (isBlock regions c u) (either (eqb g 0) (test below (stay (λ u. refl)))
+      (test (ltb r regions) (either (eqb (regionOf u) r)
+      (test (ltb g n && ltb (v (GroupLast t)) n && below) (stay (λ u. refl)))
+      close)))))
+
+  f3-read : End (Free.f3Read v link regions t c)
+  unfolding Free.f3Read Free.f3ReadBy Free.f3ReadOf
+  f3-read =
+      let r = v (TaskRegion t) in
+      let g = v (GroupCount t) in
+      let word = v (Anchor (v (Map r) - 1)) in
+      test (ltb r regions && oneTo (perRegion c) g) (test (oneTo 64 (v (Map r)))
+      (test (isAnchor word && hasRoom (perRegion c) g word) (to 31 (omega arith) (λ u. refl))))
+
+  f3-link : End (Free.f3Link v link regions t c)
+  unfolding Free.f3Link
+  f3-link =
+      let n = perRegion c in
+      let word = v (TaskAnchor t) in
+      test (ltb (v (TaskRegion t)) regions && ltb (v (GroupLast t)) n && isAnchor word && hasFirst n word)
+      (to 32 (omega arith) (λ u. refl))
+
+  f3-exchange : End (Free.f3Exchange v link regions t c)
+  unfolding Free.f3Exchange Free.f3ExchangeOf Free.f3Won
+  f3-exchange =
+      let d = v (TaskDescriptor t) in
+      let word = v (TaskAnchor t) in
+      let first = v (GroupFirst t) in
+      let g = v (GroupCount t) in
+      let n = perRegion c in
+      let a = anchorOf word in
+      let ws = Anchor d := anchorWord (returned a first g n) ∷ TaskState t := a .state ∷ [] in
+      test (ltb d 64 && ltb first n && oneTo n g && isAnchor word && hasRoom n g word) (test (isAnchor (v (Anchor d)))
+      (either (eqb (v (Anchor d)) word)
+      (either (eqb (a .count + g) n) (to 33 (omega arith) (λ u. refl)) (f5 v t fits (a .state) (gave d) ws (λ u. refl)))
+      (to 30 (omega arith) (λ u. refl))))
+
+  f4-clear : End (Free.f4Clear v link regions t c)
+  unfolding Free.f4Clear
+  f4-clear = test (ltb (v (TaskRegion t)) regions) (to (pushPlace Release) (omega arith) (λ u. refl))
+
+  -- ---- the step list
+
+  -- a list of steps from the place k on
+  data Each : ℕ → List Outcome → Type 0 where
+    end : {k : ℕ} → Each k []
+    _then_ : {k : ℕ} {o : Outcome} {os : List Outcome} → (v (TaskPlace t) ≡ k → End o) → Each (suc k) os → Each k (o ∷ os)
+
+  infixr 5 _then_
+  all : Each 0 (Steps.steps v link regions t c)
+  all =
+      (λ e. no-step)
+      then (λ e. a1)
+      then pop-read v t fits Partial
+      then (λ e. pop-next v t fits Partial)
+      then (λ e. pop-exchange v t fits Partial)
+      then pop-read v t fits Spare
+      then (λ e. pop-next v t fits Spare)
+      then (λ e. pop-exchange v t fits Spare)
+      then pop-read v t fits Region
+      then (λ e. pop-next v t fits Region)
+      then (λ e. pop-exchange v t fits Region)
+      then push-read v t fits Retire
+      then push-next v t fits Retire
+      then push-exchange v t fits Retire
+      then push-read v t fits Back
+      then push-next v t fits Back
+      then push-exchange v t fits Back
+      then push-read v t fits Release
+      then push-next v t fits Release
+      then push-exchange v t fits Release
+      then push-read v t fits Offer
+      then push-next v t fits Offer
+      then push-exchange v t fits Offer
+      then (λ e. a3-read)
+      then (λ e. a3-exchange)
+      then (λ e. a4)
+      then (λ e. a7)
+      then (λ e. a8)
+      then (λ e. f1)
+      then (λ e. f2)
+      then (λ e. f3-read)
+      then (λ e. f3-link)
+      then (λ e. f3-exchange)
+      then (λ e. f4-clear)
+      then end
+
+  -- the step at a place ends so, and a place past the list is outside its range
+  at-place : {k : ℕ} {os : List Outcome} → Each k os → (n : ℕ) → v (TaskPlace t) ≡ k + n → End (getD os n bad)
+  at-place end n e = wrong
+  at-place (_then_ h hs) zero e = h (omega arith)
+  at-place (_then_ h hs) (suc n) e = at-place hs n (omega arith)
+
+  pub step-at : Ending v t (Steps.stepAt v link regions t c (v (TaskPlace t)))
+  unfolding Steps.stepAt
+  step-at = at-place all (v (TaskPlace t)) (omega arith)

@@ -1,0 +1,148 @@
+-- What a task noted of a list is in its range, by its place.
+-- Assumes nothing.
+use Prim.Native.Nat.{ℕ, _+_, _≤_, _<_}
+use mathlib.Core.Path.{_≡_, sym, subst, _∙_}
+use mathlib.Core.Bool.{cond}
+use mathlib.Core.List.{List}
+use native.Mathlib.Omega.{arith}
+use borrow.Author.Tests.{lt-ltb, le-ltb}
+use lib.Dec.{ltb}
+use Rattle.fields.specs.Columns.{View}
+use Rattle.words.specs.Head.{itemOf}
+use Rattle.plain.specs.State.{Phase, Place, Mem}
+use Rattle.control.specs.Layout.{TaskHead, TaskPlace, TaskNext}
+use Rattle.control.specs.declared.moves.Pop.{Pop}
+use Rattle.control.specs.declared.moves.Pop.the-variants.{Partial, Spare, Region}
+use Rattle.control.specs.declared.moves.Push.{Push}
+use Rattle.control.specs.declared.moves.Push.the-variants.{Retire, Back, Release, Offer}
+use Rattle.stepped.specs.Lists.{popPlace, popItems, pushPlace, pushItems}
+use Rattle.agreement.specs.Memory.{Slot, slotOf, memoryOf}
+use Rattle.agreement.specs.Relation.{PopRelated, PushRelated, PlaceRelated}
+use Rattle.agreement.specs.Relation.{r-idle, r-a1, r-partial, r-spare, r-region, r-retire, r-back, r-release, r-offer, r-a3-read, r-a3-exchange}
+use Rattle.agreement.specs.Relation.{r-a4, r-a7, r-a8, r-f1, r-f2, r-f2-more, r-f3-read, r-f3-link, r-f3-exchange, r-f4-clear}
+use Rattle.agreement.specs.InRange.{OneTo, TaskLists}
+use Rattle.agreement.proofs.TaskHands.{pop-span, push-span}
+
+-- ---- a place belongs to one move
+
+-- q is one of the three places from b on
+record Span (b q : ℕ) : Type 0 where
+  from : b ≤ q
+  to : q ≤ b + 2
+
+-- the pops come first, then the pushes
+pop-first : (p : Pop) → (2 ≤ popPlace p) × (popPlace p + 2 < 11)
+pop-first Partial = omega arith
+pop-first Spare = omega arith
+pop-first Region = omega arith
+
+push-later : (p : Push) → (11 ≤ pushPlace p) × (pushPlace p + 2 < 23)
+push-later Retire = omega arith
+push-later Back = omega arith
+push-later Release = omega arith
+push-later Offer = omega arith
+
+-- the pop and the push that have the place q
+abbrev popAt : ℕ → Pop
+popAt q = cond (ltb q 5) Partial (cond (ltb q 8) Spare Region)
+
+abbrev pushAt : ℕ → Push
+pushAt q = cond (ltb q 14) Retire (cond (ltb q 17) Back (cond (ltb q 20) Release Offer))
+
+pop-at : (p : Pop) (q : ℕ) → Span (popPlace p) q → popAt q ≡ p
+pop-at Partial q h = rw (lt-ltb q 5 (omega arith))
+pop-at Spare q h = rw (le-ltb q 5 (omega arith), lt-ltb q 8 (omega arith))
+pop-at Region q h = rw (le-ltb q 5 (omega arith), le-ltb q 8 (omega arith))
+
+push-at : (p : Push) (q : ℕ) → Span (pushPlace p) q → pushAt q ≡ p
+push-at Retire q h = rw (lt-ltb q 14 (omega arith))
+push-at Back q h = rw (le-ltb q 14 (omega arith), lt-ltb q 17 (omega arith))
+push-at Release q h = rw (le-ltb q 14 (omega arith), le-ltb q 17 (omega arith), lt-ltb q 20 (omega arith))
+push-at Offer q h = rw (le-ltb q 14 (omega arith), le-ltb q 17 (omega arith), le-ltb q 20 (omega arith))
+
+-- ---- what one move noted
+
+module _ {m : Mem} {s : Slot} {b ℓ items : ℕ} where
+  popped-head : {φ : Phase} → PopRelated m s b ℓ items φ → b + 1 ≤ s .place → OneTo items (s .head .item)
+  popped-head (PopRelated.at-read e) h = absurd (omega arith)
+  popped-head (PopRelated.at-next e N i j) h = (i, j)
+  popped-head (PopRelated.at-exchange e N i j x f) h = (i, j)
+
+  popped-next : {φ : Phase} → PopRelated m s b ℓ items φ → b + 2 ≤ s .place → s .next ≤ items
+  popped-next (PopRelated.at-read e) h = absurd (omega arith)
+  popped-next (PopRelated.at-next e N i j) h = absurd (omega arith)
+  popped-next (PopRelated.at-exchange e N i j x f) h = x
+
+  pushed-head : {x : ℕ} {nx : ℕ → ℕ} {φ : Phase} → PushRelated m s b ℓ items x nx φ → b + 1 ≤ s .place → s .head .item ≤ items
+  pushed-head (PushRelated.at-read e) h = absurd (omega arith)
+  pushed-head (PushRelated.at-next e N i) h = i
+  pushed-head (PushRelated.at-exchange e N i j) h = i
+
+-- ---- every place
+
+module _ (regions : ℕ) (v : View) (area : List ℕ) (m : Mem) (t : ℕ) where
+  abbrev q : ℕ
+  q = v (TaskPlace t)
+
+  abbrev Lists : Type 0
+  Lists = TaskLists regions v t
+
+  -- no move is under way
+  none : (2 ≤ q → q < 23 → ⊥) → Lists
+  none h = record {
+    pop-head = λ p i j. absurd (h (omega (arith, pop-first p)) (omega (arith, pop-first p)));
+    pop-next = λ p i j. absurd (h (omega (arith, pop-first p)) (omega (arith, pop-first p)));
+    push-head = λ p i j. absurd (h (omega (arith, push-later p)) (omega (arith, push-later p)));
+  }
+
+  -- the pop P is under way
+  of-pop : {ℓ : ℕ} {φ : Phase} (P : Pop) → PopRelated m (slotOf v t) (popPlace P) ℓ (popItems P regions) φ → Lists
+  of-pop P h =
+      let i = pop-span h in
+      let own : Span (popPlace P) q = omega arith in
+      record {
+        pop-head = λ p a b.
+            subst (λ (z : Pop). popPlace z + 1 ≤ q → OneTo (popItems z regions) (itemOf (v (TaskHead t))))
+            (sym (pop-at P q own) ∙ pop-at p q (omega arith)) (popped-head h) a;
+        pop-next = λ p a b.
+            subst (λ (z : Pop). popPlace z + 2 ≤ q → v (TaskNext t) ≤ popItems z regions)
+            (sym (pop-at P q own) ∙ pop-at p q (omega arith)) (popped-next h) a;
+        push-head = λ p a b. absurd (omega (arith, pop-first P, push-later p));
+      }
+
+  -- the push P is under way
+  of-push : {ℓ x : ℕ} {nx : ℕ → ℕ} {φ : Phase} (P : Push)
+      → PushRelated m (slotOf v t) (pushPlace P) ℓ (pushItems P regions) x nx φ → Lists
+  of-push P h =
+      let i = push-span h in
+      let own : Span (pushPlace P) q = omega arith in
+      record {
+        pop-head = λ p a b. absurd (omega (arith, pop-first p, push-later P));
+        pop-next = λ p a b. absurd (omega (arith, pop-first p, push-later P));
+        push-head = λ p a b.
+            subst (λ (z : Push). pushPlace z + 1 ≤ q → itemOf (v (TaskHead t)) ≤ pushItems z regions)
+            (sym (push-at P q own) ∙ push-at p q (omega arith)) (pushed-head h) a;
+      }
+
+  pub noted-at : {p : Place} → PlaceRelated regions (memoryOf v area) m (slotOf v t) p → Lists
+  noted-at (r-idle e) = none (omega arith)
+  noted-at (r-a1 e) = none (omega arith)
+  noted-at (r-partial h) = of-pop Partial h
+  noted-at (r-spare h) = of-pop Spare h
+  noted-at (r-region h) = of-pop Region h
+  noted-at (r-retire h) = of-push Retire h
+  noted-at (r-back h) = of-push Back h
+  noted-at (r-release e h) = of-push Release h
+  noted-at (r-offer h) = of-push Offer h
+  noted-at (r-a3-read e) = none (omega arith)
+  noted-at (r-a3-exchange e N i j l o) = none (omega arith)
+  noted-at (r-a4 e l n h) = none (omega arith)
+  noted-at (r-a7 e) = none (omega arith)
+  noted-at (r-a8 e) = none (omega arith)
+  noted-at (r-f1 e) = none (omega arith)
+  noted-at (r-f2 e z) = none (omega arith)
+  noted-at (r-f2-more e G) = none (omega arith)
+  noted-at (r-f3-read e G) = none (omega arith)
+  noted-at (r-f3-link e G N l) = none (omega arith)
+  noted-at (r-f3-exchange e G N l i) = none (omega arith)
+  noted-at (r-f4-clear e i) = none (omega arith)

@@ -1,0 +1,49 @@
+-- A task's turn, from the writes of an outcome to the relation after it.
+-- Assumes nothing.
+use mathlib.Core.Path.{_≡_, refl, sym, subst, _∙_}
+use mathlib.Core.Logic.{_≢_}
+use mathlib.Core.List.{List}
+use Prim.Native.Nat.{ℕ}
+use native.Mathlib.Decide.{decLt}
+use lib.ListN.{length}
+use Rattle.rows.proofs.Branch.{if-yes}
+use Rattle.fields.specs.Columns.{View, Write, assigned}
+use Rattle.plain.specs.State.{Place, Mem}
+use Rattle.plain.specs.Steps.{at}
+use Rattle.plain.proofs.Places.{taskOf}
+use Rattle.control.specs.Layout.{CacheTop, CacheCount, TaskClass}
+use Rattle.agreement.specs.Memory.{Slot, Memory, slotOf, memoryOf}
+use Rattle.agreement.specs.Relation.{PlaceRelated, Related}
+use Rattle.agreement.proofs.Sets.{setSlot}
+use Rattle.agreement.proofs.Bridge.{withSlots, becomes}
+use Rattle.agreement.proofs.Couple.{Pair, mine, quiet}
+use Rattle.agreement.proofs.Blocks.{re-slot}
+use Rattle.agreement.proofs.Both.{Fitting}
+
+-- the turn of the task t, which is at the place p with the caches k, where the view is v
+pub record At (regions : ℕ) (v : View) (area : List ℕ) (m : Mem) (t : ℕ) (p : Place) (k : ℕ → List ℕ) : Type 0 where
+  pub pair : Pair regions (memoryOf v area) m t p k
+  pub fitting : Fitting v
+
+module _ {regions : ℕ} {v : View} {area : List ℕ} {m : Mem} {t : ℕ} {p : Place} {k : ℕ → List ℕ}
+    (w : At regions v area m t p k) where
+  -- the writes ws change the task's own part alone, to s, and not its caches: it goes to the place p′
+  pub goes : (ws : List Write) (s : Slot) (p′ : Place)
+      → memoryOf (assigned ws v) area ≡ withSlots (slotOf (assigned ws v)) (memoryOf v area)
+      → slotOf (assigned ws v) t ≡ s → ((j : ℕ) → t ≢ j → slotOf (assigned ws v) j ≡ slotOf v j)
+      → s .class ≡ slotOf v t .class → s .top ≡ slotOf v t .top → s .count ≡ slotOf v t .count
+      → PlaceRelated regions (setSlot t s (memoryOf v area)) (at t k p′ m) s p′
+      → Related regions (memoryOf (assigned ws v) area) (at t k p′ m)
+  goes ws s p′ e own others f g h pl =
+      subst (λ (z : Memory). Related regions z (at t k p′ m))
+      (sym (becomes v (assigned ws v) area t s (memoryOf v area) e refl own others))
+      (quiet (w .pair) s (taskOf p′ k) (re-slot (w .pair) _ _ s p′ refl f g h pl))
+
+  -- the top of the cache of the request's class, and how many it has, as the fields say
+  pub cache-top : slotOf v t .top (v (TaskClass t)) ≡ v (CacheTop t (v (TaskClass t)))
+  cache-top = if-yes (decLt (v (TaskClass t)) 16) _ _ (mine (w .pair) .fits)
+
+  pub cache-count : v (CacheCount t (v (TaskClass t))) ≡ length (k (v (TaskClass t)))
+  cache-count =
+      sym (if-yes (decLt (v (TaskClass t)) 16) (v (CacheCount t (v (TaskClass t)))) 0 (mine (w .pair) .fits))
+      ∙ mine (w .pair) .counts (v (TaskClass t)) (mine (w .pair) .fits)

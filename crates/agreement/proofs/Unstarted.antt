@@ -1,0 +1,20 @@
+-- A pool that is not started: the relation holds of any such bytes.
+-- Assumes nothing.
+use native.Mathlib.Omega.{arith}
+use Rattle.plain.specs.Calls.{unstarted}
+use Rattle.stepped.specs.Outcome.{Memories}
+use Rattle.agreement.specs.Agreement.{Unstarted}
+use Rattle.agreement.proofs.Simulation.{Sim}
+
+-- the bytes of a pool that is not started, and the plain pool that is not started
+pub unstarted-sim : {s₁ : Memories} → Unstarted s₁ → Sim s₁ unstarted
+unfolding unstarted
+unstarted-sim U = record {
+  length = U .length;
+  bytes = U .bytes;
+  tasks = U .tasks;
+  good = record { few = omega arith; small = λ h. absurd (omega arith); inv = λ h. absurd (omega arith) };
+  some = λ h. absurd (omega arith);
+  regions = λ h. absurd (omega arith);
+  related = λ h. absurd (omega arith);
+}

@@ -1,0 +1,108 @@
+-- The relation speaks of the fields of the layout alone: two views that agree there are related alike.
+-- Assumes nothing.
+use mathlib.Core.Path.{_≡_, refl, sym, subst, fun-ext}
+use mathlib.Core.List.{List}
+use Prim.Native.Nat.{ℕ, _+_, _*_, _/_, _≤_, _<_}
+use native.Mathlib.Omega.{arith}
+use native.Mathlib.Decide.{decLt}
+use lib.ListN.{length}
+use Rattle.rows.specs.Branch.{if}
+use Rattle.rows.proofs.Linked.{linked-frame}
+use Rattle.fields.specs.Columns.{Field, View, Has}
+use Rattle.words.specs.Head.{headOf}
+use Rattle.words.specs.Anchor.{anchorOf}
+use Rattle.words.specs.declared.anchor.Anchor.{Anchor}
+use Rattle.links.specs.Link.{link}
+use Rattle.plain.specs.State.{Mem, REGIONS}
+use Rattle.plain.specs.Invariant.{Invariant}
+use Rattle.plain.proofs.Places.{taskOf}
+use Rattle.plain.proofs.Turn.{Turn}
+use Rattle.control.specs.Layout
+use Rattle.control.specs.Layout.{layout}
+use Rattle.agreement.specs.Memory.{Slot, byClass, slotOf, memoryOf}
+use Rattle.agreement.specs.Relation.{DescriptorRelated, SlotRelated, Core, Related}
+use Rattle.agreement.proofs.Frames.{Kept, kept-slot}
+use Rattle.agreement.proofs.Tops.{listed, listed-region, descriptor-in-hand, region-in-hand}
+
+module _ {v v′ : View} (same : (g : Field) → Has layout g → v′ g ≡ v g) where
+  -- a column of the caches
+  caches-same : (c t : ℕ) → t < 8 → ((i : ℕ) → i < 128 → Has layout (record { column = c; index = i }))
+      → byClass (λ (i : ℕ). v′ (record { column = c; index = i })) t ≡ byClass (λ (i : ℕ). v (record { column = c; index = i })) t
+  caches-same c t l has = fun-ext (λ e. go e (decLt e 16))
+    where
+      go : (e : ℕ) (p : Dec (e < 16))
+          → if p (v′ (record { column = c; index = 16 * t + e })) 0 ≡ if p (v (record { column = c; index = 16 * t + e })) 0
+      go e (yes p) = same _ (has (16 * t + e) (omega arith))
+      go e (no p) = refl
+
+  -- a task's part
+  slots-same : (t : ℕ) → t < 8 → slotOf v′ t ≡ slotOf v t
+  slots-same t l = λ i. record {
+    place = same (Layout.TaskPlace t) (omega arith) i;
+    class = same (Layout.TaskClass t) (omega arith) i;
+    unit = same (Layout.TaskUnit t) (omega arith) i;
+    head = headOf (same (Layout.TaskHead t) (omega arith) i);
+    next = same (Layout.TaskNext t) (omega arith) i;
+    anchor = anchorOf (same (Layout.TaskAnchor t) (omega arith) i);
+    descriptor = same (Layout.TaskDescriptor t) (omega arith) i;
+    region = same (Layout.TaskRegion t) (omega arith) i;
+    index = same (Layout.TaskIndex t) (omega arith) i;
+    left = same (Layout.TaskLeft t) (omega arith) i;
+    first = same (Layout.GroupFirst t) (omega arith) i;
+    last = same (Layout.GroupLast t) (omega arith) i;
+    grouped = same (Layout.GroupCount t) (omega arith) i;
+    state = same (Layout.TaskState t) (omega arith) i;
+    top = caches-same 5 t l (λ j h. omega arith) i;
+    count = caches-same 6 t l (λ j h. omega arith) i;
+  }
+
+  module _ {regions : ℕ} {m : Mem} (area : List ℕ) (small : regions ≤ 16) (I : Invariant regions m) (R : Related regions (memoryOf v area) m) where
+    -- a head's word, a descriptor's fields, a region's
+    head : (ℓ : ℕ) → ℓ < 18 → v′ (Layout.Head ℓ) ≡ v (Layout.Head ℓ)
+    head ℓ l = same (Layout.Head ℓ) (omega arith)
+
+    descriptor : (d : ℕ) → d < 64
+        → DescriptorRelated (link area) (anchorOf (v′ (Layout.Anchor d))) (v′ (Layout.DescriptorRegion d)) (v′ (Layout.DescriptorClass d)) (m .descriptor d)
+    descriptor d l =
+        rw (same (Layout.Anchor d) (omega arith), same (Layout.DescriptorRegion d) (omega arith), same (Layout.DescriptorClass d) (omega arith))
+        (R .core .descriptors d l)
+
+    core : Core regions (memoryOf v′ area) m
+    core = record {
+      tags = λ ℓ l. rw (head ℓ l) (R .core .tags ℓ l);
+      rows = λ ℓ l. rw (head ℓ (omega arith))
+          (linked-frame (λ x h. same (Layout.DescriptorNext x) (let k : x < 64 = listed I ℓ l x h in omega arith)) (R .core .rows ℓ l));
+      spareRow = rw (head REGIONS (omega arith))
+          (linked-frame (λ x h. same (Layout.RegionNext x) (let k : x < regions = listed-region I x h in omega arith)) (R .core .spareRow));
+      descriptorNexts = λ d l. rw (same (Layout.DescriptorNext d) (omega arith)) (R .core .descriptorNexts d l);
+      regionNexts = λ r l. rw (same (Layout.RegionNext r) (omega arith)) (R .core .regionNexts r l);
+      descriptors = descriptor;
+      avails = λ d l. rw (same (Layout.Anchor d) (omega arith)) (R .core .avails d l);
+      chainCounts = λ d l. rw (same (Layout.Anchor d) (omega arith)) (R .core .chainCounts d l);
+      descriptorRegions = λ d l. rw (same (Layout.DescriptorRegion d) (omega arith)) (R .core .descriptorRegions d l);
+      descriptorClasses = λ d l. rw (same (Layout.DescriptorClass d) (omega arith)) (R .core .descriptorClasses d l);
+      maps = λ r l. rw (same (Layout.Map r) (omega arith)) (R .core .maps r l);
+      marks = λ u l. rw (same (Layout.Marks (u / 64)) (omega arith)) (R .core .marks u l);
+      length = R .core .length;
+    }
+
+    turn : (t : ℕ) → t < 8 → Turn regions m t (taskOf (m .task t .place) (m .task t .cache))
+    turn t l = record { inv = I; fits = l; is = refl }
+
+    -- a task keeps what it reads of others' columns: the nexts of what it has in hand
+    kept : (t : ℕ) → t < 8 → Kept (memoryOf v area) (memoryOf v′ area) m m (m .task t)
+    kept t l = record {
+      wins = λ ℓ. omega arith;
+      still = λ ℓ e. refl;
+      descriptorNexts = λ x h. same (Layout.DescriptorNext x) (let k : x < 64 = descriptor-in-hand (turn t l) x h in omega arith);
+      regionNexts = λ x h. same (Layout.RegionNext x) (let k : x < regions = region-in-hand (turn t l) x h in omega arith);
+      links = λ u h. refl;
+      regions = λ x h. refl;
+    }
+
+    -- what is related to one view is related to the other
+    pub views-related : Related regions (memoryOf v′ area) m
+    views-related = record {
+      core = core;
+      slots = λ t l. subst (λ (s : Slot). SlotRelated regions (memoryOf v′ area) m s (m .task t)) (sym (slots-same t l)) (kept-slot (kept t l) (R .slots t l));
+    }

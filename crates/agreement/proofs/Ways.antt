@@ -1,0 +1,139 @@
+-- The tests that every call but a start passes first, and the ways in which a step can end, whatever the two memories hold.
+-- Assumes nothing.
+use Prim.Native.Nat.{ℕ, _*_}
+use mathlib.Core.Path.{_≡_, refl, subst, _∙_}
+use mathlib.Core.Logic.{_≢_, _⊎_, inr}
+use mathlib.Core.Bool.{Bool, true, false, cond, _||_, false≢true}
+use mathlib.Core.List.{List, [], _∷_, _++_}
+use native.Mathlib.Omega.{arith}
+use borrow.Author.Tests.{eq-eqb, ne-eqb, le-leb, lt-ltb, eqb-true, eqb-false, leb-true, ltb-true}
+use lib.Dec.{eqb, leb, ltb}
+use Rattle.fields.specs.Columns.{View, Write, _:=_, assign, assigned}
+use Rattle.links.specs.Link.{LinkWrite}
+use Rattle.plain.specs.Moves.{Decided}
+use Rattle.control.specs.Layout.{TaskPlace, Tasks, Regions}
+use Rattle.control.specs.declared.answer.Answer.{Answer}
+use Rattle.control.specs.declared.answer.Answer.the-variants.{Accepted, Allocated, Freed, NoDescriptor, NoRegion, Refused}
+use Rattle.control.specs.declared.moves.Pop.the-variants.{Spare, Region}
+use Rattle.control.specs.declared.moves.Push.the-variants.{Back}
+use Rattle.stepped.specs.Outcome.{Outcome, refuse, bad, accept, close}
+use Rattle.stepped.specs.Ranges.{oneTo}
+use Rattle.stepped.specs.Calls as Calls
+use Rattle.stepped.specs.Calls.{Tested}
+use Rattle.agreement.specs.Ends.{oneOf, testRefusals, stepRefusals, Begins, FindsEmpty, WinsPush, InPush}
+use Rattle.stepped.proofs.Conjunction.{left-true, right-true}
+
+-- a test: what holds of both ways on holds of what follows
+pub branch : {A : Type 0} (P : A → Type 0) {x y : A} (b : Bool) → (b ≡ true → P x) → (b ≡ false → P y) → P (cond b x y)
+branch P true h k = h refl
+branch P false h k = k refl
+
+-- ---- answers
+
+-- an accepted call is not refused
+pub accepted-no : {n : ℕ} → Accepted ≡ Refused n → ⊥
+accepted-no e = false≢true (subst (Begins []) e tt)
+
+-- a number of a list is one of a longer list's
+or-more : (a b c : Bool) → (b ≡ true → c ≡ true) → (a || b) ≡ true → (a || c) ≡ true
+or-more true b c h k = refl
+or-more false b c h k = h k
+
+pub more : (ns ms : List ℕ) (n : ℕ) → oneOf ns n ≡ true → oneOf (ns ++ ms) n ≡ true
+more [] ms n h = absurd (false≢true h)
+more (x ∷ ns) ms n h = or-more (eqb n x) (oneOf ns n) (oneOf (ns ++ ms) n) (more ns ms n) h
+
+-- ---- the tests 1, 4, 2, 5
+
+-- what holds of a refusal by the tests, and of what follows them, holds of the call
+pub tests : (P : Outcome → Type 0) (control area : ℕ) (v : View) (t : ℕ) (x : Outcome)
+    → ((n : ℕ) → oneOf testRefusals n ≡ true → P (refuse n)) → (Tested control area v t → P x)
+    → P (Calls.tested control area v t x)
+unfolding Calls.tested
+tests P control area v t x r k =
+    branch P (eqb control 8192) (λ e.
+    branch P (leb (v Tasks) 8) (λ f.
+    branch P (eqb (v Tasks) 0) (λ g. r 4 refl) (λ g.
+    branch P (oneTo 16 (v Regions)) (λ h.
+    branch P (eqb area (4096 * v Regions)) (λ i.
+    branch P (ltb t (v Tasks)) (λ j.
+    let z : v Tasks ≢ 0 = eqb-false (v Tasks) 0 g in
+    k (record {
+      control-is = eqb-true control 8192 e;
+      started = omega arith;
+      tasks = leb-true (v Tasks) 8 f;
+      some = leb-true 1 (v Regions) (left-true (leb 1 (v Regions)) (leb (v Regions) 16) h);
+      regions = leb-true (v Regions) 16 (right-true (leb 1 (v Regions)) (leb (v Regions) 16) h);
+      area-is = eqb-true area (4096 * v Regions) i;
+      below = ltb-true t (v Tasks) j;
+    })) (λ j. r 5 refl)) (λ i. r 2 refl)) (λ h. r 14 refl))) (λ f. r 14 refl)) (λ e. r 1 refl)
+
+-- a call that passes them does what follows
+pub passed : (control area : ℕ) (v : View) (t : ℕ) (x : Outcome) → Tested control area v t → Calls.tested control area v t x ≡ x
+unfolding Calls.tested
+passed control area v t x T = rw (
+  eq-eqb control 8192 (T .control-is),
+  le-leb (v Tasks) 8 (T .tasks),
+  ne-eqb (v Tasks) 0 (omega arith),
+  le-leb 1 (v Regions) (T .some),
+  le-leb (v Regions) 16 (T .regions),
+  eq-eqb area (4096 * v Regions) (T .area-is),
+  lt-ltb t (v Tasks) (T .below),
+)
+
+-- ---- the ways out of a step
+
+-- why a step gives an answer that ends the request
+abbrev pub Cause : View → ℕ → Answer → Type 0
+Cause v t Accepted = ⊥
+Cause v t (Allocated u) = Unit {0}
+Cause v t Freed = Unit {0}
+Cause v t NoDescriptor = FindsEmpty Spare v t
+Cause v t NoRegion = WinsPush Back v t
+Cause v t (Refused n) = ⊥
+
+-- How a step of the task t ends: with a refusal, with the request under way, or with the request's end. It comes to the
+-- push back from the empty list of spare regions, or from that push itself.
+pub data Ending (v : View) (t : ℕ) : Outcome → Type 0 where
+  refused : {n : ℕ} → oneOf stepRefusals n ≡ true → Ending v t (refuse n)
+  going : {e : Decided} {ws : List Write} {ls : List LinkWrite}
+      → (InPush Back (assigned ws v (TaskPlace t)) → FindsEmpty Region v t ⊎ InPush Back (v (TaskPlace t))) → Ending v t (accept e ws ls)
+  ended : {a : Answer} {e : Decided} {ws : List Write} {ls : List LinkWrite} → Cause v t a
+      → assigned ws v (TaskPlace t) ≡ 0 → Ending v t (close a e ws ls)
+
+-- writes that leave the place of the task t
+abbrev pub Keeps : ℕ → List Write → Type 0
+Keeps t ws = (u : View) → assigned ws u (TaskPlace t) ≡ u (TaskPlace t)
+
+-- a place that is written, before such writes
+pub sent : (v : View) (t q : ℕ) (ws : List Write) → Keeps t ws → assigned (TaskPlace t := q ∷ ws) v (TaskPlace t) ≡ q
+sent v t q ws h = h (assign (TaskPlace t := q) v) ∙ rw (eq-eqb t t refl)
+
+module _ {v : View} {t : ℕ} where
+  pub no-step : Ending v t (refuse 7)
+  no-step = refused refl
+
+  pub wrong : Ending v t bad
+  wrong = refused refl
+
+  -- a test
+  pub either : {o o′ : Outcome} (b : Bool) → Ending v t o → Ending v t o′ → Ending v t (cond b o o′)
+  either b h k = branch (Ending v t) b (λ e. h) (λ e. k)
+
+  -- a test against 14
+  pub test : {o : Outcome} (b : Bool) → Ending v t o → Ending v t (cond b o bad)
+  test b h = either b h wrong
+
+  -- to a place that is none of the push back's
+  pub to : {e : Decided} (q : ℕ) {ws : List Write} {ls : List LinkWrite} → (InPush Back q → ⊥) → Keeps t ws
+      → Ending v t (accept e (TaskPlace t := q ∷ ws) ls)
+  to q {ws} n h = going (λ i. absurd (n (subst (InPush Back) (sent v t q ws h) i)))
+
+  -- to the same place again
+  pub stay : {e : Decided} {ws : List Write} {ls : List LinkWrite} → Keeps t ws → Ending v t (accept e ws ls)
+  stay h = going (λ i. inr (subst (InPush Back) (h v) i))
+
+  -- to idle
+  pub finish : {a : Answer} {e : Decided} {ws : List Write} {ls : List LinkWrite} → Cause v t a → Keeps t ws
+      → Ending v t (close a e (TaskPlace t := 0 ∷ ws) ls)
+  finish {ws = ws} k h = ended k (sent v t 0 ws h)

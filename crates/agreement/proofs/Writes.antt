@@ -1,0 +1,79 @@
+-- A task's turn, from the writes of an outcome to the relation after it: its own part with its caches, a link, an
+-- anchor, a map entry.
+-- Assumes nothing.
+use mathlib.Core.Path.{_≡_, refl, ap, _∙_}
+use mathlib.Core.Logic.{_≢_}
+use mathlib.Core.List.{List}
+use Prim.Native.Nat.{ℕ, _≤_, _<_}
+use Rattle.fields.specs.Columns.{View}
+use Rattle.links.specs.Link.{link, withLink}
+use Rattle.words.specs.Anchor.{anchorOf}
+use Rattle.plain.specs.State as State
+use Rattle.plain.specs.State.{Descriptor, Mem, Place, Task, numberOf, setDescriptor, setTask}
+use Rattle.plain.specs.States.{IfOpen}
+use Rattle.plain.specs.Weights.{blockWeight}
+use Rattle.plain.proofs.Places.{taskOf}
+use Rattle.agreement.specs.Memory.{Slot, Memory, slotOf, memoryOf}
+use Rattle.agreement.specs.Relation.{ChainRelated, Related, SlotRelated}
+use Rattle.agreement.proofs.Slots.{toCache}
+use Rattle.agreement.proofs.Sets.{setSlot, setLink, setAnchor, setMap}
+use Rattle.agreement.proofs.Bridge.{withSlots, becomes}
+use Rattle.agreement.proofs.Couple.{quiet, linking}
+use Rattle.agreement.proofs.Changes.{anchoring, clearing}
+use Rattle.agreement.proofs.Turns.{At}
+use Rattle.agreement.proofs.Caching.{withCache, cache-own, cache-others}
+
+-- Writes that change the view v to v′: what is shared is as in b, and of the tasks' parts only that of t, now s, has
+-- changed.
+pub record Writes (v v′ : View) (area : List ℕ) (t : ℕ) (s : Slot) (b : Memory) : Type 0 where
+  pub shared : memoryOf v′ area ≡ withSlots (slotOf v′) b
+  pub own : slotOf v′ t ≡ s
+  pub others : (j : ℕ) → t ≢ j → slotOf v′ j ≡ slotOf v j
+
+-- so they are with a cache's two fields
+pub with-cache : {v : View} (v′ : View) {area : List ℕ} {t : ℕ} {s : Slot} {b : Memory} (c u n : ℕ) → c < 16
+    → Writes v v′ area t s b → Writes v (withCache t c u n v′) area t (toCache c u n s) b
+with-cache v′ {t = t} c u n l h = record {
+  shared = ap (withSlots (slotOf (withCache t c u n v′))) (h .shared);
+  own = cache-own v′ t c u n l ∙ ap (toCache c u n) (h .own);
+  others = λ j d. cache-others v′ t c u n l j d ∙ h .others j d;
+}
+
+module _ {regions : ℕ} {v : View} {area : List ℕ} {m : Mem} {t : ℕ} {p : Place} {k : ℕ → List ℕ}
+    (w : At regions v area m t p k) (v′ : View) (s : Slot) (T : Task) where
+  -- the task's own part changes alone
+  pub own-written : Writes v v′ area t s (memoryOf v area)
+      → SlotRelated regions (setSlot t s (memoryOf v area)) (setTask t T m) s T
+      → Related regions (memoryOf v′ area) (setTask t T m)
+  own-written c h =
+      rw (becomes v v′ area t s (memoryOf v area) (c .shared) refl (c .own) (c .others)) (quiet (w .pair) s T h)
+
+  -- and the link of a block of the task
+  pub link-written : (u x : ℕ) → Writes v v′ (withLink area u x) t s (setLink u x (memoryOf v area))
+      → 1 ≤ blockWeight u t (taskOf p k)
+      → SlotRelated regions (setSlot t s (setLink u x (memoryOf v area))) (setTask t T m) s T
+      → Related regions (memoryOf v′ (withLink area u x)) (setTask t T m)
+  link-written u x c o h =
+      rw (becomes v v′ (withLink area u x) t s (setLink u x (memoryOf v area)) (c .shared) refl (c .own) (c .others))
+      (linking (w .pair) u x s T o h)
+
+  -- and an anchor
+  pub anchor-exchanged : (d word : ℕ) (E : Descriptor)
+      → Writes v v′ area t s (setAnchor d (anchorOf word) (memoryOf v area))
+      → d < 64 → anchorOf word .state ≡ numberOf (E .state) → E .region ≡ m .descriptor d .region
+      → E .class ≡ m .descriptor d .class → IfOpen (E .state) (ChainRelated (link area) (anchorOf word) E)
+      → anchorOf word .avail ≤ 512 → anchorOf word .count ≤ 512
+      → SlotRelated regions (setSlot t s (setAnchor d (anchorOf word) (memoryOf v area)))
+      (setTask t T (setDescriptor d E m)) s T
+      → Related regions (memoryOf v′ area) (setTask t T (setDescriptor d E m))
+  anchor-exchanged d word E c l e f g i a n h =
+      rw (becomes v v′ area t s (setAnchor d (anchorOf word) (memoryOf v area)) (c .shared) refl (c .own) (c .others))
+      (anchoring (w .pair) d (anchorOf word) E s T l e f g i a n h)
+
+  -- and a map entry
+  pub entry-cleared : (r : ℕ) → Writes v v′ area t s (setMap r 0 (memoryOf v area))
+      → SlotRelated regions (setSlot t s (setMap r 0 (memoryOf v area))) (setTask t T (State.setMap r 0 m)) s T
+      → Related regions (memoryOf v′ area) (setTask t T (State.setMap r 0 m))
+  entry-cleared r c h =
+      rw (becomes v v′ area t s (setMap r 0 (memoryOf v area)) (c .shared) refl (c .own) (c .others))
+      (clearing (w .pair) r 0 s T h)

@@ -1,0 +1,128 @@
+-- A user's write, and a link that a step writes: which bytes they leave.
+-- Assumes nothing.
+use mathlib.Core.Path.{_≡_, refl, ap, subst, _∙_}
+use mathlib.Core.Logic.{_≢_}
+use mathlib.Core.List.{List, [], _∷_}
+use Prim.Native.Nat.{ℕ, suc, pred, _+_, _*_, _≤_, _<_}
+use native.Mathlib.Omega.{arith}
+use native.Mathlib.Decide.{ℕ-discrete, decLt}
+use lib.ListN.{length, getD, set, length-set}
+use Rattle.rows.specs.Counting.{count}
+use Rattle.rows.specs.Totals.{total}
+use Rattle.rows.proofs.Linked.{linked-frame}
+use Rattle.rows.proofs.Totals.{total-one}
+use Rattle.fields.specs.Columns.{View}
+use Rattle.links.specs.Link.{link, withLink, LinkWrite, _⇒_, linked}
+use Rattle.links.proofs.Links.{link-byte, byte-other}
+use Rattle.classes.specs.Classes.{block}
+use Rattle.classes.specs.Places.{regionOf, Block}
+use Rattle.classes.proofs.Places.{inside, apart, region-is}
+use Rattle.classes.proofs.Tables.{units-low}
+use Rattle.plain.specs.State.{State, EMPTY, PARTIAL, FULL, Mem}
+use Rattle.plain.specs.States.{IsOpen, IfOpen}
+use Rattle.plain.specs.Weights.{insideWeight, chainWeight, blockWeight}
+use Rattle.plain.specs.Invariant.{Invariant}
+use Rattle.plain.proofs.States.{open-holds}
+use Rattle.plain.proofs.Homes.{inside-open}
+use Rattle.agreement.specs.Memory.{memoryOf}
+use Rattle.agreement.specs.Relation.{Related}
+use Rattle.agreement.proofs.Frames.{kept-slot}
+use Rattle.agreement.proofs.Couple.{Valid, valid, same-class}
+use Rattle.agreement.proofs.Both.{Apart}
+
+-- two different blocks of open regions: a byte of one is none of the other's link
+away : {r c u r′ c′ v : ℕ} → Block r c u → Block r′ c′ v → (r ≡ r′ → c ≡ c′) → v ≢ u → (at : ℕ) → 8 * u ≤ at → at < 8 * u + block c
+    → 8 * v ≤ at → 8 * v + 4 ≤ at
+away {r} {c} {u} {r′} {c′} {v} b d same n at p q l = elim (ℕ-discrete r r′) [
+  | yes e ↦ (let f : Block r c v = rw (same e, e) d in elim (decLt u v) [
+    | yes k ↦ absurd (omega (arith, apart b f k))
+    | no k ↦ (let h : v < u = omega arith in omega (arith, apart f b h, units-low c))
+  ])
+  | no e ↦ elim (decLt r r′) [
+    | yes k ↦ absurd (omega (arith, inside b, inside d))
+    | no k ↦ omega (arith, inside b, inside d, units-low c′)
+  ]
+]
+
+-- X follows while the anchor is not EMPTY
+if-open : (z : State) {X Y : Type 0} → (IsOpen z → X → Y) → IfOpen z X → IfOpen z Y
+if-open EMPTY f x = tt
+if-open PARTIAL f x = f (λ i. refl) x
+if-open FULL f x = f (λ i. refl) x
+
+module _ {regions : ℕ} {m : Mem} (I : Invariant regions m) (u at : ℕ) (held : 1 ≤ m .hands u) (from : 8 * u ≤ at)
+    (to : at < 8 * u + block (m .descriptor (pred (m .map (regionOf u))) .class)) where
+  here : Valid m u
+  here = valid m u (omega (arith, I .blocks u))
+
+  -- the class is that of the block's region
+  class-here : at < 8 * u + block (m .descriptor (here .d) .class)
+  class-here =
+      let named : m .map (regionOf u) ≡ suc (here .d) = ap (m .map) (region-is (here .block)) ∙ open-holds (m .descriptor (here .d) .state) (here .counts) (I .maps (here .d) (here .fits)) in
+      let i : pred (m .map (regionOf u)) ≡ here .d = omega (arith, named) in
+      subst (λ (z : ℕ). at < 8 * u + block (m .descriptor z .class)) i to
+
+  -- the link of another block of an open region does not lie there
+  pub far : (v : ℕ) → 1 ≤ total 64 (insideWeight v) (m .descriptor) → v ≢ u → 8 * v ≤ at → 8 * v + 4 ≤ at
+  far v h n = let y = valid m v h in away (here .block) (y .block) (same-class I here y) n at from class-here
+
+  -- a block that a task or a chain has is not the one in hands
+  other : (v : ℕ) → 1 ≤ total 8 (blockWeight v) (m .task) + total 64 (chainWeight v) (m .descriptor) → v ≢ u
+  other v h e =
+      absurd (omega (arith, I .blocks u, inside-open I u, ap (λ (z : ℕ). total 8 (blockWeight z) (m .task) + total 64 (chainWeight z) (m .descriptor)) e))
+
+  -- ---- the user's write
+
+  link-kept : (area : List ℕ) (b v : ℕ) → 1 ≤ total 8 (blockWeight v) (m .task) + total 64 (chainWeight v) (m .descriptor)
+      → link (set area at b) v ≡ link area v
+  link-kept area b v h = link-byte area at b v (far v (omega (arith, I .blocks v)) (other v h))
+
+  -- a write to a block in hands leaves the relation
+  pub write-related : (v : View) (area : List ℕ) (b : ℕ) → Related regions (memoryOf v area) m → Related regions (memoryOf v (set area at b)) m
+  write-related v area b R =
+      let C = R .core in
+      record {
+        core = record {
+          tags = C .tags;
+          rows = C .rows;
+          spareRow = C .spareRow;
+          descriptorNexts = C .descriptorNexts;
+          regionNexts = C .regionNexts;
+          descriptors = λ d l. record {
+            state = C .descriptors d l .state;
+            region = C .descriptors d l .region;
+            class = C .descriptors d l .class;
+            chain = if-open (m .descriptor d .state) (λ g c. record {
+              linked = linked-frame (λ x h. link-kept area b x (omega (arith, total-one 64 (chainWeight x) (m .descriptor) d l, g (count x (m .descriptor d .chain))))) (c .linked);
+              counts = c .counts;
+            }) (C .descriptors d l .chain);
+          };
+          avails = C .avails;
+          chainCounts = C .chainCounts;
+          descriptorRegions = C .descriptorRegions;
+          descriptorClasses = C .descriptorClasses;
+          maps = C .maps;
+          marks = C .marks;
+          length = length-set area at b ∙ C .length;
+        };
+        slots = λ t l. kept-slot {a = memoryOf v area} {m = m} (record {
+          wins = λ ℓ. omega arith;
+          still = λ ℓ e. refl;
+          descriptorNexts = λ x h. refl;
+          regionNexts = λ x h. refl;
+          links = λ x h. link-kept area b x (omega (arith, total-one 8 (blockWeight x) (m .task) t l));
+          regions = λ x h. refl;
+        }) (R .slots t l);
+      }
+
+  -- ---- the pool's link writes leave the byte
+
+  pub byte-kept : (ls : List LinkWrite) (area : List ℕ) → Apart m ls → getD (linked ls area) at 0 ≡ getD area at 0
+  byte-kept [] area h = refl
+  byte-kept ((x ⇒ y) ∷ ls) area h =
+      byte-kept ls (withLink area x y) (h .1)
+      ∙ byte-other area x y at (λ l. elim (decLt at (8 * x)) [
+        | yes k ↦ k
+        | no k ↦ (let n : x ≢ u = λ e. absurd (omega (arith, h, ap (m .hands) e)) in
+            absurd (omega (arith, far x (h .0 .1) n (omega arith))))
+      ])

@@ -1,0 +1,64 @@
+-- What the agreement of the two runs says, over a whole list of events.
+-- Assumes nothing.
+use mathlib.Core.Path.{_≡_}
+use mathlib.Core.Logic.{_≢_}
+use mathlib.Core.List.{List, [], _∷_}
+use Prim.Native.Nat.{ℕ, _*_, _≤_}
+use lib.ListN.{length, getD}
+use Rattle.fields.specs.Little.{Bytes}
+use Rattle.plain.specs.Moves.{Answer}
+use Rattle.plain.specs.Calls.{Pool}
+use Rattle.control.specs.Layout.{Tasks, Regions, seen}
+use Rattle.agreement.specs.Memory.{Memory, memoryOf}
+use Rattle.stepped.specs.Outcome.{Memories}
+use Rattle.agreement.specs.Events.{Event, start, allocate, free, go, write, stepped, whole, InHands}
+use Rattle.agreement.specs.Observe.{Same}
+
+-- the two memories, column by column
+abbrev pub read : Memories → Memory
+read s = memoryOf (seen (s .control)) (s .area)
+
+-- One event of the two runs, which "decide the same moves at the same calls, give the same code and value, never 14, and have
+-- after every call the same lists, chains and holders; each block of an open region is in exactly one place" (the demands).
+pub record Agrees (x : Memories × Answer) (y : Pool × Answer) : Type 0 where
+  -- code, value and decided move
+  pub says : x .1 ≡ y .1
+  pub never-14 : x .1 .code ≢ 14
+  -- the started numbers of tasks, 0 while the pool is not started, and of regions
+  pub tasks : seen (x .0 .control) Tasks ≡ y .0 .tasks
+  pub regions : 1 ≤ y .0 .tasks → seen (x .0 .control) Regions ≡ y .0 .regions
+  -- the lengths of the two memories, so that a call that is lent these is lent the pool's
+  pub control-length : length (x .0 .control) ≡ 8192
+  pub area-length : 1 ≤ y .0 .tasks → length (x .0 .area) ≡ 4096 * y .0 .regions
+  pub same : 1 ≤ y .0 .tasks → Same (y .0 .regions) (read (x .0)) (y .0 .mem)
+
+-- Each byte of a block that is in a user's hands before is as it was.
+abbrev pub Kept : Memories → Pool → Memories → Type 0
+Kept s₁ s after = (at : ℕ) → InHands at s → getD (after .area) at 0 ≡ getD (s₁ .area) at 0
+
+-- "No call changes a byte of a block in a user's hands" (the demands). An accepted start begins anew: "It leaves the area as it
+-- is" (the paper), which is the area that it is lent. A user's own write is no call.
+abbrev pub Untouched : Event → Memories → Memories × Answer → Pool → Type 0
+Untouched (start control area tasks) s₁ x s = x .1 .code ≡ 0 → x .0 .area ≡ area
+Untouched (allocate control area t size) s₁ x s = Kept s₁ s (x .0)
+Untouched (free control area t u) s₁ x s = Kept s₁ s (x .0)
+Untouched (go control area t) s₁ x s = Kept s₁ s (x .0)
+Untouched (write at b) s₁ x s = Unit {0}
+
+-- "A refused call .. leaves both memories unchanged" (the paper): the pool's, also where it was lent others.
+abbrev pub Unchanged : Memories → Memories × Answer → Type 0
+Unchanged s₁ x = 1 ≤ x .1 .code → x .1 .code ≤ 11 → x .0 ≡ s₁
+
+-- every event of the list, in its order
+abbrev pub Agree : List Event → Memories → Pool → Type 0
+Agree [] s₁ s = Unit {0}
+Agree (e ∷ es) s₁ s =
+    (Agrees (stepped e s₁) (whole e s) × Unchanged s₁ (stepped e s₁) × Untouched e s₁ (stepped e s₁) s)
+    × Agree es (stepped e s₁ .0) (whole e s .0)
+
+-- The memories that the runs may begin with: a control memory of 8,192 bytes that is not started, as all zeros are, whatever
+-- else it holds; and any area, for no call but a start takes one.
+pub record Unstarted (s₁ : Memories) : Type 0 where
+  pub length : lib.ListN.length (s₁ .control) ≡ 8192
+  pub bytes : Bytes (s₁ .control)
+  pub tasks : seen (s₁ .control) Tasks ≡ 0

@@ -1,0 +1,135 @@
+-- How a call ends, whatever the two memories hold: what a refusal leaves, which numbers refuse, when "no descriptor" and "no
+-- region" come, and the class that a size gets.
+-- Assumes nothing.
+use Prim.Native.Nat.{ℕ, _+_, _*_, _≤_, _<_}
+use mathlib.Core.Path.{_≡_}
+use mathlib.Core.List.{List, [], _∷_, _++_}
+use mathlib.Core.Bool.{Bool, true, false, _||_}
+use lib.Dec.{eqb}
+use Rattle.fields.specs.Columns.{View, _:=_, assigned}
+use Rattle.words.specs.Head.{itemOf}
+use Rattle.classes.specs.Classes.{block}
+use Rattle.classes.specs.Sizes.{classOf}
+use Rattle.control.specs.Layout.{Head, TaskHead, TaskPlace, TaskClass, Tasks, Regions}
+use Rattle.control.specs.declared.answer.Answer.{Answer}
+use Rattle.control.specs.declared.answer.Answer.the-variants.{Accepted, Allocated, Freed, NoDescriptor, NoRegion, Refused}
+use Rattle.control.specs.declared.moves.Pop.{Pop}
+use Rattle.control.specs.declared.moves.Push.{Push}
+use Rattle.stepped.specs.Outcome.{Outcome, Effect}
+use Rattle.stepped.specs.Lists.{popPlace, popList, pushPlace, pushList, pushItems, itemField}
+
+-- ---- refusals
+
+-- "A refused call .. leaves both memories unchanged": it writes no field and no link
+abbrev pub WritesNothing : Outcome → Type 0
+WritesNothing o = (n : ℕ) → o .answer ≡ Refused n → (o .writes ≡ []) × (o .links ≡ [])
+
+-- the same of the bytes: they are those that were lent
+abbrev pub Leaves : Effect → List ℕ → List ℕ → Type 0
+Leaves e control area = (n : ℕ) → e .answer ≡ Refused n → (e .control ≡ control) × (e .area ≡ area)
+
+-- n is one of the numbers ns
+abbrev pub oneOf : List ℕ → ℕ → Bool
+oneOf [] n = false
+oneOf (m ∷ ms) n = eqb n m || oneOf ms n
+
+-- The numbers by which each call can be refused. "Start tests 1, 2, 3."
+abbrev pub startRefusals : List ℕ
+startRefusals = 1 ∷ 2 ∷ 3 ∷ []
+
+-- "Other calls test 1, 4, 2, 5", and 14 where the started number of tasks or of regions is outside its range; then
+abbrev pub testRefusals : List ℕ
+testRefusals = 1 ∷ 4 ∷ 2 ∷ 5 ∷ 14 ∷ []
+
+-- "6 .., then 8, 9"
+abbrev pub allocateRefusals : List ℕ
+allocateRefusals = testRefusals ++ (6 ∷ 8 ∷ 9 ∷ [])
+
+-- "6 .., then .. 10, 11"
+abbrev pub freeRefusals : List ℕ
+freeRefusals = testRefusals ++ (6 ∷ 10 ∷ 11 ∷ [])
+
+-- "or 7"
+abbrev pub stepRefusals : List ℕ
+stepRefusals = testRefusals ++ (7 ∷ [])
+
+-- the answer of a start or of the beginning of a request: accepted, or refused by one of the numbers ns
+abbrev pub Begins : List ℕ → Answer → Type 0
+Begins ns Accepted = Unit {0}
+Begins ns (Allocated u) = ⊥
+Begins ns Freed = ⊥
+Begins ns NoDescriptor = ⊥
+Begins ns NoRegion = ⊥
+Begins ns (Refused n) = oneOf ns n ≡ true
+
+-- the answer of a step: still under way, a request's end, or refused by one of the numbers ns
+abbrev pub Goes : List ℕ → Answer → Type 0
+Goes ns Accepted = Unit {0}
+Goes ns (Allocated u) = Unit {0}
+Goes ns Freed = Unit {0}
+Goes ns NoDescriptor = Unit {0}
+Goes ns NoRegion = Unit {0}
+Goes ns (Refused n) = oneOf ns n ≡ true
+
+-- how a start ends, by its effect on the memories `control` and `area`
+pub record StartEnds (control area : List ℕ) (e : Effect) : Type 0 where
+  pub leaves : Leaves e control area
+  pub answers : Begins startRefusals (e .answer)
+
+-- how the beginning of a request ends, which the numbers ns can refuse
+pub record BeginEnds (ns : List ℕ) (o : Outcome) : Type 0 where
+  pub nothing : WritesNothing o
+  pub answers : Begins ns (o .answer)
+
+-- ---- steps
+
+-- "Read head (this finds an empty list)": the task t is at the head read of the pop p, and that list is empty.
+pub record FindsEmpty (p : Pop) (v : View) (t : ℕ) : Type 0 where
+  pub place : v (TaskPlace t) ≡ popPlace p
+  pub class : v (TaskClass t) < 16
+  pub empty : itemOf (v (Head (popList p (v (TaskClass t))))) ≡ 0
+
+-- The task t is at the exchange of the push p, and wins it: its item and the noted head are in their ranges, and the head word
+-- is the noted one.
+pub record WinsPush (p : Push) (v : View) (t : ℕ) : Type 0 where
+  pub place : v (TaskPlace t) ≡ pushPlace p + 2
+  pub class : v (TaskClass t) < 16
+  pub item : v (itemField p t) < pushItems p (v Regions)
+  pub noted : itemOf (v (TaskHead t)) ≤ pushItems p (v Regions)
+  pub same : v (Head (pushList p (v (TaskClass t)))) ≡ v (TaskHead t)
+
+-- one of the three places of the push p
+pub record InPush (p : Push) (place : ℕ) : Type 0 where
+  pub from : pushPlace p ≤ place
+  pub to : place ≤ pushPlace p + 2
+
+-- where the outcome o leaves the task t: a place in the step list, 0 for idle
+abbrev pub placeAfter : Outcome → View → ℕ → ℕ
+placeAfter o v t = assigned (o .writes) v (TaskPlace t)
+
+-- "a request's end": the answers that end one
+abbrev pub IsEnd : Answer → Type 0
+IsEnd Accepted = ⊥
+IsEnd (Allocated u) = Unit {0}
+IsEnd Freed = Unit {0}
+IsEnd NoDescriptor = Unit {0}
+IsEnd NoRegion = Unit {0}
+IsEnd (Refused n) = ⊥
+
+-- How a step ends: "12 and 13 .. are a request's end .. and leave the task idle", and so does a finish.
+pub record StepEnds (v : View) (t : ℕ) (o : Outcome) : Type 0 where
+  pub nothing : WritesNothing o
+  pub answers : Goes stepRefusals (o .answer)
+  pub idle : IsEnd (o .answer) → placeAfter o v t ≡ 0
+
+-- ---- sizes
+
+-- The allocation of `size` bytes has begun: nothing but the task's place and its class is written, and the class is the
+-- smallest whose block holds the size.
+pub record Begun (t size : ℕ) (o : Outcome) : Type 0 where
+  pub from : 1 ≤ size
+  pub to : size ≤ 256
+  pub writes : o .writes ≡ (TaskPlace t := 1 ∷ TaskClass t := classOf size ∷ [])
+  pub class : classOf size < 16
+  pub holds : size ≤ block (classOf size)
+  pub smallest : (c : ℕ) → c < classOf size → block c < size

@@ -1,0 +1,8 @@
+-- The agreement of the stepped pool with the plain pool: what is compared, the events and premises, the relation, the claims.
+pub mod Memory
+pub mod Relation
+pub mod Events
+pub mod Observe
+pub mod Agreement
+pub mod Ends
+pub mod InRange

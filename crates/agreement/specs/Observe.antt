@@ -1,0 +1,152 @@
+-- What is compared: "each list's items from the top, which regions are open and in which class, and, for these, the chain in
+-- order and each block's holder". It is read off the memories, through the links and by the counts, and off the plain pool.
+-- Assumes nothing.
+use mathlib.Core.Path.{_≡_}
+use mathlib.Core.List.{List, [], _∷_}
+use Prim.Native.Nat.{ℕ, zero, suc, _+_, _-_, _≤_, _<_}
+use native.Mathlib.Decide.{ℕ-discrete, decLe}
+use lib.ListN.{getD}
+use Rattle.rows.specs.Branch.{if, both}
+use Rattle.rows.specs.Counting.{count}
+use Rattle.rows.specs.Totals.{total}
+use Rattle.rows.specs.Linked.{walk}
+use Rattle.classes.specs.Classes.{perRegion}
+use Rattle.classes.specs.Places.{unitOf, Block}
+use Rattle.links.specs.Link.{link}
+use Rattle.plain.specs.State.{Mem, REGIONS}
+use Rattle.plain.specs.Calls.{opens?}
+use Rattle.plain.specs.Blocks.{blocksFrom}
+use Rattle.plain.specs.Weights.{blockWeight}
+use Rattle.plain.specs.OnePlace.{OpenBlock}
+use Rattle.agreement.specs.Memory.{Slot, Memory}
+
+-- ---- lists
+
+-- at most n items, read from the link f on: an item's number plus one, or 0 at the end
+abbrev pub listFrom : (ℕ → ℕ) → ℕ → ℕ → List ℕ
+listFrom next zero f = []
+listFrom next (suc n) zero = []
+listFrom next (suc n) (suc x) = x ∷ listFrom next n (next x)
+
+-- The list ℓ of descriptors, and that of the spare regions: one item more is read than there are descriptors or regions, so that
+-- a list that does not end is not taken for one that does.
+abbrev pub listOf : Memory → ℕ → List ℕ
+listOf a ℓ = listFrom (a .descriptorNext) 65 (a .head ℓ .item)
+
+abbrev pub spareRegions : Memory → ℕ → List ℕ
+spareRegions a regions = listFrom (a .regionNext) (suc regions) (a .head REGIONS .item)
+
+-- ---- open regions: "a region is open while that descriptor names it back and its anchor is not EMPTY"
+
+-- the class in which the region r is open, plus one, 0 where it is not; by its map entry
+abbrev pub classBy : ℕ → ℕ → Memory → ℕ
+classBy zero r a = 0
+classBy (suc d) r a =
+    if (both (ℕ-discrete (a .descriptorRegion d) r) (decLe 1 (a .anchor d .state))) (suc (a .descriptorClass d)) 0
+
+-- its chain: as many blocks as the anchor counts, from avail on
+abbrev pub chainBy : ℕ → ℕ → Memory → List ℕ
+chainBy zero r a = []
+chainBy (suc d) r a =
+    if (both (ℕ-discrete (a .descriptorRegion d) r) (decLe 1 (a .anchor d .state)))
+    (walk (link (a .area)) (unitOf r (a .descriptorClass d)) (a .anchor d .avail) (a .anchor d .count)) []
+
+-- the same of the plain pool
+abbrev pub plainClassBy : ℕ → ℕ → Mem → ℕ
+plainClassBy zero r m = 0
+plainClassBy (suc d) r m = if (opens? (m .descriptor d) r) (suc (m .descriptor d .class)) 0
+
+abbrev pub plainChainBy : ℕ → ℕ → Mem → List ℕ
+plainChainBy zero r m = []
+plainChainBy (suc d) r m = if (opens? (m .descriptor d) r) (m .descriptor d .chain) []
+
+abbrev pub plainClass : Mem → ℕ → ℕ
+plainClass m r = plainClassBy (m .map r) r m
+
+abbrev pub plainChain : Mem → ℕ → List ℕ
+plainChain m r = plainChainBy (m .map r) r m
+
+-- ---- tasks
+
+-- a task's group: as many blocks as it counts, from its first on
+abbrev groupOf : Slot → Memory → List ℕ
+groupOf s a = walk (link (a .area)) (unitOf (s .region) (s .class)) (s .first) (s .grouped)
+
+-- "In comparing holders, a chain or group under way, a block being freed and blocks still to be carved count with their
+-- task's cache": what a task has under way at each place, 0 to 33
+abbrev pub underWayAt : Slot → Memory → List (List ℕ)
+underWayAt s a =
+    let freed = s .unit ∷ [] in
+    let grouped = s .unit ∷ groupOf s a in
+    -- 0, idle; 1, the cache; 2 to 10, the pops; 11 to 16, the pushes of a spare descriptor
+    [] ∷ [] ∷ [] ∷ [] ∷ [] ∷ [] ∷ [] ∷ [] ∷ [] ∷ [] ∷ [] ∷ [] ∷ [] ∷ [] ∷ [] ∷ [] ∷ []
+    -- 17 to 22: the release of a region, the offer of a descriptor
+    ∷ freed ∷ freed ∷ freed ∷ freed ∷ freed ∷ freed
+    -- 23 and 24: the anchor is read and exchanged
+    ∷ [] ∷ []
+    -- 25: the rest of the chain that was taken
+    ∷ walk (link (a .area)) (unitOf (s .region) (s .class)) (s .index) (s .left)
+    -- 26: the descriptor and the map are written
+    ∷ []
+    -- 27: the blocks still to be carved
+    ∷ blocksFrom (s .region) (s .class) (s .index) (perRegion (s .class) - s .index)
+    -- 28: the block that is freed
+    ∷ freed
+    -- 29 to 32: the group
+    ∷ grouped ∷ grouped ∷ grouped ∷ grouped
+    -- 33: the map entry is cleared
+    ∷ freed
+    -- the end of the list
+    ∷ []
+
+-- how often a cache of n blocks with the top u has the block v
+abbrev pub inCache : Memory → ℕ → ℕ → ℕ → ℕ
+inCache a v u n = count v (walk (link (a .area)) (λ x. x) u n)
+
+-- how often a task has the block v, in its caches or under way
+abbrev pub withTask : Memory → ℕ → ℕ → ℕ
+withTask a t v =
+    let s = a .slot t in
+    total 16 (λ c n. inCache a v (s .top c) n) (s .count) + count v (getD (underWayAt s a) (s .place) [])
+
+-- ---- holders: "a user's hands, a task or its region's chain"
+
+pub data Holder : Type 0 where
+  hands : Holder
+  task : ℕ → Holder
+  chain : Holder
+  nowhere : Holder
+
+-- the first of n tasks that has the block, else the chain if it has
+abbrev pub holderOf : ℕ → (ℕ → ℕ) → ℕ → ℕ → Holder
+holderOf zero has inChain t = if (decLe 1 inChain) chain nowhere
+holderOf (suc n) has inChain t = if (decLe 1 (has t)) (task t) (holderOf n has inChain (suc t))
+
+-- by the mark, the tasks and the chain
+abbrev pub holder : ℕ → (ℕ → ℕ) → ℕ → Holder
+holder mark has inChain = if (decLe 1 mark) hands (holderOf 8 has inChain 0)
+
+abbrev pub holderIn : Memory → ℕ → ℕ → Holder
+holderIn a r v = holder (a .mark v) (λ t. withTask a t v) (count v (chainBy (a .map r) r a))
+
+abbrev pub plainHolder : Mem → ℕ → ℕ → Holder
+plainHolder m r v = holder (m .hands v) (λ t. blockWeight v t (m .task t)) (count v (plainChain m r))
+
+-- ---- the comparison, in an area of so many regions
+
+pub record Same (regions : ℕ) (a : Memory) (m : Mem) : Type 0 where
+  pub lists : (ℓ : ℕ) → ℓ < 17 → listOf a ℓ ≡ m .row ℓ
+  pub spares : spareRegions a regions ≡ m .row REGIONS
+  pub classes : (r : ℕ) → r < regions → classBy (a .map r) r a ≡ plainClass m r
+  pub chains : (r : ℕ) → r < regions → chainBy (a .map r) r a ≡ plainChain m r
+  -- the holder of the block v of the region r, and, beyond what is asked, of every unit with regard to every region
+  pub holders : (r v : ℕ) → r < regions → v < 8192 → holderIn a r v ≡ plainHolder m r v
+  -- "each block of an open region is in exactly one place": counted in the memories, and in the plain pool
+  pub one-place : (r c v : ℕ) → r < regions → classBy (a .map r) r a ≡ suc c → Block r c v
+      → a .mark v + total 8 (λ t s. withTask a t v) (a .slot) + count v (chainBy (a .map r) r a) ≡ 1
+  pub plain-one-place : (r c v : ℕ) → r < regions → plainClass m r ≡ suc c → Block r c v
+      → m .hands v + total 8 (blockWeight v) (m .task) + count v (plainChain m r) ≡ 1
+  -- an open region's chain has blocks of this region and class alone, so that no block stands in another region's chain
+  pub own-blocks : (r c v : ℕ) → r < regions → plainClass m r ≡ suc c → 1 ≤ count v (plainChain m r) → Block r c v
+  -- what is in a user's hands is a block of an open region
+  pub held : (v : ℕ) → 1 ≤ m .hands v → (d : ℕ) × OpenBlock m v d

@@ -1,0 +1,175 @@
+-- What holds between the two memories of the stepped pool, column by column, and the plain pool.
+-- Assumes nothing.
+use mathlib.Core.Path.{_≡_}
+use mathlib.Core.List.{List, [], _∷_, _++_}
+use Prim.Native.Nat.{ℕ, zero, suc, _+_, _*_, _%_, _≤_, _<_}
+use lib.ListN.{length}
+use Rattle.rows.specs.Counting.{count}
+use Rattle.rows.specs.Linked.{Linked}
+use Rattle.classes.specs.Classes.{perRegion}
+use Rattle.classes.specs.Places.{indexOf, regionOf, Block}
+use Rattle.words.specs.declared.head.Head.{Head}
+use Rattle.words.specs.declared.anchor.Anchor.{Anchor}
+use Rattle.links.specs.Link.{link}
+use Rattle.plain.specs.State.{State, numberOf, Descriptor, Note, Phase, read, next, exchange, Pop, partial, spare, region, retire, back, release, offer, SPARES, REGIONS}
+use Rattle.plain.specs.State.{Place, idle, a1, popping, pushing, a3-read, a3-exchange, a4, a7, a8, f1, f2, f3-read, f3-link, f3-exchange, f4-clear, Task, Mem}
+use Rattle.plain.specs.Steps.{top}
+use Rattle.plain.specs.States.{IfOpen}
+use Rattle.plain.specs.Blocks.{isBlock}
+use Rattle.agreement.specs.Memory.{Slot, Memory}
+
+-- the tag of a number of won exchanges
+abbrev pub wrap : ℕ → ℕ
+wrap n = n % 4294967296
+
+-- a row without its first item
+abbrev pub tail : List ℕ → List ℕ
+tail [] = []
+tail (x ∷ q) = q
+
+-- ---- what a task noted
+
+-- A noted head: its tag is the noted number's, and while that number stands, its item is the row's top.
+pub record Noted (m : Mem) (ℓ : ℕ) (h : Head) (n : ℕ) : Type 0 where
+  pub past : n ≤ m .won ℓ
+  pub tags : h .tag ≡ wrap n
+  pub same : n ≡ m .won ℓ → h .item ≡ top (m .row ℓ)
+
+-- A pop whose first place is b, of the list ℓ with items below `items`. While the noted number stands, the noted next is
+-- what stands below the row's top: nothing is said of the links, so that the steps of others leave it.
+pub data PopRelated (m : Mem) (s : Slot) (b ℓ items : ℕ) : Phase → Type 0 where
+  at-read : s .place ≡ b → PopRelated m s b ℓ items read
+  at-next : {n : ℕ} → s .place ≡ b + 1 → Noted m ℓ (s .head) n → 1 ≤ s .head .item → s .head .item ≤ items
+      → PopRelated m s b ℓ items (next n)
+  at-exchange : {n : ℕ} → s .place ≡ b + 2 → Noted m ℓ (s .head) n → 1 ≤ s .head .item → s .head .item ≤ items
+      → s .next ≤ items → (n ≡ m .won ℓ → s .next ≡ top (tail (m .row ℓ))) → PopRelated m s b ℓ items (exchange n)
+
+-- A push of the item x, whose next, which its owner alone writes, is the noted head's item.
+pub data PushRelated (m : Mem) (s : Slot) (b ℓ items x : ℕ) (nx : ℕ → ℕ) : Phase → Type 0 where
+  at-read : s .place ≡ b → PushRelated m s b ℓ items x nx read
+  at-next : {n : ℕ} → s .place ≡ b + 1 → Noted m ℓ (s .head) n → s .head .item ≤ items
+      → PushRelated m s b ℓ items x nx (next n)
+  at-exchange : {n : ℕ} → s .place ≡ b + 2 → Noted m ℓ (s .head) n → s .head .item ≤ items → nx x ≡ s .head .item
+      → PushRelated m s b ℓ items x nx (exchange n)
+
+-- the index by which an anchor names a chain's first block, which is given plus one, or 0 for none: n for none
+abbrev pub firstIndex : ℕ → ℕ → ℕ
+firstIndex c zero = perRegion c
+firstIndex c (suc x) = indexOf c x
+
+-- the first block, if there is one, is a block of the region and the class
+abbrev pub FirstIn : ℕ → ℕ → ℕ → Type 0
+FirstIn r c zero = Unit {0}
+FirstIn r c (suc x) = Block r c x
+
+-- A noted anchor: state, first block and length are those of the plain pool's note; it may be stale for ever.
+pub record NoteRelated (m : Mem) (c d : ℕ) (n : Note) (a : Anchor) : Type 0 where
+  pub state : a .state ≡ numberOf (n .state)
+  pub count : a .count ≡ n .length
+  pub avail : a .avail ≡ firstIndex c (n .first)
+  pub first : FirstIn (m .descriptor d .region) c (n .first)
+  pub none : n .first ≡ 0 → n .length ≡ 0
+
+-- A group: the blocks before its last are linked up to it.
+pub record GroupRelated (a : Memory) (s : Slot) (y : ℕ) (g : List ℕ) : Type 0 where
+  pub front : List ℕ
+  pub last : ℕ
+  pub is : y ∷ g ≡ front ++ (last ∷ [])
+  pub linked : Linked (link (a .area)) (indexOf (s .class)) (indexOf (s .class) last) (s .first) front
+  pub lastIs : s .last ≡ indexOf (s .class) last
+  pub counts : s .grouped ≡ suc (length g)
+  pub region : s .region ≡ regionOf y
+
+-- ---- a task
+
+-- The place, with what is under way; the plain place is built from the task's fields.
+pub data PlaceRelated (regions : ℕ) (a : Memory) (m : Mem) (s : Slot) : Place → Type 0 where
+  r-idle : s .place ≡ 0 → PlaceRelated regions a m s idle
+  r-a1 : s .place ≡ 1 → PlaceRelated regions a m s (a1 (s .class))
+  r-partial : {φ : Phase} → PopRelated m s 2 (s .class) 64 φ → PlaceRelated regions a m s (popping (partial (s .class)) φ)
+  r-spare : {φ : Phase} → PopRelated m s 5 SPARES 64 φ → PlaceRelated regions a m s (popping (spare (s .class)) φ)
+  r-region : {φ : Phase} → PopRelated m s 8 REGIONS regions φ
+      → PlaceRelated regions a m s (popping (Pop.region (s .class) (s .descriptor)) φ)
+  r-retire : {φ : Phase} → PushRelated m s 11 SPARES 64 (s .descriptor) (a .descriptorNext) φ
+      → PlaceRelated regions a m s (pushing (retire (s .class) (s .descriptor)) φ)
+  r-back : {φ : Phase} → PushRelated m s 14 SPARES 64 (s .descriptor) (a .descriptorNext) φ
+      → PlaceRelated regions a m s (pushing (back (s .class) (s .descriptor)) φ)
+  r-release : {w : State} {φ : Phase} → s .state ≡ numberOf w
+      → PushRelated m s 17 REGIONS regions (s .region) (a .regionNext) φ
+      → PlaceRelated regions a m s (pushing (release (s .class) (s .unit) (s .descriptor) w (s .region)) φ)
+  r-offer : {φ : Phase} → PushRelated m s 20 (s .class) 64 (s .descriptor) (a .descriptorNext) φ
+      → PlaceRelated regions a m s (pushing (offer (s .class) (s .unit) (s .descriptor)) φ)
+  r-a3-read : s .place ≡ 23 → PlaceRelated regions a m s (a3-read (s .class) (s .descriptor))
+  -- the noted anchor is PARTIAL, names a block, and counts 1 to n
+  r-a3-exchange : {n : Note} → s .place ≡ 24 → NoteRelated m (s .class) (s .descriptor) n (s .anchor)
+      → s .anchor .state ≡ 1 → 1 ≤ s .anchor .count → s .anchor .count ≤ perRegion (s .class)
+      → s .anchor .avail < perRegion (s .class)
+      → PlaceRelated regions a m s (a3-exchange (s .class) (s .descriptor) n)
+  r-a4 : {x : ℕ} {q : List ℕ} → s .place ≡ 25
+      → Linked (link (a .area)) (indexOf (s .class)) (perRegion (s .class)) (s .index) (x ∷ q)
+      → s .left ≡ suc (length q) → ((v : ℕ) → count v (x ∷ q) ≤ isBlock v (s .region) (s .class))
+      → PlaceRelated regions a m s (a4 (s .class) x q)
+  r-a7 : s .place ≡ 26 → PlaceRelated regions a m s (a7 (s .class) (s .descriptor) (s .region))
+  r-a8 : s .place ≡ 27 → PlaceRelated regions a m s (a8 (s .class) (s .region) (s .index))
+  r-f1 : s .place ≡ 28 → PlaceRelated regions a m s (f1 (s .class) (s .unit))
+  r-f2 : s .place ≡ 29 → s .grouped ≡ 0 → PlaceRelated regions a m s (f2 (s .class) (s .unit) [])
+  r-f2-more : {y : ℕ} {g : List ℕ} → s .place ≡ 29 → GroupRelated a s y g
+      → PlaceRelated regions a m s (f2 (s .class) (s .unit) (y ∷ g))
+  r-f3-read : {y : ℕ} {g : List ℕ} → s .place ≡ 30 → GroupRelated a s y g
+      → PlaceRelated regions a m s (f3-read (s .class) (s .unit) y g)
+  r-f3-link : {y : ℕ} {g : List ℕ} {n : Note} → s .place ≡ 31 → GroupRelated a s y g
+      → NoteRelated m (s .class) (s .descriptor) n (s .anchor)
+      → s .grouped + s .anchor .count ≤ perRegion (s .class)
+      → PlaceRelated regions a m s (f3-link (s .class) (s .unit) y g (s .descriptor) n)
+  r-f3-exchange : {y : ℕ} {g : List ℕ} {n : Note} → s .place ≡ 32 → (G : GroupRelated a s y g)
+      → NoteRelated m (s .class) (s .descriptor) n (s .anchor)
+      → s .grouped + s .anchor .count ≤ perRegion (s .class) → link (a .area) (G .last) ≡ s .anchor .avail
+      → PlaceRelated regions a m s (f3-exchange (s .class) (s .unit) y g (s .descriptor) n)
+  r-f4-clear : {w : State} → s .place ≡ 33 → s .state ≡ numberOf w
+      → PlaceRelated regions a m s (f4-clear (s .class) (s .unit) (s .descriptor) w (s .region))
+
+-- A task: its class is one of the sixteen, its place, and each cache linked from its top.
+pub record SlotRelated (regions : ℕ) (a : Memory) (m : Mem) (s : Slot) (T : Task) : Type 0 where
+  pub fits : s .class < 16
+  pub place : PlaceRelated regions a m s (T .place)
+  pub tops : (c : ℕ) → c < 16 → Linked (link (a .area)) (λ u. u) 8192 (s .top c) (T .cache c)
+  pub counts : (c : ℕ) → c < 16 → s .count c ≡ length (T .cache c)
+
+-- ---- a descriptor
+
+-- its chain, linked from avail, with n at the end
+pub record ChainRelated (nx : ℕ → ℕ) (a : Anchor) (D : Descriptor) : Type 0 where
+  pub linked : Linked nx (indexOf (D .class)) (perRegion (D .class)) (a .avail) (D .chain)
+  pub counts : a .count ≡ length (D .chain)
+
+-- state, region and class; and the chain while it is not EMPTY
+pub record DescriptorRelated (nx : ℕ → ℕ) (a : Anchor) (r c : ℕ) (D : Descriptor) : Type 0 where
+  pub state : a .state ≡ numberOf (D .state)
+  pub region : r ≡ D .region
+  pub class : c ≡ D .class
+  pub chain : IfOpen (D .state) (ChainRelated nx a D)
+
+-- ---- the pool
+
+-- all but the tasks; the area has the started length
+pub record Core (regions : ℕ) (a : Memory) (m : Mem) : Type 0 where
+  pub tags : (ℓ : ℕ) → ℓ < 18 → a .head ℓ .tag ≡ wrap (m .won ℓ)
+  -- the lists of descriptors, and that of spare regions
+  pub rows : (ℓ : ℕ) → ℓ < 17 → Linked (a .descriptorNext) suc 0 (a .head ℓ .item) (m .row ℓ)
+  pub spareRow : Linked (a .regionNext) suc 0 (a .head REGIONS .item) (m .row REGIONS)
+  pub descriptorNexts : (d : ℕ) → d < 64 → a .descriptorNext d ≤ 64
+  pub regionNexts : (r : ℕ) → r < regions → a .regionNext r ≤ regions
+  pub descriptors : (d : ℕ) → d < 64
+      → DescriptorRelated (link (a .area)) (a .anchor d) (a .descriptorRegion d) (a .descriptorClass d) (m .descriptor d)
+  -- also of an EMPTY descriptor: its anchor, its region and its class are in their ranges
+  pub avails : (d : ℕ) → d < 64 → a .anchor d .avail ≤ 512
+  pub chainCounts : (d : ℕ) → d < 64 → a .anchor d .count ≤ 512
+  pub descriptorRegions : (d : ℕ) → d < 64 → a .descriptorRegion d < regions
+  pub descriptorClasses : (d : ℕ) → d < 64 → a .descriptorClass d < 16
+  pub maps : (r : ℕ) → r < regions → a .map r ≡ m .map r
+  pub marks : (u : ℕ) → u < 8192 → a .mark u ≡ m .hands u
+  pub length : lib.ListN.length (a .area) ≡ 4096 * regions
+
+pub record Related (regions : ℕ) (a : Memory) (m : Mem) : Type 0 where
+  pub core : Core regions a m
+  pub slots : (t : ℕ) → t < 8 → SlotRelated regions a m (a .slot t) (m .task t)

@@ -1,0 +1,260 @@
+-- The three demands, of the exported functions. Each law takes the contract of a function, `Contract call lent left r`: the call
+-- was lent the memories `lent`, left the memories `left`, and answered r. That every call ends so, whatever it is lent, is what
+-- the proofs of the functions say: they ask nothing of their caller.
+-- Assumes nothing.
+use mathlib.Core.Path.{_≡_, refl, sym, ap, subst, _∙_}
+use mathlib.Core.Logic.{_↔_, _⊎_, ⊎-elim, inl, inr}
+use mathlib.Core.Bool.{true, false≢true}
+use mathlib.Core.List.{List, [], _∷_}
+use Prim.Native.Nat.{ℕ, _%_, _<_}
+use borrow.Author.Tests.{eq-eqb, le-leb}
+use lib.Dec.{ltb, eqb}
+use lib.ListN.{length}
+use Rattle.fields.specs.Columns.{View}
+use Rattle.fields.specs.Little.{Bytes}
+use Rattle.links.specs.Link.{link, linked}
+use Rattle.classes.specs.Sizes.{classOf}
+use Rattle.plain.specs.Calls.{Pool, unstarted}
+use Rattle.plain.specs.Calls as Plain
+use Rattle.control.specs.Layout.{seen, changed, TaskPlace, TaskClass, Regions}
+use Rattle.control.specs.Answers.{numberOf}
+use Rattle.control.specs.declared.moves.Pop.the-variants.{Spare, Region}
+use Rattle.control.specs.declared.moves.Push.the-variants.{Back}
+use Rattle.stepped.specs.Steps.{stepAt}
+use Rattle.stepped.specs.Outcome.{Outcome}
+use Rattle.stepped.specs.Calls as Calls
+use Rattle.stepped.specs.Calls.{Tested}
+use Rattle.agreement.specs.Ends.{Leaves, oneOf, Goes, FindsEmpty, WinsPush, InPush, placeAfter, allocateRefusals, stepRefusals}
+use Rattle.stepped.specs.Outcome.{Memories}
+use Rattle.agreement.specs.Events.{stepped, whole, Premises}
+use Rattle.agreement.specs.Events as Events
+use Rattle.agreement.specs.Agreement.{Unstarted, Agree, Agrees, Unchanged, Untouched}
+use Rattle.agreement.proofs.Ways.{tests, branch}
+use Rattle.agreement.proofs.Ends.{start-ends, allocate-ends, step-ends, allocate-leaves, free-leaves, go-leaves, smallest-class, no-descriptor, no-region, put-back}
+use Rattle.agreement.proofs.SoundCalls.{step-place, step-others, allocate-others, free-others}
+use Rattle.agreement.proofs.Theorem.{agreement, agreement-from-start}
+use Rattle.pool.specs.Call.{Call, start, allocate, free, step, effectOf}
+use Rattle.demands.specs.Answers.{Refusal, Ended, OfAnother, Begun}
+use Rattle.demands.specs.Tests.{firstFailed, startTests, allocateTests, freeTests, stepTests}
+use Rattle.demands.specs.Runs.{Act, own, other, write, Contract, Happens, Run, after, eventOf, event, events, Answered, OtherLeft, Tells, Told}
+use Rattle.demands.proofs.Numbers.{refused, accepted, ends-told, end-told}
+use Rattle.demands.proofs.Failing.{start-first, allocate-first, free-first, step-first}
+use Rattle.demands.proofs.Acting.{Shows, shows}
+use Rattle.demands.proofs.Backing.{stays-back}
+
+-- ---- demand 1
+
+effect-leaves : (k : Call) (c a : List ℕ) → Leaves (effectOf k c a) c a
+effect-leaves (start tasks) c a = start-ends (length c) a tasks c a .leaves
+effect-leaves (allocate t size) c a = allocate-leaves c a t size
+effect-leaves (free t u) c a = free-leaves c a t u
+effect-leaves (step t) c a = go-leaves c a t
+
+-- "A refused call changes no byte."
+pub refused-changes-nothing : (k : Call) (lent left : Memories) (r : ℕ) → Contract k lent left r → Refusal r → left ≡ lent
+refused-changes-nothing k lent left r C h =
+    let R = refused (effectOf k (lent .control) (lent .area) .answer) (subst Refusal (C .number) h) in
+    let L = effect-leaves k (lent .control) (lent .area) (R .0) (R .1) in
+    λ i. record { control = (C .control-is ∙ L .0) i; area = (C .area-is ∙ L .1) i }
+
+-- ---- demand 2
+
+-- the beginning of an allocation writes no link
+no-links : (control area : ℕ) (v : View) (t size : ℕ) → Calls.allocateOutcome control area v t size .links ≡ []
+unfolding Calls.allocateOutcome Calls.whenIdle Calls.beginAllocate
+no-links control area v t size =
+    let P : Outcome → Type 0 = λ o. o .links ≡ [] in
+    tests P control area v t _ (λ n h. refl)
+    (λ T. branch P (ltb (v (TaskPlace t)) 34)
+    (λ e. branch P (eqb (v (TaskPlace t)) 0)
+    (λ f. branch P (eqb size 0) (λ g. refl) (λ g. branch P (ltb 256 size) (λ h. refl) (λ h. refl)))
+    (λ f. refl))
+    (λ e. refl))
+
+module _ (lent left : Memories) (r : ℕ) where
+  abbrev control : ℕ
+  control = length (lent .control)
+
+  abbrev area : ℕ
+  area = length (lent .area)
+
+  -- "A call is refused by the first of the paper's tests that it fails, and by nothing else": a start, and the beginning of a
+  -- request, answer the number of the first test that fails, and 0 where all pass.
+  pub start-refused-first : (tasks : ℕ) → Contract (start tasks) lent left r → r ≡ firstFailed (startTests control area tasks) 0
+  start-refused-first tasks C = C .number ∙ start-first control (lent .area) tasks (lent .control) (lent .area)
+
+  pub allocate-refused-first : (t size : ℕ) → Contract (allocate t size) lent left r
+      → r ≡ firstFailed (allocateTests control area (seen (lent .control)) t size) 0
+  unfolding Calls.allocate
+  allocate-refused-first t size C = C .number ∙ allocate-first control area (seen (lent .control)) t size
+
+  pub free-refused-first : (t u : ℕ) → Contract (free t u) lent left r
+      → r ≡ firstFailed (freeTests control area (seen (lent .control)) t u) 0
+  unfolding Calls.free
+  free-refused-first t u C = C .number ∙ free-first control area (seen (lent .control)) t u
+
+  -- a step answers the number of the first test that fails; where all pass, that of the step at the task's place
+  pub step-refused-first : (t : ℕ) → Contract (step t) lent left r
+      → let v = seen (lent .control) in
+      r
+      ≡ firstFailed (stepTests control area v t)
+      (numberOf (stepAt v (link (lent .area)) (v Regions) t (v (TaskClass t)) (v (TaskPlace t)) .answer))
+  unfolding Calls.go
+  step-refused-first t C = C .number ∙ step-first control area (seen (lent .control)) t (link (lent .area))
+
+  -- .. and a step is refused by the numbers of its tests alone, and by 14, where the step at its place reads a bad value
+  pub step-refused-by : (t : ℕ) → Contract (step t) lent left r → Refusal r → oneOf stepRefusals r ≡ true
+  unfolding Calls.go
+  step-refused-by t C h =
+      let o = Calls.stepOutcome control area (seen (lent .control)) (link (lent .area)) t in
+      let R = refused (o .answer) (subst Refusal (C .number) h) in
+      let G = subst (Goes stepRefusals) (R .1) (step-ends control area (seen (lent .control)) (link (lent .area)) t .answers) in
+      ap (oneOf stepRefusals) (C .number ∙ ap numberOf (R .1)) ∙ G
+
+  -- "A size gets the smallest class that holds it."
+  pub allocate-begins : (t size : ℕ) → Contract (allocate t size) lent left r → r ≡ 0
+      → Begun t size (lent .control) (lent .area) (left .control) (left .area)
+  unfolding Calls.allocate
+  allocate-begins t size C h =
+      let o = Calls.allocateOutcome control area (seen (lent .control)) t size in
+      let A = accepted allocateRefusals false≢true (o .answer) (allocate-ends control area (seen (lent .control)) t size .answers) (sym (C .number) ∙ h) in
+      let B = smallest-class control area (seen (lent .control)) t size A in
+      record {
+        class = classOf size;
+        is-class = B .class;
+        holds = B .holds;
+        smallest = B .smallest;
+        control-is = C .control-is ∙ ap (λ ws. changed ws (lent .control)) (B .writes);
+        area-is =
+            C .area-is
+            ∙ ap (λ ls. linked ls (lent .area)) (no-links control area (seen (lent .control)) t size);
+      }
+
+  -- the step of the call, by the definitions
+  module _ (t : ℕ) (C : Contract (step t) lent left r) where
+    abbrev o : Outcome
+    o = Calls.stepOutcome control area (seen (lent .control)) (link (lent .area)) t
+
+    answer-number : r ≡ numberOf (o .answer)
+    unfolding Calls.go
+    answer-number = C .number
+
+    -- "'No descriptor' .. only and always where the list read is empty": 12 is answered exactly where the task reads the head of
+    -- the list of spare descriptors and finds it empty.
+    pub twelve : (r ≡ 12) ↔ (Tested control area (seen (lent .control)) t × FindsEmpty Spare (seen (lent .control)) t)
+    twelve =
+        let E = no-descriptor control area (seen (lent .control)) (link (lent .area)) t in
+        let N = ends-told (o .answer) (step-ends control area (seen (lent .control)) (link (lent .area)) t .answers) in
+        (λ h. E .0 (N .0 (sym answer-number ∙ h)), λ f. answer-number ∙ ap numberOf (E .1 f))
+
+    -- "and 'no region'": 13 is answered exactly where the task wins the push of its descriptor back on the spare list.
+    pub thirteen : (r ≡ 13) ↔ (Tested control area (seen (lent .control)) t × WinsPush Back (seen (lent .control)) t)
+    thirteen =
+        let E = no-region control area (seen (lent .control)) (link (lent .area)) t in
+        let N = ends-told (o .answer) (step-ends control area (seen (lent .control)) (link (lent .area)) t .answers) in
+        (λ h. E .0 (N .1 (sym answer-number ∙ h)), λ f. answer-number ∙ ap numberOf (E .1 f))
+
+    -- what is lent are bytes, and so the control memory that is left tells where the step leads
+    module _ (bytes : Bytes (lent .control)) where
+      left-place : seen (left .control) (TaskPlace t) ≡ placeAfter o (seen (lent .control)) t
+      unfolding Calls.go
+      left-place = ap (λ (b : List ℕ). seen b (TaskPlace t)) (C .control-is) ∙ step-place area (link (lent .area)) t (lent .control) bytes
+
+      -- A task that is not in the push back comes to it exactly where it reads the head of the list of spare regions and finds it
+      -- empty;
+      pub to-thirteen : (InPush Back (seen (lent .control) (TaskPlace t)) → ⊥)
+          → InPush Back (seen (left .control) (TaskPlace t))
+          ↔ (Tested control area (seen (lent .control)) t × FindsEmpty Region (seen (lent .control)) t)
+      to-thirteen out =
+          let B = put-back control area (seen (lent .control)) (link (lent .area)) t out in
+          (λ i. B .0 (subst (InPush Back) left-place i), λ f. subst (InPush Back) (sym left-place) (B .1 f))
+
+      -- and a task that is in it stays there until it answers 13.
+      pub stays-thirteen : InPush Back (seen (lent .control) (TaskPlace t))
+          → (r ≡ 13) ⊎ InPush Back (seen (left .control) (TaskPlace t))
+      stays-thirteen here =
+          ⊎-elim (λ e. inl (answer-number ∙ ap numberOf e)) (λ i. inr (subst (InPush Back) (sym left-place) i))
+          (stays-back control area (seen (lent .control)) (link (lent .area)) t here)
+
+      -- "12 and 13 .. are a request's end .. and leave the task idle", and so does a finish.
+      pub ends-idle : Ended r → seen (left .control) (TaskPlace t) ≡ 0
+      ends-idle h =
+          let E = step-ends control area (seen (lent .control)) (link (lent .area)) t in
+          left-place ∙ E .idle (end-told (o .answer) (E .answers) (subst Ended answer-number h))
+
+-- No call of another task moves a task: between two of its own calls it is where it was, until the next start.
+pub others-stay : (k : Call) (lent left : Memories) (r : ℕ) → Contract k lent left r → Bytes (lent .control)
+    → (u : ℕ) → u < 8 → OfAnother u k → seen (left .control) (TaskPlace u) ≡ seen (lent .control) (TaskPlace u)
+unfolding Calls.go Calls.allocate Calls.free
+others-stay (start tasks) lent left r C bytes u h n = absurd n
+others-stay (allocate t size) lent left r C bytes u h n =
+    ap (λ (b : List ℕ). seen b (TaskPlace u)) (C .control-is)
+    ∙ allocate-others n (length (lent .area)) (lent .control) bytes h size
+others-stay (free t unit) lent left r C bytes u h n =
+    ap (λ (b : List ℕ). seen b (TaskPlace u)) (C .control-is)
+    ∙ free-others n (length (lent .area)) (lent .control) bytes h unit
+others-stay (step t) lent left r C bytes u h n =
+    ap (λ (b : List ℕ). seen b (TaskPlace u)) (C .control-is)
+    ∙ step-others n (length (lent .area)) (lent .control) bytes h (link (lent .area))
+
+-- ---- demand 3
+
+-- a refused call on other memories leaves them
+left-by : (a : Act) (s : Memories) → Happens a s → OtherLeft a
+left-by (own k left r) s H = tt
+left-by (other k lent left r) s H = refused-changes-nothing k lent left r (H .0)
+left-by (write at b) s H = tt
+
+-- one act, from what the stepped run and the whole run have at its event
+tells : (a : Act) (s : Memories) (p : Pool) → Happens a s → Shows a s → Agree (event a s ∷ []) s p → Tells a s p
+tells a s p H S A =
+    let y = stepped (event a s) s .1 in
+    record {
+      answered = subst (Answered a) (A .0 .0 .says) (S .answers);
+      agrees = subst (λ (z : Memories). Agrees (z, y) (whole (event a s) p)) (S .leaves) (A .0 .0);
+      other-left = left-by a s H;
+      unchanged = subst (λ (z : Memories). Unchanged s (z, y)) (S .leaves) (A .0 .1);
+      untouched = subst (λ (z : Memories). Untouched (event a s) s (z, y) p) (S .leaves) (A .0 .2);
+    }
+
+told : (rest : List Act) (s : Memories) (p : Pool) → Run rest s → Agree (events rest s) s p → Told rest s p
+told [] s p R A = tt
+told (a ∷ rest) s p R A =
+    let S = shows a s (R .0) in (
+      tells a s p (R .0) S (A .0, tt),
+      told rest (after a s) (whole (event a s) p .0) (R .1)
+          (subst (λ z. Agree (events rest (after a s)) z (whole (event a s) p .0)) (S .leaves) (A .1)),
+    )
+
+-- "For every list of calls with users' writes between them, the stepped run and the whole run (the plain pool) decide the same moves
+-- at the same calls, give the same code and value, never 14, and have after every call the same lists, chains and holders; each
+-- block of an open region is in exactly one place." Here the stepped run is made of the contracts of the exported functions. From
+-- any control memory that is not started.
+pub run-told : (acts : List Act) (s : Memories) → Unstarted s → Run acts s → Premises (events acts s) unstarted → Told acts s unstarted
+run-told acts s U R P = told acts s unstarted R (agreement (events acts s) s U P)
+
+-- a start whose lengths and number of tasks are right passes its tests
+accepted-tests : (control area tasks : ℕ) → control ≡ 8192 → Plain.Area area → Plain.Tasks tasks
+    → firstFailed (startTests control area tasks) 0 ≡ 0
+accepted-tests control area tasks l a t = rw (
+  eq-eqb control 8192 l,
+  eq-eqb (area % 4096) 0 (a .0),
+  le-leb 1 area (a .1 .0),
+  le-leb area 65536 (a .1 .1),
+  le-leb 1 tasks (t .0),
+  le-leb tasks 8 (t .1),
+)
+
+-- The same from a start on any memories, whose lengths and number of tasks are right; it is accepted.
+pub run-told-from-start : (acts : List Act) (s left : Memories) (tasks r : ℕ) (p : Pool) → length (s .control) ≡ 8192
+    → Plain.Area (length (s .area)) → Plain.Tasks tasks → Run (own (start tasks) left r ∷ acts) s
+    → Premises (events acts left) (whole (eventOf (start tasks) s) p .0) → (r ≡ 0) × Told (own (start tasks) left r ∷ acts) s p
+run-told-from-start acts s left tasks r p l a t R P =
+    let es = events acts left in
+    let A =
+    subst
+    (λ (n : ℕ). Premises es (whole (Events.start n (s .area) tasks) p .0) → Agree (Events.start n (s .area) tasks ∷ es) s p)
+    (sym l) (λ Q. agreement-from-start es s p (s .area) tasks a t Q) in (
+      start-refused-first s left r tasks (R .0) ∙ accepted-tests (length (s .control)) (length (s .area)) tasks l a t,
+      told (own (start tasks) left r ∷ acts) s p R (A P),
+    )

@@ -1,0 +1,130 @@
+-- What the number that a call answers tells of its answer. Assumes nothing.
+use mathlib.Core.Path.{_≡_, refl, sym, ap, _∙_}
+use mathlib.Core.Logic.{_≢_, _⊎_, ⊎-elim, inl, inr}
+use mathlib.Core.Bool.{Bool, true, false, _&&_, _||_, false≢true}
+use mathlib.Core.List.{List, [], _∷_}
+use Prim.Native.Nat.{ℕ, _+_, _*_, _<_}
+use native.Mathlib.Omega.{arith}
+use borrow.Author.Tests.{eqb-true, ltb-true}
+use lib.Dec.{eqb, ltb}
+use lib.ListN.{length}
+use Rattle.links.specs.Link.{link}
+use Rattle.plain.specs.Moves.{Decided}
+use Rattle.control.specs.Layout.{seen}
+use Rattle.control.specs.Answers.{codeOf, valueOf, numberOf}
+use Rattle.control.specs.declared.answer.Answer.{Answer}
+use Rattle.control.specs.declared.answer.Answer.the-variants.{Accepted, Allocated, Freed, NoDescriptor, NoRegion, Refused}
+use Rattle.agreement.specs.Ends.{oneOf, Begins, Goes, IsEnd, startRefusals, allocateRefusals, freeRefusals, stepRefusals}
+use Rattle.stepped.specs.Calls as Calls
+use Rattle.stepped.proofs.Conjunction.{left-true, right-true}
+use Rattle.agreement.proofs.Ends.{start-ends, allocate-ends, free-ends, step-ends}
+use Rattle.pool.specs.Call.{Call, start, allocate, free, step, effectOf}
+use Rattle.demands.specs.Answers.{Refusal, Ended}
+use Rattle.demands.specs.Runs.{Number}
+
+-- ---- the codes are below 256, so that the number tells code and value
+
+small : List ℕ → Bool
+small [] = true
+small (m ∷ ms) = ltb m 256 && small ms
+
+pick : (a b : Bool) → (a || b) ≡ true → (a ≡ true) ⊎ (b ≡ true)
+pick true b h = inl refl
+pick false b h = inr h
+
+among : (ns : List ℕ) (n : ℕ) → small ns ≡ true → oneOf ns n ≡ true → n < 256
+unfolding small
+among [] n s h = absurd (false≢true h)
+among (m ∷ ms) n s h =
+    ⊎-elim (λ e. omega (arith, eqb-true n m e, ltb-true m 256 (left-true (ltb m 256) (small ms) s)))
+    (λ e. among ms n (right-true (ltb m 256) (small ms) s) e) (pick (eqb n m) (oneOf ms n) h)
+
+begins-small : (ns : List ℕ) → small ns ≡ true → (a : Answer) → Begins ns a → codeOf a < 256
+begins-small ns s Accepted b = omega arith
+begins-small ns s (Allocated u) b = omega arith
+begins-small ns s Freed b = omega arith
+begins-small ns s NoDescriptor b = omega arith
+begins-small ns s NoRegion b = omega arith
+begins-small ns s (Refused n) b = among ns n s b
+
+goes-small : (ns : List ℕ) → small ns ≡ true → (a : Answer) → Goes ns a → codeOf a < 256
+goes-small ns s Accepted b = omega arith
+goes-small ns s (Allocated u) b = omega arith
+goes-small ns s Freed b = omega arith
+goes-small ns s NoDescriptor b = omega arith
+goes-small ns s NoRegion b = omega arith
+goes-small ns s (Refused n) b = among ns n s b
+
+-- the code of every exported call
+pub code-small : (k : Call) (c a : List ℕ) → codeOf (effectOf k c a .answer) < 256
+unfolding small Calls.allocate Calls.free Calls.go
+code-small (start tasks) c a =
+    begins-small startRefusals refl (Calls.start c a tasks .answer) (start-ends (length c) a tasks c a .answers)
+code-small (allocate t size) c a =
+    begins-small allocateRefusals refl (Calls.allocate c a t size .answer)
+    (allocate-ends (length c) (length a) (seen c) t size .answers)
+code-small (free t u) c a =
+    begins-small freeRefusals refl (Calls.free c a t u .answer) (free-ends (length c) (length a) (seen c) t u .answers)
+code-small (step t) c a =
+    goes-small stepRefusals refl (Calls.go c a t .answer) (step-ends (length c) (length a) (seen c) (link a) t .answers)
+
+-- the number is the code and 256 times the value
+number-is : (a : Answer) → numberOf a ≡ codeOf a + 256 * valueOf a
+number-is Accepted = refl
+number-is (Allocated u) = refl
+number-is Freed = refl
+number-is NoDescriptor = refl
+number-is NoRegion = refl
+number-is (Refused n) = omega arith
+
+-- a number r that is that of the answer b, which a is, tells its code and its value
+pub told-as : (a b : Answer) (d : Decided) {r : ℕ} → r ≡ numberOf b → b ≡ a → codeOf b < 256
+    → Number r (record { code = codeOf a; value = valueOf a; decided = d })
+told-as a b d {r} e p l =
+    let n : r ≡ codeOf b + 256 * valueOf b = e ∙ number-is b in
+    let c : codeOf b ≡ codeOf a = ap codeOf p in
+    let v : valueOf b ≡ valueOf a = ap valueOf p in
+    record { code = omega (arith, n, c, l); value = omega (arith, n, v, l) }
+
+-- a refusal's number tells the answer
+pub refused : (a : Answer) → Refusal (numberOf a) → (n : ℕ) × (a ≡ Refused n)
+refused Accepted h = absurd (omega (arith, h .0, h .1))
+refused (Allocated u) h = absurd (omega (arith, h .0, h .1))
+refused Freed h = absurd (omega (arith, h .0, h .1))
+refused NoDescriptor h = absurd (h .2 refl)
+refused NoRegion h = absurd (h .3 refl)
+refused (Refused n) h = (n, refl)
+
+-- the number 0 tells that a beginning is accepted, if no 0 is among the numbers that refuse it
+pub accepted : (ns : List ℕ) → oneOf ns 0 ≢ true → (a : Answer) → Begins ns a → numberOf a ≡ 0 → a ≡ Accepted
+accepted ns h Accepted b e = refl
+accepted ns h (Allocated u) b e = absurd b
+accepted ns h Freed b e = absurd b
+accepted ns h NoDescriptor b e = absurd b
+accepted ns h NoRegion b e = absurd b
+accepted ns h (Refused n) b e = absurd (h (ap (oneOf ns) (sym e) ∙ b))
+
+-- no other number than those of its tests refuses a step
+not-among : {n : ℕ} (m : ℕ) → oneOf stepRefusals n ≡ true → oneOf stepRefusals m ≡ false → n ≡ m → ⊥
+not-among m g h e = false≢true (sym h ∙ ap (oneOf stepRefusals) (sym e) ∙ g)
+
+-- the numbers 12 and 13 tell that a step found no descriptor and no region: neither is among the numbers that refuse it
+pub ends-told : (a : Answer) → Goes stepRefusals a → (numberOf a ≡ 12 → a ≡ NoDescriptor) × (numberOf a ≡ 13 → a ≡ NoRegion)
+ends-told Accepted g = (λ e. absurd (omega arith), λ e. absurd (omega arith))
+ends-told (Allocated u) g = (λ e. absurd (omega arith), λ e. absurd (omega arith))
+ends-told Freed g = (λ e. absurd (omega arith), λ e. absurd (omega arith))
+ends-told NoDescriptor g = (λ e. refl, λ e. absurd (omega arith))
+ends-told NoRegion g = (λ e. absurd (omega arith), λ e. refl)
+ends-told (Refused n) g = (λ e. absurd (not-among 12 g refl e), λ e. absurd (not-among 13 g refl e))
+
+-- the numbers of a request's end tell that it has ended
+pub end-told : (a : Answer) → Goes stepRefusals a → Ended (numberOf a) → IsEnd a
+unfolding small
+end-told Accepted g e = ⊎-elim (λ h. absurd (omega (arith, h))) (λ f. ⊎-elim (λ h. absurd (omega (arith, h))) (λ h. absurd (omega (arith, h))) f) e
+end-told (Allocated u) g e = tt
+end-told Freed g e = tt
+end-told NoDescriptor g e = tt
+end-told NoRegion g e = tt
+end-told (Refused n) g e =
+    ⊎-elim (not-among 12 g refl)
+    (λ f. ⊎-elim (not-among 13 g refl) (λ h. not-among {n = n} 20 g refl (omega (arith, h, among stepRefusals n refl g))) f) e

@@ -1,0 +1,122 @@
+-- Runs made of the exported functions' contracts, with users' writes between the calls; and what demand 3 says of them.
+-- Assumes nothing.
+use mathlib.Core.Path.{_≡_}
+use mathlib.Core.Logic.{_≢_, _⊎_}
+use mathlib.Core.Bool.{cond}
+use mathlib.Core.List.{List, [], _∷_}
+use Prim.Native.Nat.{ℕ, _*_, _/_, _%_}
+use lib.Dec.{eqb}
+use lib.ListN.{length, set}
+use Rattle.plain.specs.Moves.{Answer}
+use Rattle.plain.specs.Calls.{Pool}
+use Rattle.control.specs.Layout.{Tasks, Regions, seen}
+use Rattle.stepped.specs.Outcome.{Memories}
+use Rattle.agreement.specs.Events.{Event, stepped, whole}
+use Rattle.agreement.specs.Events as Events
+use Rattle.agreement.specs.Agreement.{Agrees, Unchanged, Untouched}
+use Rattle.pool.specs.Call.{Call, start, allocate, free, step, Ensures}
+use Rattle.demands.specs.Answers.{Refusal}
+
+-- What happens to a pool: a call on its memories leaves the memories `left` and answers `number`; a call on other memories, lent
+-- as `lent`; a user writes the byte b at the place `at` of the area.
+pub data Act : Type 0 where
+  own : (call : Call) (left : Memories) (number : ℕ) → Act
+  other : (call : Call) (lent left : Memories) (number : ℕ) → Act
+  write : (at b : ℕ) → Act
+
+-- the contract of the exported function, on memories
+abbrev pub Contract : Call → Memories → Memories → ℕ → Type 0
+Contract k lent left number = Ensures k (lent .control) (lent .area) (left .control) (left .area) number
+
+-- "A call that is lent another length": a control memory that is not of 8,192 bytes, or the pool's with an area that is not of the
+-- started length; while the pool is not started, any area.
+abbrev pub OtherLength : Memories → Memories → Type 0
+OtherLength s lent =
+    (length (lent .control) ≢ 8192)
+    ⊎ ((lent .control ≡ s .control)
+    × ((length (lent .area) ≢ 4096 * seen (s .control) Regions) ⊎ (seen (s .control) Tasks ≡ 0)))
+
+-- Other memories that a call may be lent: a start any, every other call those of another length.
+abbrev pub Lendable : Call → Memories → Memories → Type 0
+Lendable (start tasks) s lent = Unit {0}
+Lendable (allocate t size) s lent = OtherLength s lent
+Lendable (free t u) s lent = OtherLength s lent
+Lendable (step t) s lent = OtherLength s lent
+
+-- all that is known of an act is the contract of the function that was called
+abbrev pub Happens : Act → Memories → Type 0
+Happens (own k left number) s = Contract k s left number
+Happens (other k lent left number) s = Contract k lent left number × Lendable k s lent
+Happens (write at b) s = Unit {0}
+
+-- The pool's memories after a call on others: "a later accepted start sets both runs anew"; any other "touches nothing".
+abbrev pub afterOther : Call → Memories → ℕ → Memories → Memories
+afterOther (start tasks) left number s = cond (eqb number 0) left s
+afterOther (allocate t size) left number s = s
+afterOther (free t u) left number s = s
+afterOther (step t) left number s = s
+
+abbrev pub after : Act → Memories → Memories
+after (own k left number) s = left
+after (other k lent left number) s = afterOther k left number s
+after (write at b) s = record { control = s .control; area = set (s .area) at b }
+
+-- acts one after the other, from the memories s
+abbrev pub Run : List Act → Memories → Type 0
+Run [] s = Unit {0}
+Run (a ∷ rest) s = Happens a s × Run rest (after a s)
+
+-- ---- the whole run beside it
+
+-- what the plain pool is fed of a call: its numbers and the lengths lent
+abbrev pub eventOf : Call → Memories → Event
+eventOf (start tasks) s = Events.start (length (s .control)) (s .area) tasks
+eventOf (allocate t size) s = Events.allocate (length (s .control)) (length (s .area)) t size
+eventOf (free t u) s = Events.free (length (s .control)) (length (s .area)) t u
+eventOf (step t) s = Events.go (length (s .control)) (length (s .area)) t
+
+abbrev pub event : Act → Memories → Event
+event (own k left number) s = eventOf k s
+event (other k lent left number) s = eventOf k lent
+event (write at b) s = Events.write at b
+
+abbrev pub events : List Act → Memories → List Event
+events [] s = []
+events (a ∷ rest) s = event a s ∷ events rest (after a s)
+
+-- "code + 256 × value": the number tells the code and the value of y
+pub record Number (number : ℕ) (y : Answer) : Type 0 where
+  pub code : number % 256 ≡ y .code
+  pub value : number / 256 ≡ y .value
+
+-- the number that a call answered is that of y; a user's write answers nothing
+abbrev pub Answered : Act → Answer → Type 0
+Answered (own k left number) y = Number number y
+Answered (other k lent left number) y = Number number y
+Answered (write at b) y = Unit {0}
+
+-- a call on other memories that was refused left them as they were, too
+abbrev pub OtherLeft : Act → Type 0
+OtherLeft (own k left number) = Unit {0}
+OtherLeft (other k lent left number) = Refusal number → left ≡ lent
+OtherLeft (write at b) = Unit {0}
+
+-- the memories after an act, and beside them the answer and the decided move by the definitions: the move is no byte
+abbrev pub shown : Act → Memories → Memories × Answer
+shown a s = (after a s, stepped (event a s) s .1)
+
+-- What demand 3, and demand 1's last sentence, say of one act: the plain pool p gives the same code and value and decides the same
+-- move, never 14; afterwards both have the same lists, chains and holders, each block of an open region in exactly one place; a
+-- refused call left the pool's memories as they were, and the memories that it was lent; and no call changed a byte of a block in a
+-- user's hands.
+pub record Tells (a : Act) (s : Memories) (p : Pool) : Type 0 where
+  pub answered : Answered a (whole (event a s) p .1)
+  pub agrees : Agrees (shown a s) (whole (event a s) p)
+  pub unchanged : Unchanged s (shown a s)
+  pub other-left : OtherLeft a
+  pub untouched : Untouched (event a s) s (shown a s) p
+
+-- every act of the run, in its order
+abbrev pub Told : List Act → Memories → Pool → Type 0
+Told [] s p = Unit {0}
+Told (a ∷ rest) s p = Tells a s p × Told rest (after a s) (whole (event a s) p .0)

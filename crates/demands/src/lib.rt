@@ -1,0 +1,1 @@
+// The three demands, restated of the exported functions: definitions and laws. It has no code.

@@ -1,0 +1,146 @@
+-- The stand on bytes beside the stand over the plain pool: each request is answered by the same number, and keeps them beside each
+-- other. Assumes nothing.
+use Prim.Native.Nat.{ℕ, suc, _*_, _≤_, _<_}
+use mathlib.Core.Path.{_≡_, refl, sym, ap, subst, _∙_}
+use mathlib.Core.List.{[], _∷_}
+use native.Mathlib.Omega.{arith}
+use native.Mathlib.Decide.{ℕ-discrete}
+use borrow.Author.Tests.{eq-eqb, ne-eqb, le-ltb}
+use borrow.Rule.Slice.PartMut.{midOf}
+use lib.ListN.{length}
+use Rattle.links.specs.Link.{link}
+use Rattle.links.proofs.Links.{length-linked}
+use Rattle.plain.specs.Moves.{Answer}
+use Rattle.plain.specs.Codes.{AtMost}
+use Rattle.plain.specs.Calls.{Pool}
+use Rattle.plain.specs.Calls as Calls
+use Rattle.plain.proofs.Answers.{most}
+use Rattle.control.specs.Layout.{Tasks, seen}
+use Rattle.control.specs.Answers.{numberOf}
+use Rattle.stepped.specs.Outcome.{Effect}
+use Rattle.stepped.specs.Calls as Stepped
+use Rattle.stepped.specs.Outcome.{Memories}
+use Rattle.agreement.specs.Events.{stepped, whole, Premise}
+use Rattle.agreement.proofs.Simulation.{Sim}
+use Rattle.agreement.proofs.Runs.{short}
+use Rattle.agreement.proofs.Theorem.{alike}
+use Rattle.pool.specs.Call.{Call, effectOf}
+use Rattle.pool.specs.Call as Call
+use Rattle.demands.specs.Runs.{own, eventOf, Number}
+use Rattle.demands.proofs.Acting.{shows}
+use Rattle.schedule.specs.Stand.{allocate, free, step}
+use Rattle.schedule.specs.Bytes.{lentRegions, lending, onBytes}
+use Rattle.schedule.specs.Plain.{numberIn, feeding, startedRegions, onPlain}
+use Rattle.stand_agreement.proofs.Parts.{part-length, part-back, back-length}
+use Rattle.stand_agreement.proofs.Fed.{SameStart, allocate-keeps, free-keeps, go-keeps, same-regions}
+
+-- the memories that a call is lent with n regions
+abbrev pub partOf : ℕ → Memories → Memories
+partOf n s = record { control = s .control; area = midOf 0 (4096 * n) (s .area) }
+
+-- No list has won more than n exchanges.
+pub record Beside (n : ℕ) (s : Memories) (p : Pool) : Type 0 where
+  pub area-is : length (s .area) ≡ 16384
+  pub few : startedRegions p ≤ 4
+  pub sim : Sim (partOf (startedRegions p) s) p
+  pub most-won : AtMost n p
+
+-- after more calls
+pub later : {n m : ℕ} {s : Memories} {p : Pool} → n ≤ m → Beside n s p → Beside m s p
+later h B = record { area-is = B .area-is; few = B .few; sim = B .sim; most-won = λ k ℓ. omega (arith, h, B .most-won k ℓ) }
+
+-- a number is its code and 256 times its value
+pub sum : {n : ℕ} {y : Answer} → Number n y → n ≡ numberIn y
+sum N = omega (arith, N .code, N .value)
+
+-- the same answer, and beside each other again
+pub record Same (n : ℕ) (x : Memories × ℕ) (y : Pool × ℕ) : Type 0 where
+  pub number : x .1 ≡ y .1
+  pub beside : Beside n (x .0) (y .0)
+
+module _ {n : ℕ} {s : Memories} {p : Pool} (B : Beside n s p) (small : n < 4294967296) where
+  abbrev regions : ℕ
+  regions = startedRegions p
+
+  abbrev lent : Memories
+  lent = partOf regions s
+
+  -- the stand lends what the plain pool is fed
+  lent-same : lentRegions (seen (s .control)) ≡ startedRegions p
+  lent-same = by (ℕ-discrete (p .tasks) 0)
+    where
+      by : Dec (p .tasks ≡ 0) → lentRegions (seen (s .control)) ≡ startedRegions p
+      by (yes e) = rw (eq-eqb (seen (s .control) Tasks) 0 (B .sim .tasks ∙ e), eq-eqb (p .tasks) 0 e) refl
+      by (no k) =
+          let q : startedRegions p ≡ p .regions = rw (ne-eqb (p .tasks) 0 k) refl in
+          rw (ne-eqb (seen (s .control) Tasks) 0 (λ e. k (sym (B .sim .tasks) ∙ e)), B .sim .regions (omega arith), le-ltb 4 (p .regions) (omega (arith, B .few, q)), ne-eqb (p .tasks) 0 k) refl
+
+  part-is : length (lent .area) ≡ 4096 * regions
+  part-is = part-length (4096 * regions) (s .area) (omega (arith, B .few, B .area-is))
+
+  -- ---- a call that is no start, by its own effect
+
+  module _ (q : Call) (c : Calls.Call) (is : whole (eventOf q lent) p ≡ Calls.call c p) (premise : Premise (eventOf q lent) p)
+      (long : length (effectOf q (lent .control) (lent .area) .area) ≡ length (lent .area)) (keeps : SameStart p (Calls.call c p .0)) where
+    abbrev e : Effect
+    e = effectOf q (lent .control) (lent .area)
+
+    abbrev left : Memories
+    left = record { control = e .control; area = e .area }
+
+    same-call : Same (suc n) (lending q (4096 * regions) s) (feeding c p)
+    same-call =
+        let S = shows (own q left (numberOf (e .answer))) lent (record { number = refl; control-is = refl; area-is = refl }) in
+        let A = alike (eventOf q lent) lent p (B .sim) premise in
+        let p′ = Calls.call c p .0 in
+        let r = same-regions p p′ keeps in
+        let s′ : Memories = lending q (4096 * regions) s .0 in
+        let back : partOf regions s′ ≡ left = λ i. record { control = e .control; area = part-back (4096 * regions) (s .area) (e .area) (long ∙ part-is) i } in
+        record {
+          number = sum (S .answers) ∙ ap numberIn (A .says) ∙ ap (λ x. numberIn (x .1)) is;
+          beside = record {
+            area-is = back-length (4096 * regions) (s .area) (e .area) (omega (arith, B .few, B .area-is)) (long ∙ part-is) ∙ B .area-is;
+            few = omega (arith, B .few, r);
+            sim =
+                subst (λ (z : Memories). Sim z p′) (S .leaves ∙ sym (ap (λ (k : ℕ). partOf k s′) r ∙ back))
+                (subst (λ x. Sim (stepped (eventOf q lent) lent .0) (x .0)) is (A .sim));
+            most-won = most n c p (B .most-won);
+          };
+        }
+
+  -- ---- the calls
+
+  -- a step meets the premise: no list has won so many exchanges
+  near : (t : ℕ) → Premise (eventOf (Call.step t) lent) p
+  near t = short n (eventOf (Call.step t) lent ∷ []) p (B .most-won) (omega (arith, small)) tt .0
+
+  as-fed : (f : ℕ → ℕ → Calls.Call) → Calls.call (f (length (lent .control)) (length (lent .area))) p ≡ Calls.call (f 8192 (4096 * regions)) p
+  as-fed f =
+      ap (λ (k : ℕ). Calls.call (f k (length (lent .area))) p) (B .sim .length)
+      ∙ ap (λ (k : ℕ). Calls.call (f 8192 k) p) part-is
+
+  -- the call is lent so many regions as the stand's definition says
+  lends : (q : Call) (y : Pool × ℕ) → Same (suc n) (lending q (4096 * regions) s) y
+      → Same (suc n) (lending q (4096 * lentRegions (seen (s .control))) s) y
+  lends q y h = subst (λ (k : ℕ). Same (suc n) (lending q (4096 * k) s) y) (sym lent-same) h
+
+  pub same-allocate : (t size : ℕ) → Same (suc n) (onBytes (allocate t size) s) (onPlain (allocate t size) p)
+  unfolding Stepped.allocate
+  same-allocate t size =
+      lends (Call.allocate t size) _
+      (same-call (Call.allocate t size) (Calls.allocate 8192 (4096 * regions) t size)
+      (as-fed (λ k l. Calls.allocate k l t size)) tt (length-linked (Stepped.allocateOutcome (length (lent .control)) (length (lent .area)) (seen (lent .control)) t size .links) (lent .area)) (allocate-keeps 8192 (4096 * regions) t p size))
+
+  pub same-free : (t u : ℕ) → Same (suc n) (onBytes (free t u) s) (onPlain (free t u) p)
+  unfolding Stepped.free
+  same-free t u =
+      lends (Call.free t u) _
+      (same-call (Call.free t u) (Calls.free 8192 (4096 * regions) t u)
+      (as-fed (λ k l. Calls.free k l t u)) tt (length-linked (Stepped.freeOutcome (length (lent .control)) (length (lent .area)) (seen (lent .control)) t u .links) (lent .area)) (free-keeps 8192 (4096 * regions) t p u))
+
+  pub same-step : (t : ℕ) → Same (suc n) (onBytes (step t) s) (onPlain (step t) p)
+  unfolding Stepped.go
+  same-step t =
+      lends (Call.step t) _
+      (same-call (Call.step t) (Calls.go 8192 (4096 * regions) t)
+      (as-fed (λ k l. Calls.go k l t)) (near t) (length-linked (Stepped.stepOutcome (length (lent .control)) (length (lent .area)) (seen (lent .control)) (link (lent .area)) t .links) (lent .area)) (go-keeps 8192 (4096 * regions) t p))

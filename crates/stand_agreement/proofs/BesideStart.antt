@@ -1,0 +1,145 @@
+-- A start keeps the stand on bytes beside the stand over the plain pool. Assumes nothing.
+use Prim.Native.Nat.{ℕ, suc, _*_, _≤_, _<_}
+use mathlib.Core.Path.{_≡_, refl, sym, ap, subst, _∙_}
+use mathlib.Core.Logic.{_≢_}
+use mathlib.Core.Bool.{Bool, cond}
+use native.Mathlib.Omega.{arith}
+use native.Mathlib.Decide.{decLt}
+use borrow.Author.Tests.{eq-eqb, ne-eqb, lt-ltb, le-ltb}
+use borrow.Rule.Slice.PartMut.{putMid, put-same}
+use lib.Dec.{eqb}
+use lib.ListN.{length}
+use Rattle.plain.specs.Moves.{Answer}
+use Rattle.plain.specs.Calls.{Pool}
+use Rattle.plain.specs.Calls as Calls
+use Rattle.plain.proofs.Answers.{most}
+use Rattle.control.specs.Answers.{codeOf, numberOf}
+use Rattle.control.specs.declared.answer.Answer.the-variants.{Accepted, Allocated, Freed, NoDescriptor, NoRegion, Refused}
+use Rattle.control.specs.declared.answer.Answer as A
+use Rattle.stepped.specs.Outcome.{Effect}
+use Rattle.agreement.specs.Ends.{Begins, startRefusals}
+use Rattle.stepped.specs.Outcome.{Memories}
+use Rattle.agreement.specs.Events.{stepped, whole}
+use Rattle.agreement.proofs.Simulation.{Sim}
+use Rattle.agreement.proofs.Ends.{start-ends}
+use Rattle.agreement.proofs.Lent.{start-leaves}
+use Rattle.agreement.proofs.Theorem.{alike}
+use Rattle.pool.specs.Call.{Call, effectOf}
+use Rattle.pool.specs.Call as Call
+use Rattle.demands.specs.Runs.{other, eventOf}
+use Rattle.demands.proofs.Acting.{shows}
+use Rattle.schedule.specs.Stand.{start}
+use Rattle.schedule.specs.Bytes.{lending, onBytes}
+use Rattle.schedule.specs.Plain.{numberIn, feeding, startedRegions, onPlain}
+use Rattle.stand_agreement.proofs.Parts.{part-length, part-back, back-length}
+use Rattle.stand_agreement.proofs.Fed.{StartIs, accepted, refused, start-is}
+use Rattle.stand_agreement.proofs.Beside.{partOf, Beside, later, sum, Same}
+
+-- a number that is 0 has the code 0, and the code of a beginning tells its number
+code-zero : (y : Answer) → numberIn y ≡ 0 → y .code ≡ 0
+code-zero y e = omega arith
+
+-- the answer of a start is accepted, or a refusal
+number-code : (a : A.Answer) → Begins startRefusals a → numberOf a ≡ codeOf a
+number-code Accepted b = refl
+number-code (Allocated u) b = absurd b
+number-code Freed b = absurd b
+number-code NoDescriptor b = absurd b
+number-code NoRegion b = absurd b
+number-code (Refused n) b = refl
+
+refusal : (a : A.Answer) → Begins startRefusals a → numberOf a ≢ 0 → (n : ℕ) × (a ≡ Refused n)
+refusal Accepted b h = absurd (h refl)
+refusal (Allocated u) b h = absurd b
+refusal Freed b h = absurd b
+refusal NoDescriptor b h = absurd b
+refusal NoRegion b h = absurd b
+refusal (Refused n) b h = (n, refl)
+
+module _ {n : ℕ} {s : Memories} {p : Pool} (B : Beside n s p) (tasks regions : ℕ) (few : regions ≤ 4) where
+  abbrev lent : Memories
+  lent = partOf regions s
+
+  abbrev e : Effect
+  e = effectOf (Call.start tasks) (lent .control) (lent .area)
+
+  abbrev r : ℕ
+  r = numberOf (e .answer)
+
+  abbrev left : Memories
+  left = record { control = e .control; area = e .area }
+
+  abbrev before : Memories
+  before = partOf (startedRegions p) s
+
+  abbrev c : Calls.Call
+  c = Calls.start 8192 (4096 * regions) tasks
+
+  part-is : length (lent .area) ≡ 4096 * regions
+  part-is = part-length (4096 * regions) (s .area) (omega (arith, few, B .area-is))
+
+  fed : whole (eventOf (Call.start tasks) lent) p ≡ Calls.call c p
+  fed =
+      ap (λ (k : ℕ). Calls.call (Calls.start k (length (lent .area)) tasks) p) (B .sim .length)
+      ∙ ap (λ (k : ℕ). Calls.call (Calls.start 8192 k tasks) p) part-is
+
+  -- what the stepped run and the whole run have of it
+  number-same : r ≡ numberIn (Calls.call c p .1)
+  number-same =
+      let S = shows (other (Call.start tasks) lent left r) before (record { number = refl; control-is = refl; area-is = refl }, tt) in
+      let A = alike (eventOf (Call.start tasks) lent) before p (B .sim) tt in
+      sum (S .answers) ∙ ap numberIn (A .says) ∙ ap (λ x. numberIn (x .1)) fed
+
+  sim-after : Sim (cond (eqb r 0) left before) (Calls.call c p .0)
+  sim-after =
+      let S = shows (other (Call.start tasks) lent left r) before (record { number = refl; control-is = refl; area-is = refl }, tt) in
+      let A = alike (eventOf (Call.start tasks) lent) before p (B .sim) tt in
+      subst (λ (z : Memories). Sim z (Calls.call c p .0)) (S .leaves)
+      (subst (λ x. Sim (stepped (eventOf (Call.start tasks) lent) before .0) (x .0)) fed (A .sim))
+
+  answers : Begins startRefusals (e .answer)
+  answers = start-ends (length (lent .control)) (lent .area) tasks (lent .control) (lent .area) .answers
+
+  abbrev s′ : Memories
+  s′ = lending (Call.start tasks) (4096 * regions) s .0
+
+  abbrev p′ : Pool
+  p′ = Calls.call c p .0
+
+  accepted-beside : r ≡ 0 → 1 ≤ p′ .tasks → p′ .regions ≡ regions → Beside (suc n) s′ p′
+  accepted-beside h k g =
+      let kept : e .area ≡ lent .area = start-leaves (lent .area) tasks (length (lent .control)) (lent .control) (lent .area) (sym (number-code (e .answer) answers) ∙ h) in
+      let long : length (e .area) ≡ 4096 * regions = ap length kept ∙ part-is in
+      let q : startedRegions p′ ≡ regions = ap (λ (b : Bool). cond b 0 (p′ .regions)) (ne-eqb (p′ .tasks) 0 (λ z. omega arith)) ∙ g in
+      let back : partOf regions s′ ≡ left = λ i. record { control = e .control; area = part-back (4096 * regions) (s .area) (e .area) long i } in
+      record {
+        area-is = back-length (4096 * regions) (s .area) (e .area) (omega (arith, few, B .area-is)) long ∙ B .area-is;
+        few = omega (arith, few, q);
+        sim =
+            subst (λ (z : Memories). Sim z p′)
+            (ap (λ (b : Bool). cond b left before) (eq-eqb r 0 h) ∙ sym (ap (λ (k : ℕ). partOf k s′) q ∙ back)) sim-after;
+        most-won = most n c p (B .most-won);
+      }
+
+  refused-beside : r ≢ 0 → p′ ≡ p → Beside (suc n) s′ p′
+  refused-beside h k =
+      let R = refusal (e .answer) answers h in
+      let L = start-ends (length (lent .control)) (lent .area) tasks (lent .control) (lent .area) .leaves (R .0) (R .1) in
+      let same : s ≡ s′ = sym ((λ i. record { control = L .0 i; area = putMid 0 (4096 * regions) (s .area) (L .1 i) }) ∙ (λ i. record { control = s .control; area = put-same 0 (4096 * regions) (s .area) i })) in
+      subst (λ (z : Memories). Beside (suc n) z p′) same (subst (λ (z : Pool). Beside (suc n) s z) (sym k) (later (omega arith) B))
+
+  by : StartIs tasks regions p (Calls.call c p) → Beside (suc n) s′ p′
+  by (accepted z k g) = accepted-beside (number-same ∙ z) k g
+  by (refused z k) = refused-beside (λ h. z (code-zero (Calls.call c p .1) (sym number-same ∙ h))) k
+
+  pub same-lent : Same (suc n) (lending (Call.start tasks) (4096 * regions) s) (feeding c p)
+  same-lent = record { number = number-same; beside = by (start-is tasks regions p) }
+
+-- "more than 4 regions is 2", in both
+pub same-start : {n : ℕ} {s : Memories} {p : Pool} → Beside n s p → (tasks regions : ℕ)
+    → Same (suc n) (onBytes (start tasks regions) s) (onPlain (start tasks regions) p)
+same-start {n} {s} {p} B tasks regions = by-regions (decLt 4 regions)
+  where
+    by-regions : Dec (4 < regions) → Same (suc n) (onBytes (start tasks regions) s) (onPlain (start tasks regions) p)
+    by-regions (yes h) = rw (lt-ltb 4 regions h) (record { number = refl; beside = later (omega arith) B })
+    by-regions (no h) = rw (le-ltb 4 regions (omega arith)) (same-lent B tasks regions (omega arith))

@@ -1,0 +1,165 @@
+-- The table of a schedule: the stand on bytes writes the lines and the totals of the stand over the plain pool.
+-- Assumes nothing.
+use Prim.Native.Nat.{ℕ, zero, suc, _+_, _*_, _%_, _-_, _≤_, _<_}
+use mathlib.Core.Path.{_≡_, refl, sym, ap, _∙_}
+use mathlib.Core.List.{List, _∷_}
+use native.Mathlib.Omega.{arith}
+use native.Mathlib.Decide.{ℕ-discrete, decLt}
+use borrow.Author.Tests.{eq-eqb, ne-eqb, lt-ltb, le-ltb, leb-true}
+use lib.Dec.{eqb, leb}
+use lib.ListN.{length, getD, length-replicate}
+use Rattle.fields.specs.Little.{Bytes, getLE}
+use Rattle.fields.proofs.Numbers.{getLE-lt}
+use Rattle.plain.specs.Calls.{Pool, unstarted}
+use Rattle.fields.specs.Columns.{at as atColumn, width}
+use Rattle.control.specs.Layout.{layout, Tasks}
+use Rattle.stepped.specs.Outcome.{Memories}
+use Rattle.agreement.proofs.Images.{zeros as zeros-are, getLE-zeros}
+use Rattle.agreement.proofs.Unstarted.{unstarted-sim}
+use Rattle.agreement.proofs.Ways.{branch}
+use Rattle.schedule.specs.declared.record.Record.{Record}
+use Rattle.schedule.specs.declared.record.Record.the-variants.{Start, Allocate, Free, Step, Run, Bad}
+use Rattle.schedule.specs.declared.tally.Tally.{Tally}
+use Rattle.schedule.specs.declared.treat.Line.{Line}
+use Rattle.schedule.specs.Records.{wideOf, recordAt, entryAt, endOf}
+use Rattle.schedule.specs.Tally.{none, counted}
+use Rattle.schedule.specs.Stand.{Request, start, allocate, free, step, lineOf, runs, treated, table}
+use Rattle.schedule.specs.Bytes.{zeros, onBytes}
+use Rattle.schedule.specs.Plain.{onPlain}
+use Rattle.stand_agreement.proofs.Beside.{Beside, later, Same, same-allocate, same-free, same-step}
+use Rattle.stand_agreement.proofs.BesideStart.{same-start}
+
+-- ---- records
+
+-- how many calls a record makes at most
+abbrev pub mostOf : Record → ℕ
+mostOf (Start a b) = 1
+mostOf (Allocate a b) = 1
+mostOf (Free a b) = 1
+mostOf (Step a) = 1
+mostOf (Run a most) = most
+mostOf Bad = 0
+
+-- a record makes at most 65,535 calls, has at least a byte, and ends within the schedule
+pub record Fits (at end : ℕ) (r : Record) : Type 0 where
+  pub most : mostOf r ≤ 65535
+  pub from : at + 1 ≤ endOf r at end
+  pub to : endOf r at end ≤ end
+
+wide-fits : (at end kind task number : ℕ) → at + 4 ≤ end → number < 65536 → Fits at end (wideOf kind task number)
+unfolding wideOf
+wide-fits at end kind task number h l =
+    let P = Fits at end in
+    branch P (eqb kind 2) (λ e. record { most = omega arith; from = omega arith; to = h })
+    (λ e. branch P (eqb kind 3) (λ f. record { most = omega arith; from = omega arith; to = h })
+    (λ f. record { most = omega (arith, l); from = omega arith; to = h }))
+
+record-fits : (input : List ℕ) (at : ℕ) → Bytes input → at < length input → Fits at (length input) (recordAt input at)
+unfolding recordAt
+record-fits input at b l =
+    let P = Fits at (length input) in
+    let kind = getD input at 0 in
+    let left = length input - at in
+    let bad : P Bad = record { most = omega arith; from = omega (arith, l); to = omega arith } in
+    branch P (leb 1 kind)
+    (λ e. branch P (leb kind 5)
+    (λ f. branch P (eqb kind 4)
+    (λ g. branch P (leb 2 left) (λ h. record { most = omega arith; from = omega arith; to = omega (arith, leb-true 2 left h) }) (λ h. bad))
+    (λ g. branch P (eqb kind 1)
+    (λ h. branch P (leb 3 left) (λ i. record { most = omega arith; from = omega arith; to = omega (arith, leb-true 3 left i) }) (λ i. bad))
+    (λ h. branch P (leb 4 left)
+    (λ i. wide-fits at (length input) kind (getD input (at + 1) 0) (getLE input (at + 2) 2) (omega (arith, leb-true 4 left i)) (getLE-lt input (at + 2) 2 b))
+    (λ i. bad))))
+    (λ f. bad))
+    (λ e. bad)
+
+-- ---- requests, runs and records
+
+same-request : {n : ℕ} {s : Memories} {p : Pool} (q : Request) → Beside n s p → n < 4294967296
+    → Same (suc n) (onBytes q s) (onPlain q p)
+same-request (start tasks regions) B l = same-start B tasks regions
+same-request (allocate t size) B l = same-allocate B l t size
+same-request (free t u) B l = same-free B l t u
+same-request (step t) B l = same-step B l t
+
+same-runs : (m n a t : ℕ) (s : Memories) (p : Pool) → Beside n s p → n + m < 4294967296
+    → Same (n + m) (runs onBytes a t m s) (runs onPlain a t m p)
+unfolding runs
+same-runs zero n a t s p B l = record { number = refl; beside = later (omega arith) B }
+same-runs (suc m) n a t s p B l =
+    let one = same-request (step t) B (omega arith) in
+    by one (same-runs m (suc n) 0 t (onBytes (step t) s .0) (onPlain (step t) p .0) (one .beside) (omega arith))
+    (ℕ-discrete (onPlain (step t) p .1) 0)
+  where
+    by : Same (suc n) (onBytes (step t) s) (onPlain (step t) p)
+        → Same (suc n + m) (runs onBytes 0 t m (onBytes (step t) s .0)) (runs onPlain 0 t m (onPlain (step t) p .0))
+        → Dec (onPlain (step t) p .1 ≡ 0) → Same (n + suc m) (runs onBytes a t (suc m) s) (runs onPlain a t (suc m) p)
+    by one rest (yes e) =
+        rw (eq-eqb (onBytes (step t) s .1) 0 (one .number ∙ e), eq-eqb (onPlain (step t) p .1) 0 e)
+        (record { number = rest .number; beside = later (omega arith) (rest .beside) })
+    by one rest (no k) =
+        rw (ne-eqb (onBytes (step t) s .1) 0 (λ e. k (sym (one .number) ∙ e)), ne-eqb (onPlain (step t) p .1) 0 k)
+        (record { number = one .number; beside = later (omega arith) (one .beside) })
+
+after : {n : ℕ} {x : Memories × ℕ} {y : Pool × ℕ} → Same (suc n) x y → Same (n + 65535) x y
+after S = record { number = S .number; beside = later (omega arith) (S .beside) }
+
+same-treated : {n : ℕ} {s : Memories} {p : Pool} (r : Record) → mostOf r ≤ 65535 → Beside n s p → n + 65535 < 4294967296
+    → Same (n + 65535) (treated onBytes r s) (treated onPlain r p)
+same-treated (Start tasks regions) m B l = after (same-request (start tasks regions) B (omega arith))
+same-treated (Allocate t size) m B l = after (same-request (allocate t size) B (omega arith))
+same-treated (Free t u) m B l = after (same-request (free t u) B (omega arith))
+same-treated (Step t) m B l = after (same-request (step t) B (omega arith))
+same-treated {n} {s} {p} (Run t most) m B l =
+    let S = same-runs most n 0 t s p B (omega (arith, m)) in
+    record { number = S .number; beside = later (omega (arith, m)) (S .beside) }
+same-treated Bad m B l = record { number = refl; beside = later (omega arith) B }
+
+-- ---- the table
+
+module _ (input : List ℕ) (bytes : Bytes input) (long : length input ≤ 65536) where
+  same-table : (f at n k : ℕ) (y : Tally) (s : Memories) (p : Pool) → at ≤ length input → k ≤ 65535 * at → Beside k s p
+      → table onBytes f input at n y s ≡ table onPlain f input at n y p
+  unfolding table
+  same-table zero at n k y s p h l B = refl
+  same-table (suc f) at n k y s p h l B =
+      by (λ at′ y′ s′ p′ h′ l′ B′. same-table f at′ (n + 1) (k + 65535) y′ s′ p′ h′ l′ B′) (decLt at (length input))
+    where
+      by : ((at′ : ℕ) (y′ : Tally) (s′ : Memories) (p′ : Pool) → at′ ≤ length input → k + 65535 ≤ 65535 * at′ → Beside (k + 65535) s′ p′
+          → table onBytes f input at′ (n + 1) y′ s′ ≡ table onPlain f input at′ (n + 1) y′ p′)
+          → Dec (at < length input) → table onBytes (suc f) input at n y s ≡ table onPlain (suc f) input at n y p
+      by rest (no g) = rw (le-ltb at (length input) (omega arith)) refl
+      by rest (yes g) =
+          let r = recordAt input at in
+          let F = record-fits input at bytes g in
+          let next = endOf r at (length input) in
+          let S = same-treated r (F .most) B (omega (arith, l, g, long)) in
+          let x = treated onBytes r s in
+          let z = treated onPlain r p in
+          let row : ℕ → List Line × Tally → List Line × Tally = λ m w. (lineOf (entryAt input at n) m ∷ w .0, w .1) in
+          rw (lt-ltb at (length input) g)
+          (ap (λ (m : ℕ). row m (table onBytes f input next (n + 1) (counted y (m % 256)) (x .0))) (S .number)
+          ∙ ap (row (z .1)) (rest next (counted y (z .1 % 256)) (x .0) (z .0) (F .to) (omega (arith, l, F .from)) (S .beside)))
+
+-- the stand's memories before the first record, and the plain pool that is not started
+zeros-beside : Beside 0 zeros unstarted
+unfolding unstarted
+zeros-beside = record {
+  area-is = length-replicate {A = ℕ} 16384 0;
+  few = omega arith;
+  sim =
+      unstarted-sim
+      (record {
+        length = length-replicate {A = ℕ} 8192 0;
+        bytes = λ i. rw (zeros-are 8192 i) (omega arith);
+        tasks = getLE-zeros 8192 (atColumn layout Tasks) (width layout Tasks);
+      });
+  most-won = λ h ℓ. absurd (omega arith);
+}
+
+-- On every input of at most 65,536 bytes the stand's lines and totals are those of the plain pool fed the same records. There is no
+-- premise: no user writes, the control memory is zero at first, and the input bounds the number of exchanges.
+pub stand-table : (input : List ℕ) → Bytes input → length input ≤ 65536
+    → table onBytes (length input) input 0 0 none zeros ≡ table onPlain (length input) input 0 0 none unstarted
+stand-table input bytes long =
+    same-table input bytes long (length input) 0 0 0 none zeros unstarted (omega arith) (omega arith) zeros-beside
