@@ -19,7 +19,7 @@ use Rattle.plain.specs.Calls.{Pool, startMem, rising, unstarted, call}
 use Rattle.plain.specs.Calls as Plain
 use Rattle.stepped.specs.Outcome.{Memories}
 use Rattle.agreement.specs.Events.{Event, start, allocate, go, Premises}
-use Rattle.agreement.specs.Agreement.{Unstarted}
+use Rattle.agreement.specs.Events.{Unstarted}
 use Rattle.agreement.proofs.Runs.{steppedAnswers, wholeAnswers, answered, Writes, short}
 
 -- ---- the table

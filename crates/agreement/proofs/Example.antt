@@ -20,7 +20,8 @@ use Rattle.plain.specs.Calls as Plain
 use Rattle.plain.proofs.Answers.{most}
 use Rattle.stepped.specs.Outcome.{Memories}
 use Rattle.agreement.specs.Events.{Event, start, allocate, free, go, write, Premises}
-use Rattle.agreement.specs.Agreement.{Agree, Unstarted}
+use Rattle.agreement.specs.Events.{Unstarted}
+use Rattle.agreement.specs.Agreement.{Agree}
 use Rattle.agreement.proofs.Runs.{steppedAnswers, wholeAnswers, answered, after, Writes, writes?, found, short}
 use Rattle.agreement.proofs.Theorem.{agreement}
 

@@ -32,17 +32,16 @@ use Rattle.agreement.specs.Relation.{PlaceRelated, Related}
 use Rattle.agreement.specs.Relation.{r-idle, r-a1, r-partial, r-spare, r-region, r-retire, r-back, r-release, r-offer, r-a3-read, r-a3-exchange}
 use Rattle.agreement.specs.Relation.{r-a4, r-a7, r-a8, r-f1, r-f2, r-f2-more, r-f3-read, r-f3-link, r-f3-exchange, r-f4-clear}
 use Rattle.stepped.specs.Outcome.{Memories}
-use Rattle.agreement.specs.Events.{Event, start, stepped, whole, Premises}
-use Rattle.agreement.specs.Agreement.{Unstarted}
-use Rattle.agreement.specs.InRange.{TaskInRange, Ranged, RangedAlong}
+use Rattle.agreement.specs.Events.{Event, start, whole, Premises, Unstarted}
+use Rattle.agreement.specs.Reached.{History, Reached, from-unstarted, from-start, by-event, Along, Wherever}
+use Rattle.agreement.specs.InRange.{TaskInRange, Ranged, RangedAfter}
 use Rattle.agreement.proofs.Tops.{top-le, listed, listed-region, descriptor-in-hand}
 use Rattle.agreement.proofs.Notes.{note-of, first-max, number-open, number-max}
 use Rattle.agreement.proofs.Couple.{Pair, mine}
 use Rattle.agreement.proofs.Blocks.{under-unit, below-tested, top-max}
-use Rattle.agreement.proofs.Simulation.{Sim, fitting}
-use Rattle.agreement.proofs.Unstarted.{unstarted-sim}
-use Rattle.agreement.proofs.Starting.{accepted-start}
-use Rattle.agreement.proofs.Theorem.{alike}
+use Rattle.agreement.specs.Tied.{Tied}
+use Rattle.agreement.proofs.Simulation.{fitting}
+use Rattle.agreement.proofs.Reaching.{reached-tied, along}
 use Rattle.agreement.proofs.TaskHands.{pop-span, push-span, hands-at}
 use Rattle.agreement.proofs.TaskLists.{noted-at}
 
@@ -181,7 +180,7 @@ module _ {regions : ℕ} (v : View) {area : List ℕ} {m : Mem} (R : Related reg
       })
 
 -- Once a pool is started, the relation between the bytes and the plain pool gives every field's range.
-pub in-range : {s₁ : Memories} {s : Pool} → Sim s₁ s → Ranged s₁
+pub in-range : {s₁ : Memories} {s : Pool} → Tied s₁ s → Ranged s₁
 in-range {s₁} {s} S started =
     let v = seen (s₁ .control) in
     let q : 1 ≤ s .tasks = omega (arith, S .tasks) in
@@ -212,22 +211,22 @@ in-range {s₁} {s} S started =
 
 -- ---- a run
 
-along : (es : List Event) (s₁ : Memories) (s : Pool) → Sim s₁ s → Premises es s → RangedAlong es s₁
-along [] s₁ s S p = tt
-along (e ∷ es) s₁ s S p =
-    let A = alike e s₁ s S (p .0) in
-    (in-range (A .sim), along es (stepped e s₁ .0) (whole e s .0) (A .sim) (p .1))
+-- wherever a run has come
+pub reached-ranged : {h : History} {s₁ : Memories} {s : Pool} → Reached h s₁ s → Ranged s₁
+reached-ranged R = in-range (reached-tied R)
+
+-- and after each event that meets its premise
+ranged-after : Wherever RangedAfter
+ranged-after h s₁ s R e p = reached-ranged (by-event R e p)
 
 -- Along every list of events that meets the premises, from any control memory that is not started, every field that the pool
 -- stores is in its range.
-pub ranges : (es : List Event) (s₁ : Memories) → Unstarted s₁ → Premises es unstarted → RangedAlong es s₁
-ranges es s₁ U p = along es s₁ unstarted (unstarted-sim U) p
+pub ranges : (es : List Event) (s₁ : Memories) → Unstarted s₁ → Premises es unstarted → Along RangedAfter es s₁ unstarted
+ranges es s₁ U p = along RangedAfter ranged-after (from-unstarted U) es p
 
 -- The same from an accepted start on any memories and in any pool: right after it, and along every list of events behind it.
 pub ranges-from-start : (es : List Event) (s₁ : Memories) (s : Pool) (area : List ℕ) (tasks : ℕ) → Calls.Area (length area)
-    → Calls.Tasks tasks → Premises es (whole (start 8192 area tasks) s .0)
-    → Ranged (stepped (start 8192 area tasks) s₁ .0) × RangedAlong es (stepped (start 8192 area tasks) s₁ .0)
-unfolding Calls.call
+    → Calls.Tasks tasks → Premises es (whole (start 8192 area tasks) s .0) → Along RangedAfter (start 8192 area tasks ∷ es) s₁ s
 ranges-from-start es s₁ s area tasks a t p =
-    let A = accepted-start s₁ s area tasks a t in
-    (in-range (A .sim), along es (stepped (start 8192 area tasks) s₁ .0) (whole (start 8192 area tasks) s .0) (A .sim) p)
+    let R = from-start s₁ s area tasks a t in
+    (reached-ranged R, along RangedAfter ranged-after R es p)

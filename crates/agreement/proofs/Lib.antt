@@ -39,7 +39,9 @@ pub mod Putting
 pub mod Pops
 pub mod Pushes
 pub mod Stepping
-pub mod Theorem
+pub mod Unstarted
+pub mod OneEvent
+pub mod Reaching
 pub mod Observing
 pub mod Lent
 pub mod Ways
@@ -51,9 +53,9 @@ pub mod SoundFree
 pub mod SoundSteps
 pub mod SoundCalls
 pub mod Ends
+pub mod Theorem
 pub mod TaskHands
 pub mod TaskLists
-pub mod Unstarted
 pub mod InRange
 pub mod Runs
 pub mod Example

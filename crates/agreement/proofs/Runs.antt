@@ -18,7 +18,8 @@ use Rattle.plain.specs.Codes.{AtMost}
 use Rattle.plain.proofs.Answers.{most}
 use Rattle.stepped.specs.Outcome.{Memories}
 use Rattle.agreement.specs.Events.{Event, start, allocate, free, go, write, stepped, whole, Recent, Near, classThere, Premises}
-use Rattle.agreement.specs.Agreement.{Agree, Unstarted}
+use Rattle.agreement.specs.Events.{Unstarted}
+use Rattle.agreement.specs.Agreement.{Agree}
 use Rattle.agreement.proofs.Theorem.{agreement}
 
 -- ---- the answers

@@ -1,4 +1,4 @@
--- What holds between the bytes of the stepped run and the plain pool, and how one call keeps it.
+-- How one call keeps the bytes of the stepped run tied to the plain pool.
 -- Assumes nothing.
 use mathlib.Core.Path.{_≡_, refl, sym, _∙_}
 use mathlib.Core.Bool.{cond}
@@ -29,32 +29,23 @@ use Rattle.agreement.specs.Memory.{memoryOf}
 use Rattle.agreement.specs.Relation.{Related}
 use Rattle.stepped.specs.Outcome.{Memories}
 use Rattle.agreement.specs.Events.{ran, Taken}
+use Rattle.agreement.specs.Tied.{Tied}
 use Rattle.agreement.specs.Agreement.{Kept}
 use Rattle.agreement.proofs.Both.{Both, Fitting}
 use Rattle.agreement.proofs.Views.{views-related}
 use Rattle.agreement.proofs.Writing.{byte-kept}
 
-pub record Sim (s₁ : Memories) (s : Pool) : Type 0 where
-  pub length : lib.ListN.length (s₁ .control) ≡ 8192
-  pub bytes : Bytes (s₁ .control)
-  pub tasks : seen (s₁ .control) Tasks ≡ s .tasks
-  pub good : Good s
-  -- once it is started: its regions, and the relation
-  pub some : 1 ≤ s .tasks → 1 ≤ s .regions
-  pub regions : 1 ≤ s .tasks → seen (s₁ .control) Regions ≡ s .regions
-  pub related : 1 ≤ s .tasks → Related (s .regions) (memoryOf (seen (s₁ .control)) (s₁ .area)) (s .mem)
-
 -- the same answer, the relation after it, and what else is shown of the memories after it
 pub record Alike (Shown : Memories → Type 0) (x : Memories × Answer) (y : Pool × Answer) : Type 0 where
   pub says : x .1 ≡ y .1
-  pub sim : Sim (x .0) (y .0)
+  pub tied : Tied (x .0) (y .0)
   pub shows : Shown (x .0)
 
 -- the fields of bytes hold numbers of their widths
 pub fitting : (b : List ℕ) → Bytes b → Fitting (seen b)
 fitting b h f k = getLE-lt b (at layout f) (width layout f) h
 
-module _ {s₁ : Memories} {s : Pool} (S : Sim s₁ s) where
+module _ {s₁ : Memories} {s : Pool} (S : Tied s₁ s) where
   abbrev v : View
   v = seen (s₁ .control)
 
@@ -63,7 +54,7 @@ module _ {s₁ : Memories} {s : Pool} (S : Sim s₁ s) where
   stays Shown h n = record {
     says = refl;
     shows = h;
-    sim = record { length = S .length; bytes = S .bytes; tasks = S .tasks; good = S .good; some = S .some; regions = S .regions; related = S .related };
+    tied = record { length = S .length; bytes = S .bytes; tasks = S .tasks; good = S .good; some = S .some; regions = S .regions; related = S .related };
   }
 
   -- an outcome whose writes are done on the bytes
@@ -72,7 +63,7 @@ module _ {s₁ : Memories} {s : Pool} (S : Sim s₁ s) where
   moves o y h g B = record {
     says = B .says;
     shows = λ at k. byte-kept (S .good .inv h) (k .unit) at (k .held) (k .from) (k .to) (o .links) (s₁ .area) (B .apart);
-    sim = record {
+    tied = record {
       length = length-written layout (o .writes) (s₁ .control) ∙ S .length;
       bytes = bytes-written layout (o .writes) (s₁ .control) (S .bytes);
       tasks = view Tasks (omega arith) ∙ B .keeps .0 ∙ S .tasks;

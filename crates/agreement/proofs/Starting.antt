@@ -29,7 +29,8 @@ use Rattle.agreement.specs.Events.{ran, startOn}
 use Rattle.agreement.proofs.Images.{assigned-same, getLE-zeros, zeros, fill-sound, append-sound}
 use Rattle.agreement.proofs.Starts.{zeroed, startView, start-view, at-tasks, at-regions, next-max, start-related}
 use Rattle.agreement.proofs.Views.{views-related}
-use Rattle.agreement.proofs.Simulation.{Sim, Alike, stays}
+use Rattle.agreement.specs.Tied.{Tied}
+use Rattle.agreement.proofs.Simulation.{Alike, stays}
 
 module _ (tasks regions : ℕ) (few : tasks ≤ 8) (small : regions ≤ 16) where
   -- each write is to a field of the layout, and its value fits
@@ -64,11 +65,11 @@ module _ (tasks regions : ℕ) (few : tasks ≤ 8) (small : regions ≤ 16) wher
   -- the image and any area of the length are related to the plain pool after a start
   started : (area : List ℕ) → length area ≡ 4096 * regions → 1 ≤ regions → (s : Pool)
       → s ≡ record { tasks = tasks; regions = regions; mem = Plain.startMem regions } → Good s
-      → Sim (record { control = startImage tasks regions; area = area }) s
+      → Tied (record { control = startImage tasks regions; area = area }) s
   unfolding startImage
   started area e some s i g =
       let G : Good (record { tasks = tasks; regions = regions; mem = Plain.startMem regions }) = subst Good i g in
-      subst (λ (z : Pool). Sim (record { control = startImage tasks regions; area = area }) z) (sym i)
+      subst (λ (z : Pool). Tied (record { control = startImage tasks regions; area = area }) z) (sym i)
       (record {
         length = length-written layout (startWrites tasks regions) (replicate 8192 0) ∙ length-replicate {A = ℕ} 8192 0;
         bytes = bytes-written layout (startWrites tasks regions) (replicate 8192 0) (λ k. rw (zeros 8192 k) (omega arith));
@@ -83,7 +84,7 @@ module _ (tasks regions : ℕ) (few : tasks ≤ 8) (small : regions ≤ 16) wher
 abbrev new : ℕ → ℕ → Pool
 new tasks regions = record { tasks = tasks; regions = regions; mem = Plain.startMem regions }
 
-module _ {s₁ : Memories} {s : Pool} (S : Sim s₁ s) (control : ℕ) (area : List ℕ) (tasks : ℕ) where
+module _ {s₁ : Memories} {s : Pool} (S : Tied s₁ s) (control : ℕ) (area : List ℕ) (tasks : ℕ) where
   abbrev bytes : ℕ
   bytes = length area
 
@@ -100,7 +101,7 @@ module _ {s₁ : Memories} {s : Pool} (S : Sim s₁ s) (control : ℕ) (area : L
       (record {
         says = refl;
         shows = tt;
-        sim = started tasks (bytes / 4096) (t .1) (omega (arith, a)) area (omega (arith, a)) (omega (arith, a)) (new tasks (bytes / 4096)) refl (g t);
+        tied = started tasks (bytes / 4096) (t .1) (omega (arith, a)) area (omega (arith, a)) (omega (arith, a)) (new tasks (bytes / 4096)) refl (g t);
       })
   test-three a (no t) g = elim (decLe 1 tasks) [
     | yes l ↦ rw (le-leb 1 tasks l, lt-leb tasks 8 (let k : ¬ (tasks ≤ 8) = λ k. t (l, k) in omega arith)) (stays S (λ z. Unit {0}) tt 3)
@@ -149,6 +150,6 @@ accepted-start s₁ s area tasks a t =
     (record {
       says = refl;
       shows = tt;
-      sim = started tasks regions (t .1) (omega (arith, a)) area (omega (arith, a)) (omega (arith, a)) (new tasks regions) refl
+      tied = started tasks regions (t .1) (omega (arith, a)) area (omega (arith, a)) (omega (arith, a)) (new tasks regions) refl
           (record { few = t .1; small = λ k. omega (arith, a); inv = λ k. start-inv regions });
     })

@@ -1,129 +1,28 @@
 -- The agreement of the stepped run with the whole run, over every list of events.
--- Assumes nothing.
-use mathlib.Core.Path.{_≡_, refl, sym, subst}
+use mathlib.Core.Path.{_≡_, sym, subst}
 use mathlib.Core.Logic.{_≢_}
-use mathlib.Core.List.{List, [], _∷_}
-use Prim.Native.Nat.{ℕ, _/_, _<_}
+use mathlib.Core.List.{List, _∷_}
+use Prim.Native.Nat.{ℕ}
 use native.Mathlib.Omega.{arith}
-use native.Mathlib.Decide.{ℕ-discrete}
 use lib.ListN.{length}
-use Rattle.fields.specs.Columns.{View}
 use Rattle.links.specs.Link.{link}
-use Rattle.plain.specs.State.{idle}
 use Rattle.plain.specs.Moves.{Answer}
-use Rattle.plain.specs.Steps.{Result}
-use Rattle.plain.specs.Steps as Steps
 use Rattle.plain.specs.Calls.{Pool, unstarted}
 use Rattle.plain.specs.Calls as Plain
-use Rattle.plain.specs.Invariant.{Good}
-use Rattle.plain.proofs.Starts.{start-inv}
-use Rattle.plain.proofs.Always.{call-good}
-use Rattle.control.specs.Layout.{seen, Regions}
-use Rattle.stepped.specs.Outcome.{Outcome}
-use Rattle.stepped.specs.Steps as Stepping₁
-use Rattle.stepped.specs.Calls as Stepped
+use Rattle.plain.proofs.Answers.{never-14}
+use Rattle.control.specs.Layout.{seen}
 use Rattle.stepped.specs.Outcome.{Memories}
-use Rattle.agreement.specs.Events.{Event, start, allocate, free, go, write, stepped, whole, Taken, Premise, Premises}
-use Rattle.agreement.specs.Agreement.{Agrees, Kept, Unchanged, Untouched, Agree, Unstarted}
-use Rattle.agreement.proofs.Both.{Both}
-use Rattle.agreement.proofs.Turns.{At}
-use Rattle.agreement.proofs.Simulation.{Sim, Alike, fitting, tested-alike, taken-is}
-use Rattle.agreement.proofs.Starting.{start-alike, accepted-start}
-use Rattle.agreement.proofs.Begins.{when-idle, allocate-both, free-both}
-use Rattle.agreement.proofs.Stepping.{step-both}
-use Rattle.agreement.proofs.Writing.{write-related}
+use Rattle.stepped.specs.Calls as Stepped
+use Rattle.agreement.specs.Events.{Event, start, allocate, free, go, write, stepped, whole, Premises, Unstarted}
+use Rattle.agreement.specs.Reached.{from-unstarted, from-start, Wherever}
+use Rattle.agreement.specs.Agreement.{Agrees, Unchanged, Untouched, AgreesAt, Agree}
+use Rattle.agreement.proofs.Simulation.{Alike}
+use Rattle.agreement.proofs.Starting.{accepted-start}
+use Rattle.agreement.proofs.OneEvent.{Shown, alike}
+use Rattle.agreement.proofs.Reaching.{reached-tied, along}
 use Rattle.agreement.proofs.Lent.{start-leaves, refused-leaves, outcome-leaves}
-use Rattle.agreement.proofs.Unstarted.{unstarted-sim}
 use Rattle.agreement.proofs.Ends.{start-ends, allocate-ends, free-ends, step-ends}
 use Rattle.agreement.proofs.Observing.{observed}
-use Rattle.plain.proofs.Answers.{never-14}
-
-module _ {s₁ : Memories} {s : Pool} (S : Sim s₁ s) where
-  abbrev v : View
-  v = seen (s₁ .control)
-
-  -- what is asked of a call that passes the tests 1, 4, 2, 5, of the stored number of regions
-  at-regions : {control area t : ℕ} (F : ℕ → Outcome) (y : Result) → Taken control area t s
-      → Both (s .regions) v (s₁ .area) (s .mem) (F (s .regions)) y → Both (s .regions) v (s₁ .area) (s .mem) (F (v Regions)) y
-  at-regions F y T B = subst (λ (r : ℕ). Both (s .regions) v (s₁ .area) (s .mem) (F r) y) (sym (S .regions (T .started))) B
-
-  -- the task's turn, where it is idle
-  turn : {control area t : ℕ} → Taken control area t s → (t : ℕ) → t < 8 → s .mem .task t .place ≡ idle
-      → At (s .regions) v (s₁ .area) (s .mem) t idle (s .mem .task t .cache)
-  turn T t l e = record {
-    pair = record {
-      rel = S .related (T .started);
-      turn = record { inv = S .good .inv (T .started); fits = l; is = λ i. record { place = e i; cache = s .mem .task t .cache } };
-      small = S .good .small (T .started);
-    };
-    fitting = fitting (s₁ .control) (S .bytes);
-  }
-
-  begin-allocate : (control area t size : ℕ) → Taken control area t s
-      → Both (s .regions) v (s₁ .area) (s .mem) (Stepped.whenIdle v t (Stepped.beginAllocate t size))
-      (Plain.whenIdle (s .mem .task t .place) (Plain.beginAllocate t size (s .mem)) (s .mem))
-  begin-allocate control area t size T =
-      let l : t < 8 = omega (arith, T .below, S .good .few) in
-      let R = S .related (T .started) in
-      when-idle R t _ _ (s .mem .task t .place) (R .slots t l .place) (λ e. allocate-both (turn T t l e) size)
-
-  begin-free : (control area t u : ℕ) → Taken control area t s
-      → Both (s .regions) v (s₁ .area) (s .mem) (Stepped.whenIdle v t (Stepped.beginFree v (s .regions) t u))
-      (Plain.whenIdle (s .mem .task t .place) (Plain.beginFree t u (s .regions) (s .mem)) (s .mem))
-  begin-free control area t u T =
-      let l : t < 8 = omega (arith, T .below, S .good .few) in
-      let R = S .related (T .started) in
-      when-idle R t _ _ (s .mem .task t .place) (R .slots t l .place) (λ e. free-both (turn T t l e) u)
-
--- the plain pool's own invariant after a call that passes the tests
-good-after : {control area t : ℕ} {s : Pool} (y : Result) → Good (Plain.tested control area t s y .0) → Taken control area t s
-    → Good (Plain.became s y .0)
-good-after y g T = subst (λ (x : Pool × Answer). Good (x .0)) (taken-is y T) g
-
--- what the turn of one event shows of the memories after it
-abbrev Shown : Event → Memories → Pool → Memories → Type 0
-Shown (start control area tasks) s₁ s z = Unit {0}
-Shown (allocate control area t size) s₁ s z = Kept s₁ s z
-Shown (free control area t u) s₁ s z = Kept s₁ s z
-Shown (go control area t) s₁ s z = Kept s₁ s z
-Shown (write at b) s₁ s z = Unit {0}
-
--- one event: the same answer, in relation again, and each byte in hands as it was
-pub alike : (e : Event) (s₁ : Memories) (s : Pool) → Sim s₁ s → Premise e s → Alike (Shown e s₁ s) (stepped e s₁) (whole e s)
-unfolding Plain.call Stepped.allocateOutcome Stepped.freeOutcome Stepped.stepOutcome
-alike (start control area tasks) s₁ s S h =
-    start-alike S control area tasks (ℕ-discrete control 8192)
-    (λ a t. record { few = t .1; small = λ k. omega (arith, a); inv = λ k. start-inv (length area / 4096) })
-alike (allocate control area t size) s₁ s S h =
-    let y = Plain.whenIdle (s .mem .task t .place) (Plain.beginAllocate t size (s .mem)) (s .mem) in
-    tested-alike S control area t _ y (good-after y (call-good (Plain.allocate control area t size) s (S .good)))
-    (begin-allocate S control area t size) (ℕ-discrete control 8192)
-alike (free control area t u) s₁ s S h =
-    let y = Plain.whenIdle (s .mem .task t .place) (Plain.beginFree t u (s .regions) (s .mem)) (s .mem) in
-    tested-alike S control area t _ y (good-after y (call-good (Plain.free control area t u) s (S .good)))
-    (λ T. at-regions S (λ r. Stepped.whenIdle (seen (s₁ .control)) t (Stepped.beginFree (seen (s₁ .control)) r t u)) y T (begin-free S control area t u T))
-    (ℕ-discrete control 8192)
-alike (go control area t) s₁ s S h =
-    let y = Steps.step t (s .mem) in
-    tested-alike S control area t _ y (good-after y (call-good (Plain.go control area t) s (S .good)))
-    (λ T. at-regions S (λ r. Stepping₁.step (seen (s₁ .control)) (link (s₁ .area)) r t) y T
-    (step-both t (omega (arith, T .below, S .good .few)) (S .good .small (T .started)) (fitting (s₁ .control) (S .bytes)) (S .related (T .started)) (S .good .inv (T .started)) (h T)))
-    (ℕ-discrete control 8192)
-alike (write at b) s₁ s S h = record {
-  says = refl;
-  shows = tt;
-  sim = record {
-    length = S .length;
-    bytes = S .bytes;
-    tasks = S .tasks;
-    good = S .good;
-    some = S .some;
-    regions = S .regions;
-    related = λ k. write-related (S .good .inv k) (h .unit) at (h .held) (h .from) (h .to) (seen (s₁ .control)) (s₁ .area) b (S .related k);
-  };
-}
-
--- ---- the whole list
 
 -- the plain pool never answers 14
 never : (e : Event) (s : Pool) → whole e s .1 .code ≢ 14
@@ -157,26 +56,25 @@ agrees : (e : Event) (s₁ : Memories) (s : Pool) → Alike (Shown e s₁ s) (st
 agrees e s₁ s A = record {
   says = A .says;
   never-14 = subst (λ (x : Answer). x .code ≢ 14) (sym (A .says)) (never e s);
-  tasks = A .sim .tasks;
-  regions = A .sim .regions;
-  control-length = A .sim .length;
-  area-length = λ h. A .sim .related h .core .length;
-  same = λ h. observed (A .sim .good .small h) (A .sim .related h) (A .sim .good .inv h);
+  tasks = A .tied .tasks;
+  regions = A .tied .regions;
+  control-length = A .tied .length;
+  area-length = λ h. A .tied .related h .core .length;
+  same = λ h. observed (A .tied .good .small h) (A .tied .related h) (A .tied .good .inv h);
 }
 
--- from related memories, every list of events that meets the premises
-pub agree : (es : List Event) (s₁ : Memories) (s : Pool) → Sim s₁ s → Premises es s → Agree es s₁ s
-agree [] s₁ s S p = tt
-agree (e ∷ es) s₁ s S p =
-    let A = alike e s₁ s S (p .0) in
-    ((agrees e s₁ s A, unchanged e s₁, untouched e s₁ s (A .shows)), agree es (stepped e s₁ .0) (whole e s .0) (A .sim) (p .1))
+-- an event that meets its premise, wherever a run has come
+pub reached-agrees : Wherever AgreesAt
+reached-agrees h s₁ s R e p =
+    let A = alike e s₁ s (reached-tied R) p in
+    (agrees e s₁ s A, unchanged e s₁, untouched e s₁ s (A .shows))
 
 -- Demand 3, and demand 1's last sentence. For every list of calls with users' writes between them, from any control memory that
 -- is not started, under the premises: the stepped run and the whole run decide the same moves at the same calls, give the same
 -- code and value, never 14, and have after every call the same lists, chains and holders; each block of an open region is in
 -- exactly one place; and no call changes a byte of a block in a user's hands.
 pub agreement : (es : List Event) (s₁ : Memories) → Unstarted s₁ → Premises es unstarted → Agree es s₁ unstarted
-agreement es s₁ U p = agree es s₁ unstarted (unstarted-sim U) p
+agreement es s₁ U p = along AgreesAt reached-agrees (from-unstarted U) es p
 
 -- The same from an accepted start on any memories and in any pool, the start itself with it: the control memory before it may look
 -- like a started pool, or hold anything.
@@ -185,5 +83,7 @@ pub agreement-from-start : (es : List Event) (s₁ : Memories) (s : Pool) (area 
 unfolding Plain.call
 agreement-from-start es s₁ s area tasks a t p =
     let e = start 8192 area tasks in
-    let A = accepted-start s₁ s area tasks a t in
-    ((agrees e s₁ s A, unchanged e s₁, untouched e s₁ s tt), agree es (stepped e s₁ .0) (whole e s .0) (A .sim) p)
+    let A = accepted-start s₁ s area tasks a t in (
+      (agrees e s₁ s A, unchanged e s₁, untouched e s₁ s tt),
+      along AgreesAt reached-agrees (from-start s₁ s area tasks a t) es p,
+    )

@@ -3,13 +3,13 @@
 use native.Mathlib.Omega.{arith}
 use Rattle.plain.specs.Calls.{unstarted}
 use Rattle.stepped.specs.Outcome.{Memories}
-use Rattle.agreement.specs.Agreement.{Unstarted}
-use Rattle.agreement.proofs.Simulation.{Sim}
+use Rattle.agreement.specs.Events.{Unstarted}
+use Rattle.agreement.specs.Tied.{Tied}
 
 -- the bytes of a pool that is not started, and the plain pool that is not started
-pub unstarted-sim : {s₁ : Memories} → Unstarted s₁ → Sim s₁ unstarted
+pub unstarted-tied : {s₁ : Memories} → Unstarted s₁ → Tied s₁ unstarted
 unfolding unstarted
-unstarted-sim U = record {
+unstarted-tied U = record {
   length = U .length;
   bytes = U .bytes;
   tasks = U .tasks;

@@ -2,16 +2,16 @@
 -- Assumes nothing.
 use mathlib.Core.Path.{_≡_}
 use mathlib.Core.Logic.{_≢_}
-use mathlib.Core.List.{List, [], _∷_}
+use mathlib.Core.List.{List}
 use Prim.Native.Nat.{ℕ, _*_, _≤_}
 use lib.ListN.{length, getD}
-use Rattle.fields.specs.Little.{Bytes}
 use Rattle.plain.specs.Moves.{Answer}
 use Rattle.plain.specs.Calls.{Pool}
 use Rattle.control.specs.Layout.{Tasks, Regions, seen}
 use Rattle.agreement.specs.Memory.{Memory, memoryOf}
 use Rattle.stepped.specs.Outcome.{Memories}
 use Rattle.agreement.specs.Events.{Event, start, allocate, free, go, write, stepped, whole, InHands}
+use Rattle.agreement.specs.Reached.{Along}
 use Rattle.agreement.specs.Observe.{Same}
 
 -- the two memories, column by column
@@ -49,16 +49,11 @@ Untouched (write at b) s₁ x s = Unit {0}
 abbrev pub Unchanged : Memories → Memories × Answer → Type 0
 Unchanged s₁ x = 1 ≤ x .1 .code → x .1 .code ≤ 11 → x .0 ≡ s₁
 
+-- what is said of one event, on the memories s₁ and beside the plain pool s
+abbrev pub AgreesAt : Event → Memories → Pool → Type 0
+AgreesAt e s₁ s =
+    Agrees (stepped e s₁) (whole e s) × Unchanged s₁ (stepped e s₁) × Untouched e s₁ (stepped e s₁) s
+
 -- every event of the list, in its order
 abbrev pub Agree : List Event → Memories → Pool → Type 0
-Agree [] s₁ s = Unit {0}
-Agree (e ∷ es) s₁ s =
-    (Agrees (stepped e s₁) (whole e s) × Unchanged s₁ (stepped e s₁) × Untouched e s₁ (stepped e s₁) s)
-    × Agree es (stepped e s₁ .0) (whole e s .0)
-
--- The memories that the runs may begin with: a control memory of 8,192 bytes that is not started, as all zeros are, whatever
--- else it holds; and any area, for no call but a start takes one.
-pub record Unstarted (s₁ : Memories) : Type 0 where
-  pub length : lib.ListN.length (s₁ .control) ≡ 8192
-  pub bytes : Bytes (s₁ .control)
-  pub tasks : seen (s₁ .control) Tasks ≡ 0
+Agree = Along AgreesAt

@@ -2,6 +2,7 @@
 -- Assumes nothing.
 use mathlib.Core.Path.{_≡_}
 use mathlib.Core.List.{List, [], _∷_}
+use Rattle.fields.specs.Little.{Bytes}
 use Prim.Native.Nat.{ℕ, pred, _+_, _*_, _≤_, _<_}
 use lib.ListN.{length, set}
 use Rattle.classes.specs.Classes.{block}
@@ -12,7 +13,7 @@ use Rattle.plain.specs.Moves.{Answer, going, nothing}
 use Rattle.plain.specs.Steps.{popList, pushList}
 use Rattle.plain.specs.Calls.{Pool}
 use Rattle.plain.specs.Calls as Plain
-use Rattle.control.specs.Layout.{seen}
+use Rattle.control.specs.Layout.{Tasks, seen}
 use Rattle.control.specs.Answers.{codeOf, valueOf}
 use Rattle.stepped.specs.Outcome.{Memories, Effect, effect}
 use Rattle.stepped.specs.Calls as Stepped
@@ -117,3 +118,12 @@ Premise (write at b) s = InHands at s
 abbrev pub Premises : List Event → Pool → Type 0
 Premises [] s = Unit {0}
 Premises (e ∷ es) s = Premise e s × Premises es (whole e s .0)
+
+-- ---- the beginning
+
+-- The memories that the runs may begin with: a control memory of 8,192 bytes that is not started, as all zeros are, whatever
+-- else it holds; and any area, for no call but a start takes one.
+pub record Unstarted (s₁ : Memories) : Type 0 where
+  pub length : lib.ListN.length (s₁ .control) ≡ 8192
+  pub bytes : Bytes (s₁ .control)
+  pub tasks : seen (s₁ .control) Tasks ≡ 0

@@ -17,6 +17,7 @@ use Rattle.control.specs.declared.moves.Push.{Push}
 use Rattle.stepped.specs.Ranges.{isBlock, isTop}
 use Rattle.stepped.specs.Lists.{popPlace, popItems, pushPlace, pushItems}
 use Rattle.stepped.specs.Outcome.{Memories}
+use Rattle.plain.specs.Calls.{Pool}
 use Rattle.agreement.specs.Events.{Event, stepped}
 
 -- 1 to most
@@ -130,7 +131,6 @@ pub record InRange (v : View) : Type 0 where
 abbrev pub Ranged : Memories → Type 0
 Ranged s = 1 ≤ seen (s .control) Tasks → InRange (seen (s .control))
 
--- after every event of a list
-abbrev pub RangedAlong : List Event → Memories → Type 0
-RangedAlong [] s = Unit {0}
-RangedAlong (e ∷ es) s = Ranged (stepped e s .0) × RangedAlong es (stepped e s .0)
+-- after an event on the memories s₁
+abbrev pub RangedAfter : Event → Memories → Pool → Type 0
+RangedAfter e s₁ s = Ranged (stepped e s₁ .0)

@@ -1,7 +1,9 @@
 -- The agreement of the stepped pool with the plain pool: what is compared, the events and premises, the relation, the claims.
 pub mod Memory
 pub mod Relation
+pub mod Tied
 pub mod Events
+pub mod Reached
 pub mod Observe
 pub mod Agreement
 pub mod Ends

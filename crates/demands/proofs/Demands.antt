@@ -28,18 +28,21 @@ use Rattle.agreement.specs.Ends.{Leaves, oneOf, Goes, FindsEmpty, WinsPush, InP
 use Rattle.stepped.specs.Outcome.{Memories}
 use Rattle.agreement.specs.Events.{stepped, whole, Premises}
 use Rattle.agreement.specs.Events as Events
-use Rattle.agreement.specs.Agreement.{Unstarted, Agree, Agrees, Unchanged, Untouched}
+use Rattle.agreement.specs.Events.{Unstarted}
+use Rattle.agreement.specs.Agreement.{Agrees, Unchanged, Untouched, AgreesAt}
 use Rattle.agreement.proofs.Ways.{tests, branch}
 use Rattle.agreement.proofs.Ends.{start-ends, allocate-ends, step-ends, allocate-leaves, free-leaves, go-leaves, smallest-class, no-descriptor, no-region, put-back}
 use Rattle.agreement.proofs.SoundCalls.{step-place, step-others, allocate-others, free-others}
-use Rattle.agreement.proofs.Theorem.{agreement, agreement-from-start}
+use Rattle.agreement.specs.Reached.{happened, Reached, from-unstarted, from-start}
+use Rattle.agreement.proofs.Theorem.{reached-agrees, agreement-from-start}
 use Rattle.pool.specs.Call.{Call, start, allocate, free, step, effectOf}
 use Rattle.demands.specs.Answers.{Refusal, Ended, OfAnother, Begun}
 use Rattle.demands.specs.Tests.{firstFailed, startTests, allocateTests, freeTests, stepTests}
-use Rattle.demands.specs.Runs.{Act, own, other, write, Contract, Happens, Run, after, eventOf, event, events, Answered, OtherLeft, Tells, Told}
+use Rattle.demands.specs.Runs.{Act, own, other, write, Contract, Happens, Run, eventOf, event, events, Answered, OtherLeft, Tells, Told, WhereverActs}
 use Rattle.demands.proofs.Numbers.{refused, accepted, ends-told, end-told}
 use Rattle.demands.proofs.Failing.{start-first, allocate-first, free-first, step-first}
-use Rattle.demands.proofs.Acting.{Shows, shows}
+use Rattle.demands.proofs.Acting.{shows}
+use Rattle.demands.proofs.Reaching.{along-acts}
 use Rattle.demands.proofs.Backing.{stays-back}
 
 -- ---- demand 1
@@ -205,33 +208,29 @@ left-by (own k left r) s H = tt
 left-by (other k lent left r) s H = refused-changes-nothing k lent left r (H .0)
 left-by (write at b) s H = tt
 
--- one act, from what the stepped run and the whole run have at its event
-tells : (a : Act) (s : Memories) (p : Pool) → Happens a s → Shows a s → Agree (event a s ∷ []) s p → Tells a s p
-tells a s p H S A =
+-- what the agreement says of the event of an act, it says of the act: the act left and answered what the stepped run has there
+tells-by : (a : Act) (s : Memories) (p : Pool) → Happens a s → AgreesAt (event a s) s p → Tells a s p
+tells-by a s p H A =
+    let S = shows a s H in
     let y = stepped (event a s) s .1 in
     record {
-      answered = subst (Answered a) (A .0 .0 .says) (S .answers);
-      agrees = subst (λ (z : Memories). Agrees (z, y) (whole (event a s) p)) (S .leaves) (A .0 .0);
+      answered = subst (Answered a) (A .0 .says) (S .answers);
+      agrees = subst (λ (z : Memories). Agrees (z, y) (whole (event a s) p)) (S .leaves) (A .0);
       other-left = left-by a s H;
-      unchanged = subst (λ (z : Memories). Unchanged s (z, y)) (S .leaves) (A .0 .1);
-      untouched = subst (λ (z : Memories). Untouched (event a s) s (z, y) p) (S .leaves) (A .0 .2);
+      unchanged = subst (λ (z : Memories). Unchanged s (z, y)) (S .leaves) (A .1);
+      untouched = subst (λ (z : Memories). Untouched (event a s) s (z, y) p) (S .leaves) (A .2);
     }
 
-told : (rest : List Act) (s : Memories) (p : Pool) → Run rest s → Agree (events rest s) s p → Told rest s p
-told [] s p R A = tt
-told (a ∷ rest) s p R A =
-    let S = shows a s (R .0) in (
-      tells a s p (R .0) S (A .0, tt),
-      told rest (after a s) (whole (event a s) p .0) (R .1)
-          (subst (λ z. Agree (events rest (after a s)) z (whole (event a s) p .0)) (S .leaves) (A .1)),
-    )
+-- every act, wherever a run has come
+pub reached-tells : WhereverActs Tells
+reached-tells h s p R a H P = tells-by a s p H (reached-agrees h s p R (event a s) P)
 
 -- "For every list of calls with users' writes between them, the stepped run and the whole run (the plain pool) decide the same moves
 -- at the same calls, give the same code and value, never 14, and have after every call the same lists, chains and holders; each
 -- block of an open region is in exactly one place." Here the stepped run is made of the contracts of the exported functions. From
 -- any control memory that is not started.
 pub run-told : (acts : List Act) (s : Memories) → Unstarted s → Run acts s → Premises (events acts s) unstarted → Told acts s unstarted
-run-told acts s U R P = told acts s unstarted R (agreement (events acts s) s U P)
+run-told acts s U R P = along-acts Tells reached-tells (from-unstarted U) acts R P
 
 -- a start whose lengths and number of tasks are right passes its tests
 accepted-tests : (control area tasks : ℕ) → control ≡ 8192 → Plain.Area area → Plain.Tasks tasks
@@ -245,16 +244,26 @@ accepted-tests control area tasks l a t = rw (
   le-leb tasks 8 (t .1),
 )
 
+-- such a start agrees, and a run begins with it, on any memories and beside any pool
+start-reaches : (s : Memories) (p : Pool) (tasks control : ℕ) → control ≡ 8192 → Plain.Area (length (s .area))
+    → Plain.Tasks tasks → let e = Events.start control (s .area) tasks in
+    AgreesAt e s p × Reached (happened e s p ∷ []) (stepped e s .0) (whole e p .0)
+start-reaches s p tasks control l a t =
+    subst
+    (λ (n : ℕ). let e = Events.start n (s .area) tasks in
+    AgreesAt e s p × Reached (happened e s p ∷ []) (stepped e s .0) (whole e p .0))
+    (sym l) (agreement-from-start [] s p (s .area) tasks a t tt .0, from-start s p (s .area) tasks a t)
+
 -- The same from a start on any memories, whose lengths and number of tasks are right; it is accepted.
 pub run-told-from-start : (acts : List Act) (s left : Memories) (tasks r : ℕ) (p : Pool) → length (s .control) ≡ 8192
     → Plain.Area (length (s .area)) → Plain.Tasks tasks → Run (own (start tasks) left r ∷ acts) s
     → Premises (events acts left) (whole (eventOf (start tasks) s) p .0) → (r ≡ 0) × Told (own (start tasks) left r ∷ acts) s p
 run-told-from-start acts s left tasks r p l a t R P =
-    let es = events acts left in
-    let A =
-    subst
-    (λ (n : ℕ). Premises es (whole (Events.start n (s .area) tasks) p .0) → Agree (Events.start n (s .area) tasks ∷ es) s p)
-    (sym l) (λ Q. agreement-from-start es s p (s .area) tasks a t Q) in (
+    let e = eventOf (start tasks) s in
+    let A = start-reaches s p tasks (length (s .control)) l a t in
+    let began : Reached (happened e s p ∷ []) left (whole e p .0) =
+    subst (λ (z : Memories). Reached (happened e s p ∷ []) z (whole e p .0)) (shows (own (start tasks) left r) s (R .0) .leaves) (A .1)
+    in (
       start-refused-first s left r tasks (R .0) ∙ accepted-tests (length (s .control)) (length (s .area)) tasks l a t,
-      told (own (start tasks) left r ∷ acts) s p R (A P),
+      (tells-by (own (start tasks) left r) s p (R .0) (A .0), along-acts Tells reached-tells began acts (R .1) P),
     )

@@ -2,5 +2,6 @@
 pub mod Numbers
 pub mod Failing
 pub mod Acting
+pub mod Reaching
 pub mod Backing
 pub mod Demands

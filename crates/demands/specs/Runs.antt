@@ -11,8 +11,9 @@ use Rattle.plain.specs.Moves.{Answer}
 use Rattle.plain.specs.Calls.{Pool}
 use Rattle.control.specs.Layout.{Tasks, Regions, seen}
 use Rattle.stepped.specs.Outcome.{Memories}
-use Rattle.agreement.specs.Events.{Event, stepped, whole}
+use Rattle.agreement.specs.Events.{Event, stepped, whole, Premise}
 use Rattle.agreement.specs.Events as Events
+use Rattle.agreement.specs.Reached.{History, Reached}
 use Rattle.agreement.specs.Agreement.{Agrees, Unchanged, Untouched}
 use Rattle.pool.specs.Call.{Call, start, allocate, free, step, Ensures}
 use Rattle.demands.specs.Answers.{Refusal}
@@ -116,7 +117,16 @@ pub record Tells (a : Act) (s : Memories) (p : Pool) : Type 0 where
   pub other-left : OtherLeft a
   pub untouched : Untouched (event a s) s (shown a s) p
 
+-- P of each act of a run, in its order, with the memories and the plain pool before it
+abbrev pub AlongActs : (Act → Memories → Pool → Type 0) → List Act → Memories → Pool → Type 0
+AlongActs P [] s p = Unit {0}
+AlongActs P (a ∷ rest) s p = P a s p × AlongActs P rest (after a s) (whole (event a s) p .0)
+
 -- every act of the run, in its order
 abbrev pub Told : List Act → Memories → Pool → Type 0
-Told [] s p = Unit {0}
-Told (a ∷ rest) s p = Tells a s p × Told rest (after a s) (whole (event a s) p .0)
+Told = AlongActs Tells
+
+-- P of every act whose event meets its premise, wherever a run has come
+abbrev pub WhereverActs : (Act → Memories → Pool → Type 0) → Type 0
+WhereverActs P =
+    (h : History) (s : Memories) (p : Pool) → Reached h s p → (a : Act) → Happens a s → Premise (event a s) p → P a s p

@@ -21,9 +21,11 @@ use Rattle.stepped.specs.Outcome.{Effect}
 use Rattle.stepped.specs.Calls as Stepped
 use Rattle.stepped.specs.Outcome.{Memories}
 use Rattle.agreement.specs.Events.{stepped, whole, Premise}
-use Rattle.agreement.proofs.Simulation.{Sim}
+use Rattle.agreement.specs.Tied.{Tied}
 use Rattle.agreement.proofs.Runs.{short}
-use Rattle.agreement.proofs.Theorem.{alike}
+use Rattle.agreement.specs.Reached.{History, happened, Reached, by-event}
+use Rattle.agreement.proofs.Reaching.{reached-tied}
+use Rattle.agreement.proofs.Theorem.{reached-agrees}
 use Rattle.pool.specs.Call.{Call, effectOf}
 use Rattle.pool.specs.Call as Call
 use Rattle.demands.specs.Runs.{own, eventOf, Number}
@@ -42,12 +44,17 @@ partOf n s = record { control = s .control; area = midOf 0 (4096 * n) (s .area) 
 pub record Beside (n : ℕ) (s : Memories) (p : Pool) : Type 0 where
   pub area-is : length (s .area) ≡ 16384
   pub few : startedRegions p ≤ 4
-  pub sim : Sim (partOf (startedRegions p) s) p
+  pub history : History
+  pub reached : Reached history (partOf (startedRegions p) s) p
   pub most-won : AtMost n p
+
+-- so the bytes that are lent are tied to the plain pool
+pub tied : {n : ℕ} {s : Memories} {p : Pool} → Beside n s p → Tied (partOf (startedRegions p) s) p
+tied B = reached-tied (B .reached)
 
 -- after more calls
 pub later : {n m : ℕ} {s : Memories} {p : Pool} → n ≤ m → Beside n s p → Beside m s p
-later h B = record { area-is = B .area-is; few = B .few; sim = B .sim; most-won = λ k ℓ. omega (arith, h, B .most-won k ℓ) }
+later h B = record { area-is = B .area-is; few = B .few; history = B .history; reached = B .reached; most-won = λ k ℓ. omega (arith, h, B .most-won k ℓ) }
 
 -- a number is its code and 256 times its value
 pub sum : {n : ℕ} {y : Answer} → Number n y → n ≡ numberIn y
@@ -70,10 +77,10 @@ module _ {n : ℕ} {s : Memories} {p : Pool} (B : Beside n s p) (small : n < 429
   lent-same = by (ℕ-discrete (p .tasks) 0)
     where
       by : Dec (p .tasks ≡ 0) → lentRegions (seen (s .control)) ≡ startedRegions p
-      by (yes e) = rw (eq-eqb (seen (s .control) Tasks) 0 (B .sim .tasks ∙ e), eq-eqb (p .tasks) 0 e) refl
+      by (yes e) = rw (eq-eqb (seen (s .control) Tasks) 0 (tied B .tasks ∙ e), eq-eqb (p .tasks) 0 e) refl
       by (no k) =
           let q : startedRegions p ≡ p .regions = rw (ne-eqb (p .tasks) 0 k) refl in
-          rw (ne-eqb (seen (s .control) Tasks) 0 (λ e. k (sym (B .sim .tasks) ∙ e)), B .sim .regions (omega arith), le-ltb 4 (p .regions) (omega (arith, B .few, q)), ne-eqb (p .tasks) 0 k) refl
+          rw (ne-eqb (seen (s .control) Tasks) 0 (λ e. k (sym (tied B .tasks) ∙ e)), tied B .regions (omega arith), le-ltb 4 (p .regions) (omega (arith, B .few, q)), ne-eqb (p .tasks) 0 k) refl
 
   part-is : length (lent .area) ≡ 4096 * regions
   part-is = part-length (4096 * regions) (s .area) (omega (arith, B .few, B .area-is))
@@ -91,19 +98,21 @@ module _ {n : ℕ} {s : Memories} {p : Pool} (B : Beside n s p) (small : n < 429
     same-call : Same (suc n) (lending q (4096 * regions) s) (feeding c p)
     same-call =
         let S = shows (own q left (numberOf (e .answer))) lent (record { number = refl; control-is = refl; area-is = refl }) in
-        let A = alike (eventOf q lent) lent p (B .sim) premise in
+        let H = happened (eventOf q lent) lent p ∷ B .history in
+        let A = reached-agrees (B .history) lent p (B .reached) (eventOf q lent) premise in
         let p′ = Calls.call c p .0 in
         let r = same-regions p p′ keeps in
         let s′ : Memories = lending q (4096 * regions) s .0 in
         let back : partOf regions s′ ≡ left = λ i. record { control = e .control; area = part-back (4096 * regions) (s .area) (e .area) (long ∙ part-is) i } in
         record {
-          number = sum (S .answers) ∙ ap numberIn (A .says) ∙ ap (λ x. numberIn (x .1)) is;
+          number = sum (S .answers) ∙ ap numberIn (A .0 .says) ∙ ap (λ x. numberIn (x .1)) is;
           beside = record {
             area-is = back-length (4096 * regions) (s .area) (e .area) (omega (arith, B .few, B .area-is)) (long ∙ part-is) ∙ B .area-is;
             few = omega (arith, B .few, r);
-            sim =
-                subst (λ (z : Memories). Sim z p′) (S .leaves ∙ sym (ap (λ (k : ℕ). partOf k s′) r ∙ back))
-                (subst (λ x. Sim (stepped (eventOf q lent) lent .0) (x .0)) is (A .sim));
+            history = H;
+            reached =
+                subst (λ (z : Memories). Reached H z p′) (S .leaves ∙ sym (ap (λ (k : ℕ). partOf k s′) r ∙ back))
+                (subst (λ x. Reached H (stepped (eventOf q lent) lent .0) (x .0)) is (by-event (B .reached) (eventOf q lent) premise));
             most-won = most n c p (B .most-won);
           };
         }
@@ -116,7 +125,7 @@ module _ {n : ℕ} {s : Memories} {p : Pool} (B : Beside n s p) (small : n < 429
 
   as-fed : (f : ℕ → ℕ → Calls.Call) → Calls.call (f (length (lent .control)) (length (lent .area))) p ≡ Calls.call (f 8192 (4096 * regions)) p
   as-fed f =
-      ap (λ (k : ℕ). Calls.call (f k (length (lent .area))) p) (B .sim .length)
+      ap (λ (k : ℕ). Calls.call (f k (length (lent .area))) p) (tied B .length)
       ∙ ap (λ (k : ℕ). Calls.call (f 8192 k) p) part-is
 
   -- the call is lent so many regions as the stand's definition says

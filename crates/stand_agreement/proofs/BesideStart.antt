@@ -3,6 +3,7 @@ use Prim.Native.Nat.{ℕ, suc, _*_, _≤_, _<_}
 use mathlib.Core.Path.{_≡_, refl, sym, ap, subst, _∙_}
 use mathlib.Core.Logic.{_≢_}
 use mathlib.Core.Bool.{Bool, cond}
+use mathlib.Core.List.{_∷_}
 use native.Mathlib.Omega.{arith}
 use native.Mathlib.Decide.{decLt}
 use borrow.Author.Tests.{eq-eqb, ne-eqb, lt-ltb, le-ltb}
@@ -20,10 +21,10 @@ use Rattle.stepped.specs.Outcome.{Effect}
 use Rattle.agreement.specs.Ends.{Begins, startRefusals}
 use Rattle.stepped.specs.Outcome.{Memories}
 use Rattle.agreement.specs.Events.{stepped, whole}
-use Rattle.agreement.proofs.Simulation.{Sim}
 use Rattle.agreement.proofs.Ends.{start-ends}
 use Rattle.agreement.proofs.Lent.{start-leaves}
-use Rattle.agreement.proofs.Theorem.{alike}
+use Rattle.agreement.specs.Reached.{History, happened, Reached, by-event}
+use Rattle.agreement.proofs.Theorem.{reached-agrees}
 use Rattle.pool.specs.Call.{Call, effectOf}
 use Rattle.pool.specs.Call as Call
 use Rattle.demands.specs.Runs.{other, eventOf}
@@ -33,7 +34,7 @@ use Rattle.schedule.specs.Bytes.{lending, onBytes}
 use Rattle.schedule.specs.Plain.{numberIn, feeding, startedRegions, onPlain}
 use Rattle.stand_agreement.proofs.Parts.{part-length, part-back, back-length}
 use Rattle.stand_agreement.proofs.Fed.{StartIs, accepted, refused, start-is}
-use Rattle.stand_agreement.proofs.Beside.{partOf, Beside, later, sum, Same}
+use Rattle.stand_agreement.proofs.Beside.{partOf, Beside, tied, later, sum, Same}
 
 -- a number that is 0 has the code 0, and the code of a beginning tells its number
 code-zero : (y : Answer) → numberIn y ≡ 0 → y .code ≡ 0
@@ -80,22 +81,25 @@ module _ {n : ℕ} {s : Memories} {p : Pool} (B : Beside n s p) (tasks regions :
 
   fed : whole (eventOf (Call.start tasks) lent) p ≡ Calls.call c p
   fed =
-      ap (λ (k : ℕ). Calls.call (Calls.start k (length (lent .area)) tasks) p) (B .sim .length)
+      ap (λ (k : ℕ). Calls.call (Calls.start k (length (lent .area)) tasks) p) (tied B .length)
       ∙ ap (λ (k : ℕ). Calls.call (Calls.start 8192 k tasks) p) part-is
 
   -- what the stepped run and the whole run have of it
   number-same : r ≡ numberIn (Calls.call c p .1)
   number-same =
       let S = shows (other (Call.start tasks) lent left r) before (record { number = refl; control-is = refl; area-is = refl }, tt) in
-      let A = alike (eventOf (Call.start tasks) lent) before p (B .sim) tt in
-      sum (S .answers) ∙ ap numberIn (A .says) ∙ ap (λ x. numberIn (x .1)) fed
+      let A = reached-agrees (B .history) before p (B .reached) (eventOf (Call.start tasks) lent) tt in
+      sum (S .answers) ∙ ap numberIn (A .0 .says) ∙ ap (λ x. numberIn (x .1)) fed
 
-  sim-after : Sim (cond (eqb r 0) left before) (Calls.call c p .0)
-  sim-after =
+  abbrev H : History
+  H = happened (eventOf (Call.start tasks) lent) before p ∷ B .history
+
+  reached-after : Reached H (cond (eqb r 0) left before) (Calls.call c p .0)
+  reached-after =
       let S = shows (other (Call.start tasks) lent left r) before (record { number = refl; control-is = refl; area-is = refl }, tt) in
-      let A = alike (eventOf (Call.start tasks) lent) before p (B .sim) tt in
-      subst (λ (z : Memories). Sim z (Calls.call c p .0)) (S .leaves)
-      (subst (λ x. Sim (stepped (eventOf (Call.start tasks) lent) before .0) (x .0)) fed (A .sim))
+      subst (λ (z : Memories). Reached H z (Calls.call c p .0)) (S .leaves)
+      (subst (λ x. Reached H (stepped (eventOf (Call.start tasks) lent) before .0) (x .0)) fed
+      (by-event (B .reached) (eventOf (Call.start tasks) lent) tt))
 
   answers : Begins startRefusals (e .answer)
   answers = start-ends (length (lent .control)) (lent .area) tasks (lent .control) (lent .area) .answers
@@ -115,9 +119,10 @@ module _ {n : ℕ} {s : Memories} {p : Pool} (B : Beside n s p) (tasks regions :
       record {
         area-is = back-length (4096 * regions) (s .area) (e .area) (omega (arith, few, B .area-is)) long ∙ B .area-is;
         few = omega (arith, few, q);
-        sim =
-            subst (λ (z : Memories). Sim z p′)
-            (ap (λ (b : Bool). cond b left before) (eq-eqb r 0 h) ∙ sym (ap (λ (k : ℕ). partOf k s′) q ∙ back)) sim-after;
+        history = H;
+        reached =
+            subst (λ (z : Memories). Reached H z p′)
+            (ap (λ (b : Bool). cond b left before) (eq-eqb r 0 h) ∙ sym (ap (λ (k : ℕ). partOf k s′) q ∙ back)) reached-after;
         most-won = most n c p (B .most-won);
       }
 

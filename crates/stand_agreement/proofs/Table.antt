@@ -2,7 +2,7 @@
 -- Assumes nothing.
 use Prim.Native.Nat.{ℕ, zero, suc, _+_, _*_, _%_, _-_, _≤_, _<_}
 use mathlib.Core.Path.{_≡_, refl, sym, ap, _∙_}
-use mathlib.Core.List.{List, _∷_}
+use mathlib.Core.List.{List, [], _∷_}
 use native.Mathlib.Omega.{arith}
 use native.Mathlib.Decide.{ℕ-discrete, decLt}
 use borrow.Author.Tests.{eq-eqb, ne-eqb, lt-ltb, le-ltb, leb-true}
@@ -15,7 +15,7 @@ use Rattle.fields.specs.Columns.{at as atColumn, width}
 use Rattle.control.specs.Layout.{layout, Tasks}
 use Rattle.stepped.specs.Outcome.{Memories}
 use Rattle.agreement.proofs.Images.{zeros as zeros-are, getLE-zeros}
-use Rattle.agreement.proofs.Unstarted.{unstarted-sim}
+use Rattle.agreement.specs.Reached.{from-unstarted}
 use Rattle.agreement.proofs.Ways.{branch}
 use Rattle.schedule.specs.declared.record.Record.{Record}
 use Rattle.schedule.specs.declared.record.Record.the-variants.{Start, Allocate, Free, Step, Run, Bad}
@@ -26,7 +26,7 @@ use Rattle.schedule.specs.Tally.{none, counted}
 use Rattle.schedule.specs.Stand.{Request, start, allocate, free, step, lineOf, runs, treated, table}
 use Rattle.schedule.specs.Bytes.{zeros, onBytes}
 use Rattle.schedule.specs.Plain.{onPlain}
-use Rattle.stand_agreement.proofs.Beside.{Beside, later, Same, same-allocate, same-free, same-step}
+use Rattle.stand_agreement.proofs.Beside.{partOf, Beside, later, Same, same-allocate, same-free, same-step}
 use Rattle.stand_agreement.proofs.BesideStart.{same-start}
 
 -- ---- records
@@ -147,8 +147,9 @@ unfolding unstarted
 zeros-beside = record {
   area-is = length-replicate {A = ℕ} 16384 0;
   few = omega arith;
-  sim =
-      unstarted-sim
+  history = [];
+  reached =
+      from-unstarted {s₁ = partOf 0 zeros}
       (record {
         length = length-replicate {A = ℕ} 8192 0;
         bytes = λ i. rw (zeros-are 8192 i) (omega arith);

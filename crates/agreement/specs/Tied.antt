@@ -1,0 +1,23 @@
+-- What ties the bytes of the stepped run to the plain pool, before and after every event of every run.
+use mathlib.Core.Path.{_≡_}
+use Prim.Native.Nat.{ℕ, _≤_}
+use lib.ListN.{length}
+use Rattle.fields.specs.Little.{Bytes}
+use Rattle.plain.specs.Calls.{Pool}
+use Rattle.plain.specs.Invariant.{Good}
+use Rattle.control.specs.Layout.{Control, Tasks, Regions, seen}
+use Rattle.stepped.specs.Outcome.{Memories}
+use Rattle.agreement.specs.Memory.{memoryOf}
+use Rattle.agreement.specs.Relation.{Related}
+
+-- The control memory has its length and holds bytes; the started numbers of tasks and regions are the plain pool's; the plain
+-- pool has its invariant; and, once it is started, the fields and links are in relation with the plain pool's rows.
+pub record Tied (s₁ : Memories) (s : Pool) : Type 0 where
+  pub length : Control (s₁ .control)
+  pub bytes : Bytes (s₁ .control)
+  pub tasks : seen (s₁ .control) Tasks ≡ s .tasks
+  pub good : Good s
+  -- once it is started: it has a region, as many as the plain pool, and the relation
+  pub some : 1 ≤ s .tasks → 1 ≤ s .regions
+  pub regions : 1 ≤ s .tasks → seen (s₁ .control) Regions ≡ s .regions
+  pub related : 1 ≤ s .tasks → Related (s .regions) (memoryOf (seen (s₁ .control)) (s₁ .area)) (s .mem)
