@@ -43,8 +43,8 @@ use Rattle.stepped.specs.Allocate as Allocate
 use Rattle.agreement.specs.Memory.{slotOf, memoryOf}
 use Rattle.agreement.specs.Relation.{PushRelated, NoteRelated, ChainRelated, r-retire, r-a3-read, r-a3-exchange, r-a4}
 use Rattle.agreement.proofs.Slots.{toPlace, toAnchor, toChain}
-use Rattle.agreement.proofs.Sets.{setAnchor}
-use Rattle.agreement.proofs.Bridge.{withSlots, anchor-written}
+use Rattle.agreement.proofs.Sets.{withSlots, setAnchor}
+use Rattle.agreement.proofs.Bridge.{anchor-written}
 use Rattle.agreement.proofs.Tops.{first-of, descriptor-in-hand}
 use Rattle.agreement.proofs.Couple.{mine}
 use Rattle.agreement.proofs.Changes.{anchoring}
@@ -63,9 +63,9 @@ module _ {regions : ℕ} {v : View} {area : List ℕ} {m : Mem} {t : ℕ} {p : P
       let C = w .pair .rel .core in
       let b = anchorOf (v (Layout.Anchor d)) in
       both-true (both-true
-      (le-leb (b .state) 2 (omega (arith, C .descriptors d l .state, number-max (m .descriptor d .state))))
-      (le-leb (b .avail) 512 (C .avails d l)))
-      (le-leb (b .count) 512 (C .chainCounts d l))
+      (le-leb (b .state) 2 (omega (arith, C .descriptors .each d l .state, number-max (m .descriptor d .state))))
+      (le-leb (b .avail) 512 (C .descriptors .avails d l)))
+      (le-leb (b .count) 512 (C .descriptors .chainCounts d l))
 
 -- the word of (FULL, n, 0) says so
 pub full-parts : (c : ℕ) → Fields (full (perRegion c))
@@ -103,7 +103,7 @@ module _ {regions : ℕ} {v : View} {area : List ℕ} {m : Mem} {t : ℕ} {k : �
       let d = v (TaskDescriptor t) in
       let b = anchorOf (v (Layout.Anchor d)) in
       pass (isAnchor (v (Layout.Anchor d))) (anchor-tested w d l)
-      (meet _ (eqb (b .state) 0) (eq-eqb (b .state) 0 (w .pair .rel .core .descriptors d l .state ∙ ap numberOf g)) (record {
+      (meet _ (eqb (b .state) 0) (eq-eqb (b .state) 0 (w .pair .rel .core .descriptors .each d l .state ∙ ap numberOf g)) (record {
         says = refl;
         keeps = (refl, refl);
         rel = goes w (TaskPlace t := 11 ∷ []) (toPlace 11 (slotOf v t)) (pushing (retire c d) read) refl
@@ -124,7 +124,7 @@ module _ {regions : ℕ} {v : View} {area : List ℕ} {m : Mem} {t : ℕ} {k : �
       let ec : c ≡ E .class =
       class-of (w .pair .turn) c d (mine (w .pair) .fits) (omega (arith, when-same c (one d d + 0), when-same d 1)) in
       let en : perRegion c ≡ perRegion (E .class) = ap perRegion ec in
-      let D = w .pair .rel .core .descriptors d l in
+      let D = w .pair .rel .core .descriptors .each d l in
       let C : ChainRelated (link area) b E = open-holds (E .state) opens (D .chain) in
       let L : OpenDescriptor E = open-holds (E .state) opens (w .pair .turn .inv .chains d l) in
       let sz : ChainLength PARTIAL (perRegion (E .class)) (length (E .chain)) = rw g at (L .sized) in
@@ -180,7 +180,7 @@ module _ {regions : ℕ} {v : View} {area : List ℕ} {m : Mem} {t : ℕ} {k : �
       let b = anchorOf (v (TaskAnchor t)) in
       let E = m .descriptor d in
       let T = taken (w .pair .turn) u in
-      let D = w .pair .rel .core .descriptors d (T .fits) in
+      let D = w .pair .rel .core .descriptors .each d (T .fits) in
       let C : ChainRelated (link area) (anchorOf (v (Layout.Anchor d))) E = open-holds (E .state) (T .counts) (D .chain) in
       let same = anchor-word-same (v (Layout.Anchor d)) (v (TaskAnchor t)) e in
       let s = toPlace 25 (toChain r (b .avail) (b .count) (slotOf v t)) in
@@ -211,7 +211,7 @@ module _ {regions : ℕ} {v : View} {area : List ℕ} {m : Mem} {t : ℕ} {k : �
           w .pair .turn .fits,
           w .pair .small,
           T .fits,
-          w .pair .rel .core .descriptorRegions d (T .fits),
+          w .pair .rel .core .descriptors .regionNumbers d (T .fits),
           anchor-below (full (perRegion c)) (full-parts c),
           high,
           first,
@@ -237,7 +237,7 @@ module _ {regions : ℕ} {v : View} {area : List ℕ} {m : Mem} {t : ℕ} {k : �
       let l = descriptor-in-hand (w .pair .turn) d (omega (arith, when-same d 1)) in
       let ec : c ≡ E .class =
       class-of (w .pair .turn) c d (mine (w .pair) .fits) (omega (arith, when-same c (one d d + 0), when-same d 1)) in
-      let D = w .pair .rel .core .descriptors d l in
+      let D = w .pair .rel .core .descriptors .each d l in
       let N′ = re-note {m = m} {m′ = m} refl ec N in
       let C : 1 ≤ numberOf (E .state) → ChainRelated (link area) (anchorOf (v (Layout.Anchor d))) E =
       λ h. open-holds (E .state) (number-open (E .state) h) (D .chain) in
@@ -255,7 +255,7 @@ module _ {regions : ℕ} {v : View} {area : List ℕ} {m : Mem} {t : ℕ} {k : �
       let z : 1 ≤ numberOf (E .state) = omega (arith, h, N .state) in
       eq-eqb (v (Layout.Anchor d)) word (same-anchor-word (v (Layout.Anchor d)) word (unmoved-same m d n D (C z) (L z) N′ h)))
       (λ g h.
-      pass (ltb (v (DescriptorRegion d)) regions) (lt-ltb (v (DescriptorRegion d)) regions (w .pair .rel .core .descriptorRegions d l))
+      pass (ltb (v (DescriptorRegion d)) regions) (lt-ltb (v (DescriptorRegion d)) regions (w .pair .rel .core .descriptors .regionNumbers d l))
       (exchange-won n w high first (eqb-true (v (Layout.Anchor d)) word g) h))
       (λ g h. record {
         says = refl;

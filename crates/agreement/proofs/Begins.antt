@@ -100,12 +100,12 @@ module _ {regions : ℕ} {v : View} {area : List ℕ} {m : Mem} {t : ℕ} {k : �
   R = w .pair .rel
 
   -- a task's part with its caches as they were, and another class
-  begun : (a′ : Memory) (m′ : Mem) (s : Slot) (p : Place) → a′ .area ≡ area → s .class < 16 → s .top ≡ slotOf v t .top → s .count ≡ slotOf v t .count
+  begun : (a′ : Memory) (m′ : Mem) (s : Slot) (p : Place) → a′ .area ≡ area → s .class < 16 → s .caches .top ≡ slotOf v t .caches .top → s .caches .count ≡ slotOf v t .caches .count
       → PlaceRelated regions a′ m′ s p → SlotRelated regions a′ m′ s (taskOf p k)
   begun a′ m′ s p e f g h pl = record {
     fits = f;
     place = pl;
-    tops = λ c l. subst (λ (z : List ℕ). Linked (link z) (λ u. u) 8192 (s .top c) (k c)) (sym e) (rw (ap (λ (z : ℕ → ℕ). z c) g) (mine (w .pair) .tops c l));
+    tops = λ c l. subst (λ (z : List ℕ). Linked (link z) (λ u. u) 8192 (s .caches .top c) (k c)) (sym e) (rw (ap (λ (z : ℕ → ℕ). z c) g) (mine (w .pair) .tops c l));
     counts = λ c l. ap (λ (z : ℕ → ℕ). z c) h ∙ mine (w .pair) .counts c l;
   }
 
@@ -178,7 +178,7 @@ module _ {regions : ℕ} {v : View} {area : List ℕ} {m : Mem} {t : ℕ} {k : �
   marked c l (yes e) = rw (ne-eqb (bitAt (v (Marks (u / 64))) (u % 64)) 1 (λ i. omega (arith, mark))) (refusal (R w) 11)
     where
       mark : bitAt (v (Marks (u / 64))) (u % 64) ≡ m .hands u
-      mark = R w .core .marks u (omega (arith, w .pair .small))
+      mark = R w .core .entries .marks u (omega (arith, w .pair .small))
   marked c l (no e) =
       meet (refuse 11) (isSet (v (Marks (u / 64))) (u % 64)) (eq-eqb (bitAt (v (Marks (u / 64))) (u % 64)) 1 (mark ∙ one))
       (record {
@@ -193,7 +193,7 @@ module _ {regions : ℕ} {v : View} {area : List ℕ} {m : Mem} {t : ℕ} {k : �
       })
     where
       mark : bitAt (v (Marks (u / 64))) (u % 64) ≡ m .hands u
-      mark = R w .core .marks u (omega (arith, w .pair .small))
+      mark = R w .core .entries .marks u (omega (arith, w .pair .small))
 
       one : m .hands u ≡ 1
       one = omega (arith, I .blocks u, inside-open I u)
@@ -211,25 +211,25 @@ module _ {regions : ℕ} {v : View} {area : List ℕ} {m : Mem} {t : ℕ} {k : �
   opened : (d : ℕ) → d < 64 → Both regions v area m (Stepped.freeBy v regions t u d) (Plain.freeIn (m .descriptor d) t u m)
   unfolding Stepped.freeBy Stepped.freeOpen
   opened d l =
-      let D = R w .core .descriptors d l in
+      let D = R w .core .descriptors .each d l in
       let n = numberOf (m .descriptor d .state) in
       let test = both (Plain.opens? (m .descriptor d) (regionOf u)) (Plain.first? (m .descriptor d .class) u) in
-      pass (ltb (v (DescriptorRegion d)) regions) (lt-ltb (v (DescriptorRegion d)) regions (R w .core .descriptorRegions d l))
+      pass (ltb (v (DescriptorRegion d)) regions) (lt-ltb (v (DescriptorRegion d)) regions (R w .core .descriptors .regionNumbers d l))
       (choose (eqb (v (DescriptorRegion d)) (regionOf u))
       (λ e.
       pass (isAnchor (v (Anchor d)))
-      (both-true (both-true (le-leb (anchorOf (v (Anchor d)) .state) 2 (omega (arith, D .state, number-max (m .descriptor d .state)))) (le-leb (anchorOf (v (Anchor d)) .avail) 512 (R w .core .avails d l)))
-      (le-leb (anchorOf (v (Anchor d)) .count) 512 (R w .core .chainCounts d l)))
+      (both-true (both-true (le-leb (anchorOf (v (Anchor d)) .state) 2 (omega (arith, D .state, number-max (m .descriptor d .state)))) (le-leb (anchorOf (v (Anchor d)) .avail) 512 (R w .core .descriptors .avails d l)))
+      (le-leb (anchorOf (v (Anchor d)) .count) 512 (R w .core .descriptors .chainCounts d l)))
       (choose (eqb (anchorOf (v (Anchor d)) .state) 0)
       (λ z. ten test _ (λ p. absurd (omega (arith, eqb-true (anchorOf (v (Anchor d)) .state) 0 z, D .state, numbered (m .descriptor d .state) (p .0 .1)))))
       (λ z.
       let live : Plain.NotEmpty (m .descriptor d .state) = notEmpty (m .descriptor d .state) (omega (arith, eqb-false (anchorOf (v (Anchor d)) .state) 0 z, D .state)) in
-      pass (ltb (v (DescriptorClass d)) 16) (lt-ltb (v (DescriptorClass d)) 16 (R w .core .descriptorClasses d l))
+      pass (ltb (v (DescriptorClass d)) 16) (lt-ltb (v (DescriptorClass d)) 16 (R w .core .descriptors .classNumbers d l))
       (subst (λ (c : ℕ). Both regions v area m (cond (isFirst c u) (Stepped.freeMarked v t u c) (refuse 10)) (Plain.freeIn (m .descriptor d) t u m)) (sym (D .class))
       (decide (isFirst (m .descriptor d .class) u) test
       (λ f. ((sym (D .region) ∙ eqb-true (v (DescriptorRegion d)) (regionOf u) e, live), first-same (m .descriptor d .class) u f))
       (λ p. same-first (m .descriptor d .class) u (p .1))
-      (λ f p. marked (m .descriptor d .class) (omega (arith, D .class, R w .core .descriptorClasses d l)) (ℕ-discrete (m .hands u) 0))
+      (λ f p. marked (m .descriptor d .class) (omega (arith, D .class, R w .core .descriptors .classNumbers d l)) (ℕ-discrete (m .hands u) 0))
       (λ f p. refusal (R w) 10))))))
       (λ e. ten test _ (λ p. absurd (eqb-false (v (DescriptorRegion d)) (regionOf u) e (D .region ∙ p .0 .0)))))
 
@@ -248,5 +248,5 @@ unfolding Stepped.beginFree
 free-both {regions} {v} {area} {m} {t} w u =
     decide (ltb (regionOf u) regions) (decLt (regionOf u) regions) (ltb-true (regionOf u) regions) (lt-ltb (regionOf u) regions)
     (λ e l. subst (λ (z : ℕ). Both regions v area m (Stepped.freeEntry v regions t u z) (Plain.freeBy (m .map (regionOf u)) t u m))
-    (sym (R w .core .maps (regionOf u) l)) (entry w u l (m .map (regionOf u)) (w .pair .turn .inv .entries (regionOf u))))
+    (sym (R w .core .entries .maps (regionOf u) l)) (entry w u l (m .map (regionOf u)) (w .pair .turn .inv .entries (regionOf u))))
     (λ e l. refusal (R w) 10)

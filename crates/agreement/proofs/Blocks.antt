@@ -79,19 +79,19 @@ module _ {regions : ℕ} {a : Memory} {m : Mem} {t : ℕ} {p : Place} {k : ℕ �
 
   -- the caches with a new one of the class c
   pub re-cache : (a′ : Memory) (m′ : Mem) (s : Slot) (p′ : Place) (c b n : ℕ) (q : List ℕ) → ((e : ℕ) → e < 16 → Agree (link (a .area)) (link (a′ .area)) (k e)) → s .class ≡ a .slot t .class
-      → s .top ≡ update (a .slot t .top) c b → s .count ≡ update (a .slot t .count) c n → Linked (link (a′ .area)) (λ u. u) 8192 b q → n ≡ length q → PlaceRelated regions a′ m′ s p′ → SlotRelated regions a′ m′ s (taskOf p′ (update k c q))
+      → s .caches .top ≡ update (a .slot t .caches .top) c b → s .caches .count ≡ update (a .slot t .caches .count) c n → Linked (link (a′ .area)) (λ u. u) 8192 b q → n ≡ length q → PlaceRelated regions a′ m′ s p′ → SlotRelated regions a′ m′ s (taskOf p′ (update k c q))
   re-cache a′ m′ s p′ c b n q g f et ec l en pl = record {
     fits = rw f (mine w .fits);
     place = pl;
     tops = subst (λ (z : ℕ → ℕ). (e : ℕ) → e < 16 → Linked (link (a′ .area)) (λ u. u) 8192 (z e) (update k c q e)) (sym et)
-        (update-all₂ (λ e x r. e < 16 → Linked (link (a′ .area)) (λ u. u) 8192 x r) (a .slot t .top) k c b q (λ i. l) (λ e d i. linked-frame (g e i) (mine w .tops e i)));
+        (update-all₂ (λ e x r. e < 16 → Linked (link (a′ .area)) (λ u. u) 8192 x r) (a .slot t .caches .top) k c b q (λ i. l) (λ e d i. linked-frame (g e i) (mine w .tops e i)));
     counts = subst (λ (z : ℕ → ℕ). (e : ℕ) → e < 16 → z e ≡ length (update k c q e)) (sym ec)
-        (update-all₂ (λ e x r. e < 16 → x ≡ length r) (a .slot t .count) k c n q (λ i. en) (λ e d i. mine w .counts e i));
+        (update-all₂ (λ e x r. e < 16 → x ≡ length r) (a .slot t .caches .count) k c n q (λ i. en) (λ e d i. mine w .counts e i));
   }
 
   -- the caches as they were, after a link under way is written
   pub re-link : (a′ : Memory) (m′ : Mem) (s : Slot) (p′ : Place) → ((e : ℕ) → e < 16 → Agree (link (a .area)) (link (a′ .area)) (k e)) → s .class ≡ a .slot t .class
-      → s .top ≡ a .slot t .top → s .count ≡ a .slot t .count → PlaceRelated regions a′ m′ s p′ → SlotRelated regions a′ m′ s (taskOf p′ k)
+      → s .caches .top ≡ a .slot t .caches .top → s .caches .count ≡ a .slot t .caches .count → PlaceRelated regions a′ m′ s p′ → SlotRelated regions a′ m′ s (taskOf p′ k)
   re-link a′ m′ s p′ g f et ec pl = record {
     fits = rw f (mine w .fits);
     place = pl;
@@ -101,7 +101,7 @@ module _ {regions : ℕ} {a : Memory} {m : Mem} {t : ℕ} {p : Place} {k : ℕ �
 
   -- the caches as they were
   pub re-slot : (a′ : Memory) (m′ : Mem) (s : Slot) (p′ : Place) → a′ .area ≡ a .area → s .class ≡ a .slot t .class
-      → s .top ≡ a .slot t .top → s .count ≡ a .slot t .count → PlaceRelated regions a′ m′ s p′ → SlotRelated regions a′ m′ s (taskOf p′ k)
+      → s .caches .top ≡ a .slot t .caches .top → s .caches .count ≡ a .slot t .caches .count → PlaceRelated regions a′ m′ s p′ → SlotRelated regions a′ m′ s (taskOf p′ k)
   re-slot a′ m′ s p′ e f g h pl = re-link a′ m′ s p′ (λ c l u i. ap (λ (z : List ℕ). link z u) e) f g h pl
 
   -- the link below the top of a cache, with the row q below it

@@ -1,5 +1,4 @@
 -- Writes to fields, seen column by column: what an assigned view reads as.
--- Assumes nothing.
 use mathlib.Core.Path.{_≡_, refl, sym, ap, fun-ext, _∙_}
 use mathlib.Core.Logic.{_≢_}
 use mathlib.Core.Bool.{cond}
@@ -18,10 +17,10 @@ use Rattle.control.specs.Layout.{Marks}
 use Rattle.control.specs.Layout
 use Rattle.words.specs.Head.{headOf}
 use Rattle.words.specs.Anchor.{anchorOf}
-use Rattle.words.specs.declared.head.Head.{Head}
-use Rattle.words.specs.declared.anchor.Anchor.{Anchor}
 use Rattle.agreement.specs.Memory.{Slot, Memory, byClass, slotOf, markOf, memoryOf}
-use Rattle.agreement.proofs.Sets.{setSlot, setHead, setDescriptorNext, setRegionNext, setAnchor, setOwner, setMap, setMark}
+use Rattle.agreement.proofs.Sets.{onLists, onDescriptors, onEntries, withSlots, withHeads, withDescriptorNexts}
+use Rattle.agreement.proofs.Sets.{withRegionNexts, withAnchors, withMap, withMarks, setSlot, setHead, setDescriptorNext}
+use Rattle.agreement.proofs.Sets.{setRegionNext, setAnchor, setOwner, setMap, setMark}
 
 -- ---- one column
 
@@ -105,21 +104,6 @@ mark-clear v u =
 
 -- ---- the memories
 
--- the memories with other parts of the tasks
-abbrev pub withSlots : (ℕ → Slot) → Memory → Memory
-withSlots S a = record {
-  head = a .head;
-  descriptorNext = a .descriptorNext;
-  regionNext = a .regionNext;
-  anchor = a .anchor;
-  descriptorRegion = a .descriptorRegion;
-  descriptorClass = a .descriptorClass;
-  map = a .map;
-  mark = a .mark;
-  slot = S;
-  area = a .area;
-}
-
 -- After writes that change the view v to v′: what is shared is as in b, and of the tasks' parts only that of t, now s,
 -- has changed. The first premise is `refl` where only fields of tasks were written.
 pub becomes : (v v′ : View) (area : List ℕ) (t : ℕ) (s : Slot) (b : Memory) → memoryOf v′ area ≡ withSlots (slotOf v′) b
@@ -128,136 +112,66 @@ pub becomes : (v v′ : View) (area : List ℕ) (t : ℕ) (s : Slot) (b : Memory
 becomes v v′ area t s b e f own others =
     e ∙ ap (λ (S : ℕ → Slot). withSlots S b) (slots-update v v′ t s own others ∙ ap (λ (S : ℕ → Slot). update S t s) (sym f))
 
--- what is shared, after a write of one of its columns; S are the tasks' parts
+-- What is shared, after a write of one of its columns; S are the tasks' parts. `put` puts a column into the memories.
 module _ (v : View) (S : ℕ → Slot) (area : List ℕ) where
+  abbrev before : Memory
+  before = withSlots S (memoryOf v area)
+
+  column-written : {A : Type 0} (put : (ℕ → A) → Memory → Memory) (g : ℕ → A) (f : ℕ → ℕ) (i x : ℕ)
+      → put (λ (j : ℕ). g (cond (eqb i j) x (f j))) before ≡ put (update (λ (j : ℕ). g (f j)) i (g x)) before
+  column-written {A} put g f i x = ap (λ (h : ℕ → A). put h before) (column-update g f i x)
+
   -- a head
-  pub head-written : (ℓ w : ℕ) → withSlots S (memoryOf (assigned (Layout.Head ℓ := w ∷ []) v) area) ≡ withSlots S (setHead ℓ (headOf w) (memoryOf v area))
-  head-written ℓ w = ap (λ (f : ℕ → Head). record {
-    head = f;
-    descriptorNext = memoryOf v area .descriptorNext;
-    regionNext = memoryOf v area .regionNext;
-    anchor = memoryOf v area .anchor;
-    descriptorRegion = memoryOf v area .descriptorRegion;
-    descriptorClass = memoryOf v area .descriptorClass;
-    map = memoryOf v area .map;
-    mark = memoryOf v area .mark;
-    slot = S;
-    area = area;
-  }) (column-update headOf (λ (j : ℕ). v (Layout.Head j)) ℓ w)
+  pub head-written : (ℓ w : ℕ)
+      → withSlots S (memoryOf (assigned (Layout.Head ℓ := w ∷ []) v) area)
+      ≡ withSlots S (setHead ℓ (headOf w) (memoryOf v area))
+  head-written = column-written (λ f. onLists (withHeads f)) headOf (λ j. v (Layout.Head j))
 
   -- a descriptor's next
-  pub descriptorNext-written : (d x : ℕ) → withSlots S (memoryOf (assigned (Layout.DescriptorNext d := x ∷ []) v) area) ≡ withSlots S (setDescriptorNext d x (memoryOf v area))
-  descriptorNext-written d x = ap (λ (f : ℕ → ℕ). record {
-    head = memoryOf v area .head;
-    descriptorNext = f;
-    regionNext = memoryOf v area .regionNext;
-    anchor = memoryOf v area .anchor;
-    descriptorRegion = memoryOf v area .descriptorRegion;
-    descriptorClass = memoryOf v area .descriptorClass;
-    map = memoryOf v area .map;
-    mark = memoryOf v area .mark;
-    slot = S;
-    area = area;
-  }) (column-update (λ (y : ℕ). y) (λ (j : ℕ). v (Layout.DescriptorNext j)) d x)
+  pub descriptorNext-written : (d x : ℕ)
+      → withSlots S (memoryOf (assigned (Layout.DescriptorNext d := x ∷ []) v) area)
+      ≡ withSlots S (setDescriptorNext d x (memoryOf v area))
+  descriptorNext-written = column-written (λ f. onLists (withDescriptorNexts f)) (λ y. y) (λ j. v (Layout.DescriptorNext j))
 
   -- a region's next
-  pub regionNext-written : (r x : ℕ) → withSlots S (memoryOf (assigned (Layout.RegionNext r := x ∷ []) v) area) ≡ withSlots S (setRegionNext r x (memoryOf v area))
-  regionNext-written r x = ap (λ (f : ℕ → ℕ). record {
-    head = memoryOf v area .head;
-    descriptorNext = memoryOf v area .descriptorNext;
-    regionNext = f;
-    anchor = memoryOf v area .anchor;
-    descriptorRegion = memoryOf v area .descriptorRegion;
-    descriptorClass = memoryOf v area .descriptorClass;
-    map = memoryOf v area .map;
-    mark = memoryOf v area .mark;
-    slot = S;
-    area = area;
-  }) (column-update (λ (y : ℕ). y) (λ (j : ℕ). v (Layout.RegionNext j)) r x)
+  pub regionNext-written : (r x : ℕ)
+      → withSlots S (memoryOf (assigned (Layout.RegionNext r := x ∷ []) v) area)
+      ≡ withSlots S (setRegionNext r x (memoryOf v area))
+  regionNext-written = column-written (λ f. onLists (withRegionNexts f)) (λ y. y) (λ j. v (Layout.RegionNext j))
 
   -- an anchor
-  pub anchor-written : (d w : ℕ) → withSlots S (memoryOf (assigned (Layout.Anchor d := w ∷ []) v) area) ≡ withSlots S (setAnchor d (anchorOf w) (memoryOf v area))
-  anchor-written d w = ap (λ (f : ℕ → Anchor). record {
-    head = memoryOf v area .head;
-    descriptorNext = memoryOf v area .descriptorNext;
-    regionNext = memoryOf v area .regionNext;
-    anchor = f;
-    descriptorRegion = memoryOf v area .descriptorRegion;
-    descriptorClass = memoryOf v area .descriptorClass;
-    map = memoryOf v area .map;
-    mark = memoryOf v area .mark;
-    slot = S;
-    area = area;
-  }) (column-update anchorOf (λ (j : ℕ). v (Layout.Anchor j)) d w)
+  pub anchor-written : (d w : ℕ)
+      → withSlots S (memoryOf (assigned (Layout.Anchor d := w ∷ []) v) area)
+      ≡ withSlots S (setAnchor d (anchorOf w) (memoryOf v area))
+  anchor-written = column-written (λ f. onDescriptors (withAnchors f)) anchorOf (λ j. v (Layout.Anchor j))
 
   -- a map entry
-  pub map-written : (r x : ℕ) → withSlots S (memoryOf (assigned (Layout.Map r := x ∷ []) v) area) ≡ withSlots S (setMap r x (memoryOf v area))
-  map-written r x = ap (λ (f : ℕ → ℕ). record {
-    head = memoryOf v area .head;
-    descriptorNext = memoryOf v area .descriptorNext;
-    regionNext = memoryOf v area .regionNext;
-    anchor = memoryOf v area .anchor;
-    descriptorRegion = memoryOf v area .descriptorRegion;
-    descriptorClass = memoryOf v area .descriptorClass;
-    map = f;
-    mark = memoryOf v area .mark;
-    slot = S;
-    area = area;
-  }) (column-update (λ (y : ℕ). y) (λ (j : ℕ). v (Layout.Map j)) r x)
+  pub map-written : (r x : ℕ)
+      → withSlots S (memoryOf (assigned (Layout.Map r := x ∷ []) v) area)
+      ≡ withSlots S (setMap r x (memoryOf v area))
+  map-written = column-written (λ f. onEntries (withMap f)) (λ y. y) (λ j. v (Layout.Map j))
 
   -- a descriptor written whole, and a map entry
   pub owner-written : (d w r c e : ℕ)
-      → withSlots S (memoryOf (assigned (Layout.Anchor d := w ∷ Layout.DescriptorRegion d := r ∷ Layout.DescriptorClass d := c ∷ Layout.Map r := e ∷ []) v) area)
+      → withSlots S (memoryOf (assigned (Layout.Anchor d := w ∷ Layout.DescriptorRegion d := r
+      ∷ Layout.DescriptorClass d := c ∷ Layout.Map r := e ∷ []) v) area)
       ≡ withSlots S (setOwner d (anchorOf w) r c e (memoryOf v area))
-  owner-written d w r c e =
-      let all : (ℕ → Anchor) → (ℕ → ℕ) → (ℕ → ℕ) → (ℕ → ℕ) → Memory = λ f g h i. record {
-        head = memoryOf v area .head;
-        descriptorNext = memoryOf v area .descriptorNext;
-        regionNext = memoryOf v area .regionNext;
-        anchor = f;
-        descriptorRegion = g;
-        descriptorClass = h;
-        map = i;
-        mark = memoryOf v area .mark;
-        slot = S;
-        area = area;
-      } in
-      λ z. all
-      (column-update anchorOf (λ (j : ℕ). v (Layout.Anchor j)) d w z)
-      (column-update (λ (y : ℕ). y) (λ (j : ℕ). v (Layout.DescriptorRegion j)) d r z)
-      (column-update (λ (y : ℕ). y) (λ (j : ℕ). v (Layout.DescriptorClass j)) d c z)
-      (column-update (λ (y : ℕ). y) (λ (j : ℕ). v (Layout.Map j)) r e z)
+  owner-written d w r c e z =
+      onEntries (withMap (column-update (λ (y : ℕ). y) (λ (j : ℕ). v (Layout.Map j)) r e z))
+      (onDescriptors (λ D. record {
+        anchor = column-update anchorOf (λ (j : ℕ). v (Layout.Anchor j)) d w z;
+        region = column-update (λ (y : ℕ). y) (λ (j : ℕ). v (Layout.DescriptorRegion j)) d r z;
+        class = column-update (λ (y : ℕ). y) (λ (j : ℕ). v (Layout.DescriptorClass j)) d c z;
+      }) before)
 
   -- a mark that is set
   pub mark-set-written : (u : ℕ)
       → withSlots S (memoryOf (assigned (Layout.Marks (u / 64) := withSet (v (Layout.Marks (u / 64))) (u % 64) ∷ []) v) area)
       ≡ withSlots S (setMark u 1 (memoryOf v area))
-  mark-set-written u = ap (λ (f : ℕ → ℕ). record {
-    head = memoryOf v area .head;
-    descriptorNext = memoryOf v area .descriptorNext;
-    regionNext = memoryOf v area .regionNext;
-    anchor = memoryOf v area .anchor;
-    descriptorRegion = memoryOf v area .descriptorRegion;
-    descriptorClass = memoryOf v area .descriptorClass;
-    map = memoryOf v area .map;
-    mark = f;
-    slot = S;
-    area = area;
-  }) (mark-set v u)
+  mark-set-written u = ap (λ (f : ℕ → ℕ). onEntries (withMarks f) before) (mark-set v u)
 
   -- a mark that is cleared
   pub mark-clear-written : (u : ℕ)
       → withSlots S (memoryOf (assigned (Layout.Marks (u / 64) := withClear (v (Layout.Marks (u / 64))) (u % 64) ∷ []) v) area)
       ≡ withSlots S (setMark u 0 (memoryOf v area))
-  mark-clear-written u = ap (λ (f : ℕ → ℕ). record {
-    head = memoryOf v area .head;
-    descriptorNext = memoryOf v area .descriptorNext;
-    regionNext = memoryOf v area .regionNext;
-    anchor = memoryOf v area .anchor;
-    descriptorRegion = memoryOf v area .descriptorRegion;
-    descriptorClass = memoryOf v area .descriptorClass;
-    map = memoryOf v area .map;
-    mark = f;
-    slot = S;
-    area = area;
-  }) (mark-clear v u)
+  mark-clear-written u = ap (λ (f : ℕ → ℕ). onEntries (withMarks f) before) (mark-clear v u)

@@ -1,5 +1,4 @@
 -- A cache of the task changes: what its two fields make of the tasks' parts, and a block under way that goes on top.
--- Assumes nothing.
 use mathlib.Core.Path.{_≡_, refl, sym, ap, subst, _∙_}
 use mathlib.Core.Logic.{_≢_}
 use mathlib.Core.Bool.{true}
@@ -33,9 +32,9 @@ use Rattle.stepped.specs.Ranges.{isTop}
 use Rattle.agreement.specs.Memory.{Slot, Memory, slotOf, memoryOf}
 use Rattle.agreement.specs.Relation.{PlaceRelated, Related}
 use Rattle.agreement.proofs.Images.{append-sound}
-use Rattle.agreement.proofs.Slots.{toCache}
-use Rattle.agreement.proofs.Sets.{setSlot, setLink}
-use Rattle.agreement.proofs.Bridge.{withSlots, becomes, cache-here, cache-there}
+use Rattle.agreement.proofs.Slots.{toCache, withCaches}
+use Rattle.agreement.proofs.Sets.{withSlots, setSlot, setLink}
+use Rattle.agreement.proofs.Bridge.{becomes, cache-here, cache-there}
 use Rattle.agreement.proofs.Couple.{Pair, mine, linking}
 use Rattle.agreement.proofs.Blocks.{below-tested, home-below, top-max, mine-under, mine-apart, cache-agrees, wrote, re-cache}
 use Rattle.agreement.proofs.Both.{Both}
@@ -57,45 +56,17 @@ withCache t c b n v = assigned (CacheTop t c := b ∷ CacheCount t c := n ∷ []
 module _ (v : View) (t c b n : ℕ) (l : c < 16) where
   -- the task's part with that cache
   pub cache-own : slotOf (withCache t c b n v) t ≡ toCache c b n (slotOf v t)
-  cache-own = λ z. record {
-    place = v (Layout.TaskPlace t);
-    class = v (Layout.TaskClass t);
-    unit = v (Layout.TaskUnit t);
-    head = headOf (v (Layout.TaskHead t));
-    next = v (Layout.TaskNext t);
-    anchor = anchorOf (v (Layout.TaskAnchor t));
-    descriptor = v (Layout.TaskDescriptor t);
-    region = v (Layout.TaskRegion t);
-    index = v (Layout.TaskIndex t);
-    left = v (Layout.TaskLeft t);
-    first = v (Layout.GroupFirst t);
-    last = v (Layout.GroupLast t);
-    grouped = v (Layout.GroupCount t);
-    state = v (Layout.TaskState t);
-    top = cache-here (λ i. v (record { column = 5; index = i })) t c b l z;
-    count = cache-here (λ i. v (record { column = 6; index = i })) t c n l z;
-  }
+  cache-own z = withCaches (record {
+    top = cache-here (λ i. v (Layout.Top i)) t c b l z;
+    count = cache-here (λ i. v (Layout.Count i)) t c n l z;
+  }) (slotOf v t)
 
   -- and the other tasks' parts, as they were
   pub cache-others : (j : ℕ) → t ≢ j → slotOf (withCache t c b n v) j ≡ slotOf v j
-  cache-others j d = λ z. record {
-    place = v (Layout.TaskPlace j);
-    class = v (Layout.TaskClass j);
-    unit = v (Layout.TaskUnit j);
-    head = headOf (v (Layout.TaskHead j));
-    next = v (Layout.TaskNext j);
-    anchor = anchorOf (v (Layout.TaskAnchor j));
-    descriptor = v (Layout.TaskDescriptor j);
-    region = v (Layout.TaskRegion j);
-    index = v (Layout.TaskIndex j);
-    left = v (Layout.TaskLeft j);
-    first = v (Layout.GroupFirst j);
-    last = v (Layout.GroupLast j);
-    grouped = v (Layout.GroupCount j);
-    state = v (Layout.TaskState j);
-    top = cache-there (λ i. v (record { column = 5; index = i })) t c b j l d z;
-    count = cache-there (λ i. v (record { column = 6; index = i })) t c n j l d z;
-  }
+  cache-others j d z = withCaches (record {
+    top = cache-there (λ i. v (Layout.Top i)) t c b j l d z;
+    count = cache-there (λ i. v (Layout.Count i)) t c n j l d z;
+  }) (slotOf v j)
 
 -- The memories after own and shared writes, which made v₁ of the view v, and those of a cache's two fields: what is shared is
 -- as in a, and of the tasks' parts only that of t has changed, which is s with that cache.
@@ -110,9 +81,9 @@ cache-becomes v v₁ area t c b n s a l e f own others =
 
 -- over records: the block u under way goes on top of the cache of the request's class, above x
 pushed : {regions : ℕ} {a : Memory} {m : Mem} {t : ℕ} {p : Place} {k : ℕ → List ℕ} (w : Pair regions a m t p k)
-    (u x n : ℕ) (s : Slot) (p′ : Place) → 1 ≤ count u (underWay p) → a .slot t .top (a .slot t .class) ≡ x
+    (u x n : ℕ) (s : Slot) (p′ : Place) → 1 ≤ count u (underWay p) → a .slot t .caches .top (a .slot t .class) ≡ x
     → n ≡ suc (length (k (a .slot t .class))) → s .class ≡ a .slot t .class
-    → s .top ≡ update (a .slot t .top) (a .slot t .class) u → s .count ≡ update (a .slot t .count) (a .slot t .class) n
+    → s .caches .top ≡ update (a .slot t .caches .top) (a .slot t .class) u → s .caches .count ≡ update (a .slot t .caches .count) (a .slot t .class) n
     → PlaceRelated regions (setSlot t s (setLink u x a)) (cached t k (a .slot t .class) (u ∷ k (a .slot t .class)) p′ m) s p′
     → Related regions (setSlot t s (setLink u x a)) (cached t k (a .slot t .class) (u ∷ k (a .slot t .class)) p′ m)
 pushed {a = a} {t = t} {k = k} w u x n s p′ o i e f et ec pl =
@@ -153,7 +124,7 @@ module _ {regions : ℕ} {v : View} {area : List ℕ} {m : Mem} {t : ℕ} {p : P
   pub cache-push : (ws : List Write) (u : ℕ) (s : Slot) (p′ : Place) → 1 ≤ count u (underWay p)
       → memoryOf (assigned ws v) area ≡ withSlots (slotOf (assigned ws v)) (memoryOf v area)
       → slotOf (assigned ws v) t ≡ s → ((j : ℕ) → t ≢ j → slotOf (assigned ws v) j ≡ slotOf v j)
-      → s .class ≡ slotOf v t .class → s .top ≡ slotOf v t .top → s .count ≡ slotOf v t .count
+      → s .class ≡ slotOf v t .class → s .caches .top ≡ slotOf v t .caches .top → s .caches .count ≡ slotOf v t .caches .count
       → PlaceRelated regions
       (setSlot t (toCache (v (TaskClass t)) u (v (CacheCount t (v (TaskClass t))) + 1) s)
       (setLink u (v (CacheTop t (v (TaskClass t)))) (memoryOf v area)))
@@ -179,7 +150,7 @@ module _ {regions : ℕ} {v : View} {area : List ℕ} {m : Mem} {t : ℕ} {p : P
       → (assigned ws v Tasks ≡ v Tasks) × (assigned ws v Regions ≡ v Regions)
       → memoryOf (assigned ws v) area ≡ withSlots (slotOf (assigned ws v)) (memoryOf v area)
       → slotOf (assigned ws v) t ≡ s → ((j : ℕ) → t ≢ j → slotOf (assigned ws v) j ≡ slotOf v j)
-      → s .class ≡ slotOf v t .class → s .top ≡ slotOf v t .top → s .count ≡ slotOf v t .count
+      → s .class ≡ slotOf v t .class → s .caches .top ≡ slotOf v t .caches .top → s .caches .count ≡ slotOf v t .caches .count
       → PlaceRelated regions
       (setSlot t (toCache (v (TaskClass t)) u (v (CacheCount t (v (TaskClass t))) + 1) s)
       (setLink u (v (CacheTop t (v (TaskClass t)))) (memoryOf v area)))

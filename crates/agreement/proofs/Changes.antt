@@ -1,5 +1,4 @@
 -- The other changes of a turn: heads, nexts, descriptors, the map, the marks.
--- Assumes nothing.
 use mathlib.Core.Path.{_≡_, refl, sym, ap, subst, _∙_}
 use mathlib.Core.List.{List}
 use Prim.Native.Nat.{ℕ, suc, _+_, _≤_, _<_}
@@ -24,7 +23,9 @@ use Rattle.plain.specs.Weights.{descriptorWeight, regionWeight, rowWeight}
 use Rattle.agreement.specs.Memory.{Memory, Slot}
 use Rattle.agreement.specs.Relation.{ChainRelated, Core, DescriptorRelated, Related, SlotRelated, wrap}
 use Rattle.agreement.proofs.Couple.{Pair, descriptor-apart, region-apart}
-use Rattle.agreement.proofs.Frames.{after}
+use Rattle.agreement.proofs.Frames.{after, lists-kept}
+use Rattle.agreement.proofs.Parts.{anchor-related, descriptorNext-related, head-related, map-related, mark-related}
+use Rattle.agreement.proofs.Parts.{regionNext-related}
 use Rattle.agreement.proofs.Sets.{setAnchor, setDescriptorNext, setHead, setMap, setMark, setRegionNext, setSlot}
 
 -- a won exchange of the list ℓ: what others noted of it is past
@@ -40,26 +41,23 @@ module _ {regions : ℕ} {a : Memory} {m : Mem} {t : ℕ} {p : Place} {k : ℕ �
 
   -- ---- a head
   pub heading : (ℓ : ℕ) (h : Head) (q : List ℕ) (s : Slot) (T : Task) → h .tag ≡ wrap (m .won ℓ + 1)
-      → (ℓ < 17 → Linked (a .descriptorNext) suc 0 (h .item) q) → (ℓ ≡ 17 → Linked (a .regionNext) suc 0 (h .item) q)
-      → SlotRelated regions (setSlot t s (setHead ℓ h a)) (setTask t T (setRow ℓ q m)) s T → Related regions (setSlot t s (setHead ℓ h a)) (setTask t T (setRow ℓ q m))
+      → (ℓ < 17 → Linked (a .lists .descriptorNext) suc 0 (h .item) q)
+      → (ℓ ≡ 17 → Linked (a .lists .regionNext) suc 0 (h .item) q)
+      → SlotRelated regions (setSlot t s (setHead ℓ h a)) (setTask t T (setRow ℓ q m)) s T
+      → Related regions (setSlot t s (setHead ℓ h a)) (setTask t T (setRow ℓ q m))
   heading ℓ h q s T e f g own = after {a = a} {m = m} t s T refl refl
       (record {
-        tags = update-all₂ (λ j x y. j < 18 → x .tag ≡ wrap y) (a .head) (m .won) ℓ h (m .won ℓ + 1) (λ l. e) (λ j d. C .tags j);
-        rows = update-all₂ (λ j x r. j < 17 → Linked (a .descriptorNext) suc 0 (x .item) r) (a .head) (m .row) ℓ h q f (λ j d. C .rows j);
-        spareRow = update-all₂ (λ j x r. j ≡ 17 → Linked (a .regionNext) suc 0 (x .item) r) (a .head) (m .row) ℓ h q g (λ j d i. subst (λ (z : ℕ). Linked (a .regionNext) suc 0 (a .head z .item) (m .row z)) (sym i) (C .spareRow)) 17 refl;
-        descriptorNexts = C .descriptorNexts;
-        regionNexts = C .regionNexts;
+        lists = head-related (C .lists) ℓ h (m .won ℓ + 1) q e f g;
         descriptors = C .descriptors;
-        avails = C .avails;
-        chainCounts = C .chainCounts;
-        descriptorRegions = C .descriptorRegions;
-        descriptorClasses = C .descriptorClasses;
-        maps = C .maps;
-        marks = C .marks;
+        entries = C .entries;
         length = C .length;
       })
       own
-      (λ j l d. record { wins = wins m ℓ; still = still m ℓ q; descriptorNexts = λ x h. refl; regionNexts = λ x h. refl; links = λ v h. refl; regions = λ x h. refl })
+      (λ j l d. record {
+        lists = record { wins = wins m ℓ; still = still m ℓ q; descriptorNexts = λ x h. refl; regionNexts = λ x h. refl };
+        links = λ v h. refl;
+        regions = λ x h. refl;
+      })
       (w .rel .slots)
 
   -- ---- the next of an item in hand
@@ -77,134 +75,100 @@ module _ {regions : ℕ} {a : Memory} {m : Mem} {t : ℕ} {p : Place} {k : ℕ �
   off-regions x h = omega (arith, w .turn .inv .regions x, below-max x regions, total-one 8 (regionWeight x) (m .task) t (w .turn .fits), ap (regionWeight x t) (w .turn .is))
 
   pub dnexting : (x n : ℕ) (s : Slot) (T : Task) → 1 ≤ holdsDescriptor x p → n ≤ 64
-      → SlotRelated regions (setSlot t s (setDescriptorNext x n a)) (setTask t T m) s T → Related regions (setSlot t s (setDescriptorNext x n a)) (setTask t T m)
+      → SlotRelated regions (setSlot t s (setDescriptorNext x n a)) (setTask t T m) s T
+      → Related regions (setSlot t s (setDescriptorNext x n a)) (setTask t T m)
   dnexting x n s T h b own = after {a = a} {m = m} t s T refl refl
       (record {
-        tags = C .tags;
-        rows = λ ℓ l. linked-frame (λ v e. update-other (a .descriptorNext) x n v (λ f. absurd (omega (arith, off-lists x ℓ l h, ap (λ (z : ℕ). count z (m .row ℓ)) f)))) (C .rows ℓ l);
-        spareRow = C .spareRow;
-        descriptorNexts = update-all (λ d y. d < 64 → y ≤ 64) (a .descriptorNext) x n (λ l. b) (λ d e. C .descriptorNexts d);
-        regionNexts = C .regionNexts;
+        lists = descriptorNext-related (C .lists) x n (λ ℓ l. off-lists x ℓ l h) b;
         descriptors = C .descriptors;
-        avails = C .avails;
-        chainCounts = C .chainCounts;
-        descriptorRegions = C .descriptorRegions;
-        descriptorClasses = C .descriptorClasses;
-        maps = C .maps;
-        marks = C .marks;
+        entries = C .entries;
         length = C .length;
       })
       own
       (λ j l d. record {
-        wins = λ ℓ. omega arith;
-        still = λ ℓ e. refl;
-        descriptorNexts = λ y g. update-other (a .descriptorNext) x n y (λ f. absurd (omega (arith, descriptor-apart w x j l d h, ap (λ (z : ℕ). holdsDescriptor z (m .task j .place)) f)));
-        regionNexts = λ y g. refl;
+        lists = record {
+          wins = λ ℓ. omega arith;
+          still = λ ℓ e. refl;
+          descriptorNexts = λ y g. update-other (a .lists .descriptorNext) x n y (λ f. absurd (omega
+              (arith, descriptor-apart w x j l d h, ap (λ (z : ℕ). holdsDescriptor z (m .task j .place)) f)));
+          regionNexts = λ y g. refl;
+        };
         links = λ v g. refl;
         regions = λ y g. refl;
       })
       (w .rel .slots)
 
   pub rnexting : (x n : ℕ) (s : Slot) (T : Task) → 1 ≤ holdsRegion x p → n ≤ regions
-      → SlotRelated regions (setSlot t s (setRegionNext x n a)) (setTask t T m) s T → Related regions (setSlot t s (setRegionNext x n a)) (setTask t T m)
+      → SlotRelated regions (setSlot t s (setRegionNext x n a)) (setTask t T m) s T
+      → Related regions (setSlot t s (setRegionNext x n a)) (setTask t T m)
   rnexting x n s T h b own = after {a = a} {m = m} t s T refl refl
       (record {
-        tags = C .tags;
-        rows = C .rows;
-        spareRow = linked-frame (λ v e. update-other (a .regionNext) x n v (λ f. absurd (omega (arith, off-regions x h, ap (λ (z : ℕ). count z (m .row 17)) f)))) (C .spareRow);
-        descriptorNexts = C .descriptorNexts;
-        regionNexts = update-all (λ d y. d < regions → y ≤ regions) (a .regionNext) x n (λ l. b) (λ d e. C .regionNexts d);
+        lists = regionNext-related (C .lists) x n (off-regions x h) b;
         descriptors = C .descriptors;
-        avails = C .avails;
-        chainCounts = C .chainCounts;
-        descriptorRegions = C .descriptorRegions;
-        descriptorClasses = C .descriptorClasses;
-        maps = C .maps;
-        marks = C .marks;
+        entries = C .entries;
         length = C .length;
       })
       own
       (λ j l d. record {
-        wins = λ ℓ. omega arith;
-        still = λ ℓ e. refl;
-        descriptorNexts = λ y g. refl;
-        regionNexts = λ y g. update-other (a .regionNext) x n y (λ f. absurd (omega (arith, region-apart w x j l d h, ap (λ (z : ℕ). holdsRegion z (m .task j .place)) f)));
+        lists = record {
+          wins = λ ℓ. omega arith;
+          still = λ ℓ e. refl;
+          descriptorNexts = λ y g. refl;
+          regionNexts = λ y g. update-other (a .lists .regionNext) x n y (λ f. absurd (omega
+              (arith, region-apart w x j l d h, ap (λ (z : ℕ). holdsRegion z (m .task j .place)) f)));
+        };
         links = λ v g. refl;
         regions = λ y g. refl;
       })
       (w .rel .slots)
 
   -- ---- an anchor: the region and the class stay
-  pub anchoring : (d : ℕ) (b : Anchor) (E : Descriptor) (s : Slot) (T : Task) → d < 64 → b .state ≡ numberOf (E .state) → E .region ≡ m .descriptor d .region → E .class ≡ m .descriptor d .class → IfOpen (E .state) (ChainRelated (link (a .area)) b E) → b .avail ≤ 512 → b .count ≤ 512
-      → SlotRelated regions (setSlot t s (setAnchor d b a)) (setTask t T (setDescriptor d E m)) s T → Related regions (setSlot t s (setAnchor d b a)) (setTask t T (setDescriptor d E m))
+  pub anchoring : (d : ℕ) (b : Anchor) (E : Descriptor) (s : Slot) (T : Task) → d < 64 → b .state ≡ numberOf (E .state)
+      → E .region ≡ m .descriptor d .region → E .class ≡ m .descriptor d .class
+      → IfOpen (E .state) (ChainRelated (link (a .area)) b E) → b .avail ≤ 512 → b .count ≤ 512
+      → SlotRelated regions (setSlot t s (setAnchor d b a)) (setTask t T (setDescriptor d E m)) s T
+      → Related regions (setSlot t s (setAnchor d b a)) (setTask t T (setDescriptor d E m))
   anchoring d b E s T l e f g c i₁ i₂ own = after {a = a} {m = m} t s T refl refl
       (record {
-        tags = C .tags;
-        rows = C .rows;
-        spareRow = C .spareRow;
-        descriptorNexts = C .descriptorNexts;
-        regionNexts = C .regionNexts;
-        descriptors = update-all₂ (λ j x F. j < 64 → DescriptorRelated (link (a .area)) x (a .descriptorRegion j) (a .descriptorClass j) F) (a .anchor) (m .descriptor) d b E
-            (λ i. record { state = e; region = C .descriptors d l .region ∙ sym f; class = C .descriptors d l .class ∙ sym g; chain = c }) (λ j n. C .descriptors j);
-        avails = update-all (λ j x. j < 64 → x .avail ≤ 512) (a .anchor) d b (λ i. i₁) (λ j n. C .avails j);
-        chainCounts = update-all (λ j x. j < 64 → x .count ≤ 512) (a .anchor) d b (λ i. i₂) (λ j n. C .chainCounts j);
-        descriptorRegions = C .descriptorRegions;
-        descriptorClasses = C .descriptorClasses;
-        maps = C .maps;
-        marks = C .marks;
+        lists = C .lists;
+        descriptors = anchor-related (C .descriptors) d b E l e f g c i₁ i₂;
+        entries = C .entries;
         length = C .length;
       })
       own
       (λ j i n. record {
-        wins = λ ℓ. omega arith;
-        still = λ ℓ e. refl;
-        descriptorNexts = λ y h. refl;
-        regionNexts = λ y h. refl;
+        lists = lists-kept;
         links = λ v h. refl;
         regions = λ y h. update-all (λ z F. F .region ≡ m .descriptor z .region) (m .descriptor) d E f (λ z n. refl) y;
       })
       (w .rel .slots)
 
   -- ---- the map's entry is cleared
-  pub clearing : (r z : ℕ) (s : Slot) (T : Task) → SlotRelated regions (setSlot t s (setMap r z a)) (setTask t T (State.setMap r z m)) s T → Related regions (setSlot t s (setMap r z a)) (setTask t T (State.setMap r z m))
+  pub clearing : (r z : ℕ) (s : Slot) (T : Task)
+      → SlotRelated regions (setSlot t s (setMap r z a)) (setTask t T (State.setMap r z m)) s T
+      → Related regions (setSlot t s (setMap r z a)) (setTask t T (State.setMap r z m))
   clearing r z s T own = after {a = a} {m = m} t s T refl refl
       (record {
-        tags = C .tags;
-        rows = C .rows;
-        spareRow = C .spareRow;
-        descriptorNexts = C .descriptorNexts;
-        regionNexts = C .regionNexts;
+        lists = C .lists;
         descriptors = C .descriptors;
-        avails = C .avails;
-        chainCounts = C .chainCounts;
-        descriptorRegions = C .descriptorRegions;
-        descriptorClasses = C .descriptorClasses;
-        maps = update-all₂ (λ j x y. j < regions → x ≡ y) (a .map) (m .map) r z z (λ l. refl) (λ j n. C .maps j);
-        marks = C .marks;
+        entries = map-related (C .entries) r z z refl;
         length = C .length;
       })
       own
-      (λ j l d. record { wins = λ ℓ. omega arith; still = λ ℓ e. refl; descriptorNexts = λ x h. refl; regionNexts = λ x h. refl; links = λ v h. refl; regions = λ x h. refl })
+      (λ j l d. record { lists = lists-kept; links = λ v h. refl; regions = λ x h. refl })
       (w .rel .slots)
 
   -- ---- a mark
-  pub marking : (u b : ℕ) (s : Slot) (T : Task) → SlotRelated regions (setSlot t s (setMark u b a)) (setTask t T (setHands u b m)) s T → Related regions (setSlot t s (setMark u b a)) (setTask t T (setHands u b m))
+  pub marking : (u b : ℕ) (s : Slot) (T : Task)
+      → SlotRelated regions (setSlot t s (setMark u b a)) (setTask t T (setHands u b m)) s T
+      → Related regions (setSlot t s (setMark u b a)) (setTask t T (setHands u b m))
   marking u b s T own = after {a = a} {m = m} t s T refl refl
       (record {
-        tags = C .tags;
-        rows = C .rows;
-        spareRow = C .spareRow;
-        descriptorNexts = C .descriptorNexts;
-        regionNexts = C .regionNexts;
+        lists = C .lists;
         descriptors = C .descriptors;
-        avails = C .avails;
-        chainCounts = C .chainCounts;
-        descriptorRegions = C .descriptorRegions;
-        descriptorClasses = C .descriptorClasses;
-        maps = C .maps;
-        marks = update-all₂ (λ j x y. j < 8192 → x ≡ y) (a .mark) (m .hands) u b b (λ l. refl) (λ j n. C .marks j);
+        entries = mark-related (C .entries) u b;
         length = C .length;
       })
       own
-      (λ j l d. record { wins = λ ℓ. omega arith; still = λ ℓ e. refl; descriptorNexts = λ x h. refl; regionNexts = λ x h. refl; links = λ v h. refl; regions = λ x h. refl })
+      (λ j l d. record { lists = lists-kept; links = λ v h. refl; regions = λ x h. refl })
       (w .rel .slots)

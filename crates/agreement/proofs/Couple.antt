@@ -1,5 +1,4 @@
 -- One task's turn in both pools: a lemma for each kind of change.
--- Assumes nothing.
 use mathlib.Core.Path.{_≡_, refl, ap, subst, _∙_}
 use mathlib.Core.Logic.{_≢_}
 use mathlib.Core.List.{List, [], _∷_}
@@ -32,7 +31,8 @@ use Rattle.plain.proofs.States.{open-counts}
 use Rattle.plain.proofs.Turn.{Turn}
 use Rattle.agreement.specs.Memory.{Memory, Slot}
 use Rattle.agreement.specs.Relation.{ChainRelated, Core, Related, SlotRelated}
-use Rattle.agreement.proofs.Frames.{after}
+use Rattle.agreement.proofs.Frames.{after, lists-kept}
+use Rattle.agreement.proofs.Parts.{links-related}
 use Rattle.agreement.proofs.Sets.{setLink, setSlot}
 
 -- the relation, and the plain pool's own invariant, at the turn of the task t, which is at the place p with the caches k
@@ -134,21 +134,7 @@ module _ {regions : ℕ} {a : Memory} {m : Mem} {t : ℕ} {p : Place} {k : ℕ �
   pub kept-core : (s : Slot) (T : Task) → Core regions (setSlot t s a) (setTask t T m)
   kept-core s T =
       let C = w .rel .core in
-      record {
-        tags = C .tags;
-        rows = C .rows;
-        spareRow = C .spareRow;
-        descriptorNexts = C .descriptorNexts;
-        regionNexts = C .regionNexts;
-        descriptors = C .descriptors;
-        avails = C .avails;
-        chainCounts = C .chainCounts;
-        descriptorRegions = C .descriptorRegions;
-        descriptorClasses = C .descriptorClasses;
-        maps = C .maps;
-        marks = C .marks;
-        length = C .length;
-      }
+      record { lists = C .lists; descriptors = C .descriptors; entries = C .entries; length = C .length }
 
   -- ---- the task's part alone
   pub quiet : (s : Slot) (T : Task) → SlotRelated regions (setSlot t s a) (setTask t T m) s T → Related regions (setSlot t s a) (setTask t T m)
@@ -156,7 +142,7 @@ module _ {regions : ℕ} {a : Memory} {m : Mem} {t : ℕ} {p : Place} {k : ℕ �
       after {a = a} {m = m} t s T refl refl
       (kept-core s T)
       own
-      (λ j l d. record { wins = λ ℓ. omega arith; still = λ ℓ e. refl; descriptorNexts = λ x h. refl; regionNexts = λ x h. refl; links = λ v h. refl; regions = λ x h. refl })
+      (λ j l d. record { lists = lists-kept; links = λ v h. refl; regions = λ x h. refl })
       (w .rel .slots)
 
   -- ---- a link of a block of the task is written
@@ -168,47 +154,25 @@ module _ {regions : ℕ} {a : Memory} {m : Mem} {t : ℕ} {p : Place} {k : ℕ �
       let b = own-block u o in
       after {a = a} {m = m} t s T refl refl
       (record {
-        tags = C .tags;
-        rows = C .rows;
-        spareRow = C .spareRow;
-        descriptorNexts = C .descriptorNexts;
-        regionNexts = C .regionNexts;
-        descriptors = λ d l. record { state = C .descriptors d l .state; region = C .descriptors d l .region; class = C .descriptors d l .class; chain = chains b d l (m .descriptor d .state) refl (C .descriptors d l .chain) };
-        avails = C .avails;
-        chainCounts = C .chainCounts;
-        descriptorRegions = C .descriptorRegions;
-        descriptorClasses = C .descriptorClasses;
-        maps = C .maps;
-        marks = C .marks;
+        lists = C .lists;
+        descriptors = links-related (C .descriptors) (link (withLink (a .area) u x)) (λ d l g v h. link-other (a .area) u x v
+            (λ e. absurd (omega (
+              arith,
+              b .3,
+              total-one 64 (chainWeight u) (m .descriptor) d l,
+              g (count u (m .descriptor d .chain)),
+              ap (λ (z : ℕ). count z (m .descriptor d .chain)) e,
+            ))));
+        entries = C .entries;
         length = length-linked (u ⇒ x ∷ []) (a .area) ∙ C .length;
       })
       own
       (λ j l d. record {
-        wins = λ ℓ. omega arith;
-        still = λ ℓ e. refl;
-        descriptorNexts = λ x h. refl;
-        regionNexts = λ x h. refl;
+        lists = lists-kept;
         links = λ v h. (let z = block-apart u v j l d o h in link-other (a .area) u x v (z .0));
         regions = λ x h. refl;
       })
       (w .rel .slots)
-    where
-      chain-kept : (1 ≤ total 64 (insideWeight u) (m .descriptor)) × (blockWeight u t (taskOf p k) ≡ 1) × (m .hands u ≡ 0) × (total 64 (chainWeight u) (m .descriptor) ≡ 0)
-          → (d : ℕ) → d < 64 → ((i : ℕ) → ifOpen (m .descriptor d .state) i ≡ i) → ChainRelated (link (a .area)) (a .anchor d) (m .descriptor d) → ChainRelated (link (withLink (a .area) u x)) (a .anchor d) (m .descriptor d)
-      chain-kept b d l g c = record {
-        linked = linked-frame (λ v h. link-other (a .area) u x v
-            (λ e. absurd (omega (arith, b .3, total-one 64 (chainWeight u) (m .descriptor) d l, g (count u (m .descriptor d .chain)), ap (λ (z : ℕ). count z (m .descriptor d .chain)) e)))) (c .linked);
-        counts = c .counts;
-      }
-
-      chains : (1 ≤ total 64 (insideWeight u) (m .descriptor)) × (blockWeight u t (taskOf p k) ≡ 1) × (m .hands u ≡ 0) × (total 64 (chainWeight u) (m .descriptor) ≡ 0)
-          → (d : ℕ) → d < 64 → (z : State) → m .descriptor d .state ≡ z → IfOpen (m .descriptor d .state) (ChainRelated (link (a .area)) (a .anchor d) (m .descriptor d)) → IfOpen (m .descriptor d .state) (ChainRelated (link (withLink (a .area) u x)) (a .anchor d) (m .descriptor d))
-      chains b d l z e = if-open (m .descriptor d .state) (chain-kept b d l)
-        where
-          if-open : (z : State) {X Y : Type 0} → (((i : ℕ) → ifOpen z i ≡ i) → X → Y) → IfOpen z X → IfOpen z Y
-          if-open EMPTY f x = tt
-          if-open PARTIAL f x = f (λ i. refl) x
-          if-open FULL f x = f (λ i. refl) x
 
   -- ---- what a written link leaves of a row of the task
   pub agrees : (u x : ℕ) (q : List ℕ) → 1 ≤ blockWeight u t (taskOf p k) → ((v : ℕ) → count v q ≤ blockWeight v t (taskOf p k)) → count u q ≡ 0 → Agree (link (a .area)) (link (withLink (a .area) u x)) q

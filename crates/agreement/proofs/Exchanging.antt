@@ -84,7 +84,7 @@ module _ {regions : ℕ} {v : View} {area : List ℕ} {m : Mem} {t : ℕ} {k : �
   chain-of : ChainRelated (link area) (anchorOf (v (Anchor d))) (m .descriptor d)
   chain-of =
       open-holds (m .descriptor d .state) (own .counts)
-      (w .pair .rel .core .descriptors d (own .fits) .chain)
+      (w .pair .rel .core .descriptors .each d (own .fits) .chain)
 
   first-fits : v (GroupFirst t) < perRegion c
   first-fits = first-below (w .pair) G (λ z. omega arith) refl (placeHolds (w .pair .turn) .2)
@@ -115,7 +115,7 @@ module _ {regions : ℕ} {v : View} {area : List ℕ} {m : Mem} {t : ℕ} {k : �
         → IfOpen z (ChainRelated (link area) new (chained (m .descriptor d) z J))
         → (v′ : View) (s : Slot) (p : Place)
         → Writes v v′ area t s (setAnchor d (anchorOf (anchorWord new)) (memoryOf v area))
-        → s .class ≡ slotOf v t .class → s .top ≡ slotOf v t .top → s .count ≡ slotOf v t .count
+        → s .class ≡ slotOf v t .class → s .caches .top ≡ slotOf v t .caches .top → s .caches .count ≡ slotOf v t .caches .count
         → PlaceRelated regions (setSlot t s (setAnchor d (anchorOf (anchorWord new)) (memoryOf v area)))
         (Steps.at t k p (setDescriptor d (chained (m .descriptor d) z J) m)) s p
         → Related regions (memoryOf v′ area)
@@ -210,7 +210,7 @@ module _ {regions : ℕ} {v : View} {area : List ℕ} {m : Mem} {t : ℕ} {k : �
   f3-exchange-both =
       let b = v (Anchor d) in
       let C = w .pair .rel .core in
-      let D = C .descriptors d (own .fits) in
+      let D = C .descriptors .each d (own .fits) in
       let O = open-holds (m .descriptor d .state) (own .counts) (w .pair .turn .inv .chains d (own .fits)) in
       let M = re-note {m = m} {m′ = m} refl (sym (own .class)) N in
       pass _ (both-true (both-true (both-true (both-true
@@ -220,8 +220,8 @@ module _ {regions : ℕ} {v : View} {area : List ℕ} {m : Mem} {t : ℕ} {k : �
       (note-anchor a h N room)) (note-room a h N room))
       (pass _ (both-true (both-true
       (le-leb (anchorOf b .state) 2 (rw (D .state) (number-max (m .descriptor d .state))))
-      (le-leb (anchorOf b .avail) 512 (C .avails d (own .fits))))
-      (le-leb (anchorOf b .count) 512 (C .chainCounts d (own .fits))))
+      (le-leb (anchorOf b .avail) 512 (C .descriptors .avails d (own .fits))))
+      (le-leb (anchorOf b .count) 512 (C .descriptors .chainCounts d (own .fits))))
       (decide (eqb b a) (asNoted? (m .descriptor d) n)
       (λ e. same-unmoved m d n D chain-of O M (anchor-word-same b a (eqb-true b a e)))
       (λ q. eq-eqb b a (same-anchor-word b a (unmoved-same m d n D chain-of O M q)))
@@ -231,7 +231,7 @@ module _ {regions : ℕ} {v : View} {area : List ℕ} {m : Mem} {t : ℕ} {k : �
         keeps = (refl, refl);
         rel = goes w (TaskPlace t := 30 ∷ []) (toPlace 30 (slotOf v t)) (f3-read c u y g)
             refl (rw (eq-eqb t t refl)) (λ j n. rw (ne-eqb t j n)) refl refl refl
-            (r-f3-read refl (same-group refl refl refl refl refl refl G));
+            (r-f3-read refl (same-group refl refl refl refl G));
         sound = omega (arith, w .pair .turn .fits);
         apart = tt;
       })))

@@ -1,5 +1,4 @@
 -- What a task's step leaves to the other tasks.
--- Assumes nothing.
 use mathlib.Core.Path.{_≡_, refl, sym, ap, subst, _∙_}
 use mathlib.Core.Logic.{_≢_}
 use mathlib.Core.List.{List, [], _∷_}
@@ -22,7 +21,7 @@ use Rattle.plain.specs.State.{f1, f2, f3-exchange, f3-link, f3-read, f4-clear, 
 use Rattle.plain.specs.State.{region}
 use Rattle.plain.specs.Held.{holdsDescriptor, holdsRegion, underWay}
 use Rattle.plain.specs.Weights.{blockWeight, rowWeight}
-use Rattle.agreement.specs.Memory.{Memory, Slot}
+use Rattle.agreement.specs.Memory.{Lists, Memory, Slot}
 use Rattle.agreement.specs.Relation.{Core, GroupRelated, NoteRelated, Noted, PlaceRelated, PopRelated, PushRelated}
 use Rattle.agreement.specs.Relation.{Related, SlotRelated, r-a1, r-a3-exchange, r-a3-read, r-a4, r-a7, r-a8, r-back}
 use Rattle.agreement.specs.Relation.{r-f1, r-f2, r-f2-more, r-f3-exchange, r-f3-link, r-f3-read, r-f4-clear, r-idle}
@@ -46,27 +45,37 @@ Reads x (f3-link c u y g d n) = x ≡ d
 Reads x (f3-exchange c u y g d n) = x ≡ d
 Reads x (f4-clear c u d w r) = ⊥
 
+-- what a turn leaves of the lists to a task at the place p: what it noted stands or is past, and the nexts of what it holds
+pub record KeptLists (l l′ : Lists) (won won′ : ℕ → ℕ) (row row′ : ℕ → List ℕ) (p : Place) : Type 0 where
+  pub wins : (ℓ : ℕ) → won ℓ ≤ won′ ℓ
+  pub still : (ℓ : ℕ) → won′ ℓ ≡ won ℓ → row′ ℓ ≡ row ℓ
+  pub descriptorNexts : (x : ℕ) → 1 ≤ holdsDescriptor x p → l′ .descriptorNext x ≡ l .descriptorNext x
+  pub regionNexts : (x : ℕ) → 1 ≤ holdsRegion x p → l′ .regionNext x ≡ l .regionNext x
+
+-- the same lists
+pub lists-kept : {l : Lists} {won : ℕ → ℕ} {row : ℕ → List ℕ} {p : Place} → KeptLists l l won won row row p
+lists-kept =
+    record { wins = λ ℓ. omega arith; still = λ ℓ e. refl; descriptorNexts = λ x h. refl; regionNexts = λ x h. refl }
+
+-- what a turn leaves to another task
 pub record Kept (a a′ : Memory) (m m′ : Mem) (T : Task) : Type 0 where
-  pub wins : (ℓ : ℕ) → m .won ℓ ≤ m′ .won ℓ
-  pub still : (ℓ : ℕ) → m′ .won ℓ ≡ m .won ℓ → m′ .row ℓ ≡ m .row ℓ
-  pub descriptorNexts : (x : ℕ) → 1 ≤ holdsDescriptor x (T .place) → a′ .descriptorNext x ≡ a .descriptorNext x
-  pub regionNexts : (x : ℕ) → 1 ≤ holdsRegion x (T .place) → a′ .regionNext x ≡ a .regionNext x
+  pub lists : KeptLists (a .lists) (a′ .lists) (m .won) (m′ .won) (m .row) (m′ .row) (T .place)
   pub links : (v : ℕ) → 1 ≤ blockWeight v 0 T → link (a′ .area) v ≡ link (a .area) v
   pub regions : (x : ℕ) → Reads x (T .place) → m′ .descriptor x .region ≡ m .descriptor x .region
 
 module _ {a a′ : Memory} {m m′ : Mem} {T : Task} (K : Kept a a′ m m′ T) where
   kept-noted : {ℓ : ℕ} {h : Head} {n : ℕ} → Noted m ℓ h n → Noted m′ ℓ h n
   kept-noted {ℓ} {h} {n} N = record {
-    past = omega (arith, K .wins ℓ, N .past);
+    past = omega (arith, K .lists .wins ℓ, N .past);
     tags = N .tags;
-    same = λ e. rw (K .still ℓ (omega (arith, K .wins ℓ, N .past, e))) (N .same (omega (arith, K .wins ℓ, N .past, e)));
+    same = λ e. rw (K .lists .still ℓ (omega (arith, K .lists .wins ℓ, N .past, e))) (N .same (omega (arith, K .lists .wins ℓ, N .past, e)));
   }
 
   kept-pop : {s : Slot} {b ℓ limit : ℕ} {φ : Phase} → PopRelated m s b ℓ limit φ → PopRelated m′ s b ℓ limit φ
   kept-pop (PopRelated.at-read e) = PopRelated.at-read e
   kept-pop (PopRelated.at-next e N p l) = PopRelated.at-next e (kept-noted N) p l
   kept-pop {ℓ = ℓ} (PopRelated.at-exchange e N p l x f) =
-      PopRelated.at-exchange e (kept-noted N) p l x (λ i. rw (K .still ℓ (omega (arith, K .wins ℓ, N .past, i))) (f (omega (arith, K .wins ℓ, N .past, i))))
+      PopRelated.at-exchange e (kept-noted N) p l x (λ i. rw (K .lists .still ℓ (omega (arith, K .lists .wins ℓ, N .past, i))) (f (omega (arith, K .lists .wins ℓ, N .past, i))))
 
   kept-push : {s : Slot} {b ℓ limit x : ℕ} {nx nx′ : ℕ → ℕ} {φ : Phase} → nx′ x ≡ nx x → PushRelated m s b ℓ limit x nx φ → PushRelated m′ s b ℓ limit x nx′ φ
   kept-push h (PushRelated.at-read e) = PushRelated.at-read e
@@ -99,12 +108,12 @@ kept-place K (r-a1 e) = r-a1 e
 kept-place K (r-partial h) = r-partial (kept-pop K h)
 kept-place K (r-spare h) = r-spare (kept-pop K h)
 kept-place K (r-region h) = r-region (kept-pop K h)
-kept-place {s = s} K (r-retire h) = r-retire (kept-push K (K .descriptorNexts (s .descriptor) (omega (arith, when-same (s .descriptor) 1))) h)
-kept-place {s = s} K (r-back h) = r-back (kept-push K (K .descriptorNexts (s .descriptor) (omega (arith, when-same (s .descriptor) 1))) h)
-kept-place {s = s} K (r-release e h) = r-release e (kept-push K (K .regionNexts (s .region) (omega (arith, when-same (s .region) 1))) h)
-kept-place {s = s} K (r-offer h) = r-offer (kept-push K (K .descriptorNexts (s .descriptor) (omega (arith, when-same (s .descriptor) 1))) h)
+kept-place {s = s} K (r-retire h) = r-retire (kept-push K (K .lists .descriptorNexts (s .hand .descriptor) (omega (arith, when-same (s .hand .descriptor) 1))) h)
+kept-place {s = s} K (r-back h) = r-back (kept-push K (K .lists .descriptorNexts (s .hand .descriptor) (omega (arith, when-same (s .hand .descriptor) 1))) h)
+kept-place {s = s} K (r-release e h) = r-release e (kept-push K (K .lists .regionNexts (s .hand .region) (omega (arith, when-same (s .hand .region) 1))) h)
+kept-place {s = s} K (r-offer h) = r-offer (kept-push K (K .lists .descriptorNexts (s .hand .descriptor) (omega (arith, when-same (s .hand .descriptor) 1))) h)
 kept-place K (r-a3-read e) = r-a3-read e
-kept-place {s = s} K (r-a3-exchange e N i j k l) = r-a3-exchange e (kept-note K (K .regions (s .descriptor) refl) N) i j k l
+kept-place {s = s} K (r-a3-exchange e N i j k l) = r-a3-exchange e (kept-note K (K .regions (s .hand .descriptor) refl) N) i j k l
 kept-place K (r-a4 e l n h) = r-a4 e (linked-frame (under-links K) l) n h
 kept-place K (r-a7 e) = r-a7 e
 kept-place K (r-a8 e) = r-a8 e
@@ -112,9 +121,9 @@ kept-place K (r-f1 e) = r-f1 e
 kept-place K (r-f2 e z) = r-f2 e z
 kept-place K (r-f2-more e G) = r-f2-more e (kept-group K (λ v h. under-links K v (omega arith)) G)
 kept-place K (r-f3-read e G) = r-f3-read e (kept-group K (λ v h. under-links K v (omega arith)) G)
-kept-place {s = s} K (r-f3-link e G N l) = r-f3-link e (kept-group K (λ v h. under-links K v (omega arith)) G) (kept-note K (K .regions (s .descriptor) refl) N) l
+kept-place {s = s} K (r-f3-link e G N l) = r-f3-link e (kept-group K (λ v h. under-links K v (omega arith)) G) (kept-note K (K .regions (s .hand .descriptor) refl) N) l
 kept-place {s = s} K (r-f3-exchange e G N l f) =
-    r-f3-exchange e (kept-group K (λ v h. under-links K v (omega arith)) G) (kept-note K (K .regions (s .descriptor) refl) N) l
+    r-f3-exchange e (kept-group K (λ v h. under-links K v (omega arith)) G) (kept-note K (K .regions (s .hand .descriptor) refl) N) l
     (under-links K (G .last) (omega (arith, ap (count (G .last)) (G .is), count-append (G .last) (G .front) (G .last ∷ []), when-same (G .last) 1)) ∙ f)
 kept-place K (r-f4-clear e h) = r-f4-clear e h
 

@@ -155,7 +155,7 @@ module _ {regions : ℕ} {v : View} {area : List ℕ} {m : Mem} {t : ℕ} {k : �
       keeps = (refl, refl);
       rel = goes w (TaskPlace t := 30 ∷ []) (toPlace 30 (slotOf v t)) (f3-read (v (TaskClass t)) (v (TaskUnit t)) y g)
           refl (rw (eq-eqb t t refl)) (λ j n. rw (ne-eqb t j n)) refl refl refl
-          (r-f3-read refl (same-group refl refl refl refl refl refl G));
+          (r-f3-read refl (same-group refl refl refl refl G));
       sound = omega (arith, w .pair .turn .fits);
       apart = tt;
     }

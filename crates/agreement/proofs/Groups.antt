@@ -17,29 +17,28 @@ use Rattle.plain.specs.State.{Mem, Place}
 use Rattle.plain.specs.Held.{classAt, underWay}
 use Rattle.plain.specs.Places.{Together}
 use Rattle.plain.proofs.Owners.{home-of}
-use Rattle.agreement.specs.Memory.{Memory, Slot}
+use Rattle.agreement.specs.Memory.{TaskGroup, Memory, Slot}
 use Rattle.agreement.specs.Relation.{GroupRelated}
 use Rattle.agreement.proofs.Blocks.{home-below, mine-under}
 use Rattle.agreement.proofs.Couple.{Pair}
 
 -- a group goes over to another place, where the task's part and the links say the same of it
-pub same-group : {a a′ : Memory} {s₀ s : Slot} {y : ℕ} {g : List ℕ} → s .class ≡ s₀ .class → s .first ≡ s₀ .first
-    → s .last ≡ s₀ .last → s .grouped ≡ s₀ .grouped → s .region ≡ s₀ .region → a′ .area ≡ a .area
-    → GroupRelated a s₀ y g → GroupRelated a′ s y g
-same-group e f l n r i G = record {
+pub same-group : {a a′ : Memory} {s₀ s : Slot} {y : ℕ} {g : List ℕ} → s .class ≡ s₀ .class → s .group ≡ s₀ .group
+    → s .hand .region ≡ s₀ .hand .region → a′ .area ≡ a .area → GroupRelated a s₀ y g → GroupRelated a′ s y g
+same-group e f r i G = record {
   front = G .front;
   last = G .last;
   is = G .is;
-  linked = rw (i, e, f) (G .linked);
-  lastIs = rw (l, e) (G .lastIs);
-  counts = n ∙ G .counts;
+  linked = rw (i, e, ap (λ (z : TaskGroup). z .first) f) (G .linked);
+  lastIs = rw (ap (λ (z : TaskGroup). z .last) f, e) (G .lastIs);
+  counts = ap (λ (z : TaskGroup). z .count) f ∙ G .counts;
   region = r ∙ G .region;
 }
 
 -- where the group's last block is: in the group's region, where its index says
 pub record Last (s : Slot) (l : ℕ) : Type 0 where
-  pub block : Block (s .region) (s .class) l
-  pub at : unitOf (s .region) (s .class) (s .last) ≡ l
+  pub block : Block (s .hand .region) (s .class) l
+  pub at : unitOf (s .hand .region) (s .class) (s .group .last) ≡ l
 
 -- the task's group is under way at its place
 module _ {regions : ℕ} {a : Memory} {m : Mem} {t : ℕ} {p : Place} {k : ℕ → List ℕ} {y : ℕ} {g : List ℕ}
@@ -51,38 +50,38 @@ module _ {regions : ℕ} {a : Memory} {m : Mem} {t : ℕ} {p : Place} {k : ℕ �
       omega (arith, ap (count (G .last)) (G .is), count-append (G .last) (G .front) (G .last ∷ []), when-same (G .last) 1)
 
   -- the group's blocks are of its region and the request's class
-  pub of-region : (v : ℕ) → 1 ≤ count v (y ∷ g) → Block (a .slot t .region) (a .slot t .class) v
+  pub of-region : (v : ℕ) → 1 ≤ count v (y ∷ g) → Block (a .slot t .hand .region) (a .slot t .class) v
   of-region v h =
       let f = home-of (w .turn) v (omega (arith, sub v)) in
       let z : regionOf v ≡ regionOf y = elim (same? v y) [
         | same e ↦ ap (λ (x : ℕ). regionOf x) e
         | other e ↦ together v (omega (arith, when-other v y 1 e))
       ] in
-      let r : m .descriptor (f .d) .region ≡ a .slot t .region = f .region ∙ z ∙ sym (G .region) in
-      subst (λ (c : ℕ). Block (a .slot t .region) c v) (f .class ∙ class)
+      let r : m .descriptor (f .d) .region ≡ a .slot t .hand .region = f .region ∙ z ∙ sym (G .region) in
+      subst (λ (c : ℕ). Block (a .slot t .hand .region) c v) (f .class ∙ class)
       (subst (λ (x : ℕ). Block x (m .descriptor (f .d) .class) v) r (f .block))
 
   pub last-at : Last (a .slot t) (G .last)
   last-at =
       let b = of-region (G .last) last-in in
-      record { block = b; at = ap (unitOf (a .slot t .region) (a .slot t .class)) (G .lastIs) ∙ unit-again b }
+      record { block = b; at = ap (unitOf (a .slot t .hand .region) (a .slot t .class)) (G .lastIs) ∙ unit-again b }
 
   -- the indexes of its first and last block are below n
-  pub last-below : a .slot t .last < perRegion (a .slot t .class)
+  pub last-below : a .slot t .group .last < perRegion (a .slot t .class)
   last-below = omega (arith, G .lastIs, index-below (of-region (G .last) last-in))
 
-  pub first-below : a .slot t .first < perRegion (a .slot t .class)
+  pub first-below : a .slot t .group .first < perRegion (a .slot t .class)
   first-below = go (G .front) (G .is) (G .linked)
     where
       go : (q : List ℕ) → y ∷ g ≡ q ++ (G .last ∷ [])
-          → Linked (link (a .area)) (indexOf (a .slot t .class)) (indexOf (a .slot t .class) (G .last)) (a .slot t .first) q
-          → a .slot t .first < perRegion (a .slot t .class)
+          → Linked (link (a .area)) (indexOf (a .slot t .class)) (indexOf (a .slot t .class) (G .last)) (a .slot t .group .first) q
+          → a .slot t .group .first < perRegion (a .slot t .class)
       go [] e (ends f) =
           omega (arith, index-below (of-region (G .last) (omega (arith, ap (count (G .last)) e, when-same (G .last) 1))))
       go (z ∷ q) e (links f l) = omega (arith, index-below (of-region z (omega (arith, ap (count z) e, when-same z 1))))
 
   -- its region is one of the area's
-  pub region-below : a .slot t .region < regions
+  pub region-below : a .slot t .hand .region < regions
   region-below =
       omega (arith, G .region, home-below w (home-of (w .turn) y (omega (arith, sub y, when-same y 1))))
 

@@ -26,8 +26,7 @@ use Rattle.stepped.specs.Outcome.{Outcome, accept, close}
 use Rattle.agreement.specs.Memory.{Slot, Memory, slotOf, memoryOf}
 use Rattle.agreement.specs.Relation.{Noted, PlaceRelated, Related, wrap}
 use Rattle.agreement.proofs.Slots.{toPlace, toHead}
-use Rattle.agreement.proofs.Sets.{setSlot, setHead}
-use Rattle.agreement.proofs.Bridge.{withSlots}
+use Rattle.agreement.proofs.Sets.{withSlots, setSlot, setHead}
 use Rattle.agreement.proofs.Tops.{top-of, top-le, listed, listed-region, same-word, word-same}
 use Rattle.agreement.proofs.Tops.{won-same, same-won, next-tag, fresh}
 use Rattle.agreement.proofs.Changes.{heading}
@@ -37,8 +36,8 @@ use Rattle.agreement.proofs.Sharing.{shares}
 
 -- The two kinds of list: its number, how many items there are, the field of an item's next, the column of the nexts.
 pub data Kind (regions : ℕ) : ℕ → ℕ → (ℕ → Field) → (Memory → ℕ → ℕ) → Type 0 where
-  descriptors : {ℓ : ℕ} → ℓ < 17 → Kind regions ℓ 64 DescriptorNext (λ a. a .descriptorNext)
-  spare-regions : Kind regions REGIONS regions RegionNext (λ a. a .regionNext)
+  descriptors : {ℓ : ℕ} → ℓ < 17 → Kind regions ℓ 64 DescriptorNext (λ a. a .lists .descriptorNext)
+  spare-regions : Kind regions REGIONS regions RegionNext (λ a. a .lists .regionNext)
 
 -- what the relation says of a list
 pub record Listed (v : View) (m : Mem) (ℓ items : ℕ) (nx : ℕ → Field) : Type 0 where
@@ -76,20 +75,20 @@ module _ {regions : ℕ} {v : View} {area : List ℕ} {m : Mem} {t : ℕ} {p : P
       record {
         below = omega arith;
         most = omega arith;
-        linked = C .rows ℓ l;
-        nexts = C .descriptorNexts;
-        noted = fresh (headOf (v (Head ℓ))) (C .tags ℓ (omega arith)) (top-of (C .rows ℓ l));
-        head = top-le (C .rows ℓ l) (listed (w .pair .turn .inv) ℓ l);
+        linked = C .lists .rows ℓ l;
+        nexts = C .lists .descriptorNexts;
+        noted = fresh (headOf (v (Head ℓ))) (C .lists .tags ℓ (omega arith)) (top-of (C .lists .rows ℓ l));
+        head = top-le (C .lists .rows ℓ l) (listed (w .pair .turn .inv) ℓ l);
       }
   list-of spare-regions =
       let C = w .pair .rel .core in
       record {
         below = omega arith;
         most = omega (arith, w .pair .small);
-        linked = C .spareRow;
-        nexts = C .regionNexts;
-        noted = fresh (headOf (v (Head REGIONS))) (C .tags REGIONS (omega arith)) (top-of (C .spareRow));
-        head = top-le (C .spareRow) (listed-region (w .pair .turn .inv));
+        linked = C .lists .spareRow;
+        nexts = C .lists .regionNexts;
+        noted = fresh (headOf (v (Head REGIONS))) (C .lists .tags REGIONS (omega arith)) (top-of (C .lists .spareRow));
+        head = top-le (C .lists .spareRow) (listed-region (w .pair .turn .inv));
       }
 
   -- what is noted stands where the task alone changes
@@ -148,7 +147,7 @@ module _ {regions : ℕ} {v : View} {area : List ℕ} {m : Mem} {t : ℕ} {p : P
       → memoryOf (assigned ws v) area
       ≡ withSlots (slotOf (assigned ws v)) (setHead ℓ (headOf (advancedWord (v (TaskHead t)) x)) (memoryOf v area))
       → slotOf (assigned ws v) t ≡ s → ((j : ℕ) → t ≢ j → slotOf (assigned ws v) j ≡ slotOf v j)
-      → s .class ≡ slotOf v t .class → s .top ≡ slotOf v t .top → s .count ≡ slotOf v t .count
+      → s .class ≡ slotOf v t .class → s .caches .top ≡ slotOf v t .caches .top → s .caches .count ≡ slotOf v t .caches .count
       → PlaceRelated regions (setSlot t s (setHead ℓ (headOf (advancedWord (v (TaskHead t)) x)) (memoryOf v area)))
       (at t k p′ (setRow ℓ q m)) s p′
       → Related regions (memoryOf (assigned ws v) area) (at t k p′ (setRow ℓ q m))

@@ -167,7 +167,7 @@ module _ {regions : ℕ} (v : View) {area : List ℕ} {m : Mem} (R : Related reg
   open-anchor : (e : ℕ) → e < 64 → 1 ≤ anchorOf (v (Anchor e)) .state
       → OpenAnchor (perRegion (v (DescriptorClass e))) (anchorOf (v (Anchor e)) .avail) (anchorOf (v (Anchor e)) .count)
   open-anchor e l h =
-      let D = R .core .descriptors e l in
+      let D = R .core .descriptors .each e l in
       let E = m .descriptor e in
       let o = number-open (E .state) (omega (arith, D .state)) in
       let C = open-holds (E .state) o (D .chain) in
@@ -194,18 +194,18 @@ in-range {s₁} {s} S started =
       widths = fitting (s₁ .control) (S .bytes);
       tasks = omega (arith, S .tasks, S .good .few);
       regions = omega (arith, S .some q, S .good .small q);
-      heads = λ ℓ l. top-le (C .rows ℓ l) (listed I ℓ l);
-      head-regions = rw e (top-le (C .spareRow) (listed-region I));
-      descriptor-nexts = C .descriptorNexts;
-      region-nexts = rw e (C .regionNexts);
-      states = λ d l. omega (arith, C .descriptors d l .state, number-max (s .mem .descriptor d .state));
-      avails = C .avails;
-      chain-counts = C .chainCounts;
+      heads = λ ℓ l. top-le (C .lists .rows ℓ l) (listed I ℓ l);
+      head-regions = rw e (top-le (C .lists .spareRow) (listed-region I));
+      descriptor-nexts = C .lists .descriptorNexts;
+      region-nexts = rw e (C .lists .regionNexts);
+      states = λ d l. omega (arith, C .descriptors .each d l .state, number-max (s .mem .descriptor d .state));
+      avails = C .descriptors .avails;
+      chain-counts = C .descriptors .chainCounts;
       open-avails = λ d l h. open-anchor v R I d l h .avails;
       open-counts = λ d l h. open-anchor v R I d l h .counts;
-      descriptor-regions = rw e (C .descriptorRegions);
-      descriptor-classes = C .descriptorClasses;
-      maps = λ r l. omega (arith, C .maps r (omega arith), I .entries r);
+      descriptor-regions = rw e (C .descriptors .regionNumbers);
+      descriptor-classes = C .descriptors .classNumbers;
+      maps = λ r l. omega (arith, C .entries .maps r (omega arith), I .entries r);
       each-task = λ t l. rw e (task-in-range (s .regions) v (s₁ .area) (s .mem) t (pair t l) (R .slots t l .place));
     }
 

@@ -3,6 +3,7 @@ pub mod Slots
 pub mod Sets
 pub mod Bridge
 pub mod Tops
+pub mod Parts
 pub mod Frames
 pub mod Couple
 pub mod Changes

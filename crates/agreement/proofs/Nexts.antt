@@ -40,8 +40,8 @@ Holds spare-regions x p = 1 ≤ holdsRegion x p
 
 pub next-set : {regions ℓ items : ℕ} {nx : ℕ → Field} {column : Memory → ℕ → ℕ} (K : Kind regions ℓ items nx column)
     (t : ℕ) (s : Slot) (x n : ℕ) (a : Memory) → column (setSlot t s (setNext K x n a)) x ≡ n
-next-set (descriptors l) t s x n a = update-same (a .descriptorNext) x n
-next-set spare-regions t s x n a = update-same (a .regionNext) x n
+next-set (descriptors l) t s x n a = update-same (a .lists .descriptorNext) x n
+next-set spare-regions t s x n a = update-same (a .lists .regionNext) x n
 
 module _ {regions : ℕ} {v : View} {area : List ℕ} {m : Mem} {t : ℕ} {p : Place} {k : ℕ → List ℕ}
     (w : At regions v area m t p k) where

@@ -71,13 +71,13 @@ module _ {regions : ℕ} {a : Memory} {m : Mem} (R : Related regions a m) (I : I
 
   -- the tests of an open region come out alike
   tests : {X : Type 0} (d r : ℕ) → d < 64 → (x y x′ y′ : X) → (1 ≤ numberOf (m .descriptor d .state) → m .descriptor d .region ≡ r → x ≡ x′)
-      → y ≡ y′ → if (both (ℕ-discrete (a .descriptorRegion d) r) (decLe 1 (a .anchor d .state))) x y ≡ if (opens? (m .descriptor d) r) x′ y′
-  tests d r l x y x′ y′ f g = go (both (ℕ-discrete (a .descriptorRegion d) r) (decLe 1 (a .anchor d .state))) (opens? (m .descriptor d) r)
+      → y ≡ y′ → if (both (ℕ-discrete (a .descriptors .region d) r) (decLe 1 (a .descriptors .anchor d .state))) x y ≡ if (opens? (m .descriptor d) r) x′ y′
+  tests d r l x y x′ y′ f g = go (both (ℕ-discrete (a .descriptors .region d) r) (decLe 1 (a .descriptors .anchor d .state))) (opens? (m .descriptor d) r)
     where
-      D : DescriptorRelated (link (a .area)) (a .anchor d) (a .descriptorRegion d) (a .descriptorClass d) (m .descriptor d)
-      D = R .core .descriptors d l
+      D : DescriptorRelated (link (a .area)) (a .descriptors .anchor d) (a .descriptors .region d) (a .descriptors .class d) (m .descriptor d)
+      D = R .core .descriptors .each d l
 
-      go : (p : Dec ((a .descriptorRegion d ≡ r) × (1 ≤ a .anchor d .state))) (q : Dec (Opens (m .descriptor d) r)) → if p x y ≡ if q x′ y′
+      go : (p : Dec ((a .descriptors .region d ≡ r) × (1 ≤ a .descriptors .anchor d .state))) (q : Dec (Opens (m .descriptor d) r)) → if p x y ≡ if q x′ y′
       go (yes p) (yes q) = f (not-empty (m .descriptor d .state) (q .1)) (q .0)
       go (yes p) (no q) = absurd (q (sym (D .region) ∙ p .0, empty-not (m .descriptor d .state) (omega (arith, D .state, p))))
       go (no p) (yes q) = absurd (p (D .region ∙ q .0, omega (arith, D .state, not-empty (m .descriptor d .state) (q .1))))
@@ -85,17 +85,17 @@ module _ {regions : ℕ} {a : Memory} {m : Mem} (R : Related regions a m) (I : I
 
   classes : (z r : ℕ) → z ≤ 64 → classBy z r a ≡ plainClassBy z r m
   classes zero r l = refl
-  classes (suc d) r l = tests d r l (suc (a .descriptorClass d)) 0 (suc (m .descriptor d .class)) 0 (λ h e. ap suc (R .core .descriptors d l .class)) refl
+  classes (suc d) r l = tests d r l (suc (a .descriptors .class d)) 0 (suc (m .descriptor d .class)) 0 (λ h e. ap suc (R .core .descriptors .each d l .class)) refl
 
   chains : (z r : ℕ) → z ≤ 64 → chainBy z r a ≡ plainChainBy z r m
   chains zero r l = refl
   chains (suc d) r l =
-      tests d r l (walk (link (a .area)) (unitOf r (a .descriptorClass d)) (a .anchor d .avail) (a .anchor d .count)) [] (m .descriptor d .chain) [] walked refl
+      tests d r l (walk (link (a .area)) (unitOf r (a .descriptors .class d)) (a .descriptors .anchor d .avail) (a .descriptors .anchor d .count)) [] (m .descriptor d .chain) [] walked refl
     where
       walked : 1 ≤ numberOf (m .descriptor d .state) → m .descriptor d .region ≡ r
-          → walk (link (a .area)) (unitOf r (a .descriptorClass d)) (a .anchor d .avail) (a .anchor d .count) ≡ m .descriptor d .chain
+          → walk (link (a .area)) (unitOf r (a .descriptors .class d)) (a .descriptors .anchor d .avail) (a .descriptors .anchor d .count) ≡ m .descriptor d .chain
       walked h e =
-          let D = R .core .descriptors d l in
+          let D = R .core .descriptors .each d l in
           let C = open-holds (m .descriptor d .state) (number-open (m .descriptor d .state) h) (D .chain) in
           let L = open-holds (m .descriptor d .state) (number-open (m .descriptor d .state) h) (I .chains d l) in
           rw (C .counts, D .class, ← e)
@@ -111,14 +111,14 @@ freed-with {u} e = ap (λ (z : List ℕ). u ∷ z) e
 module _ {regions : ℕ} {a : Memory} {m : Mem} {t : ℕ} {k : ℕ → List ℕ} where
   group-is : {p : Place} {y : ℕ} {g : List ℕ} (w : Pair regions a m t p k) (G : GroupRelated a (a .slot t) y g)
       → ((v : ℕ) → count v (y ∷ g) ≤ count v (underWay p)) → classAt p ≡ a .slot t .class → Together y g
-      → walk (link (a .area)) (unitOf (a .slot t .region) (a .slot t .class)) (a .slot t .first) (a .slot t .grouped) ≡ y ∷ g
+      → walk (link (a .area)) (unitOf (a .slot t .hand .region) (a .slot t .class)) (a .slot t .group .first) (a .slot t .group .count) ≡ y ∷ g
   group-is {y = y} {g = g} w G sub cl tog =
       let s = a .slot t in
       let c = s .class in
-      let l : Linked (link (a .area)) (indexOf c) (link (a .area) (G .last)) (s .first) (G .front ++ (G .last ∷ [])) = linked-append-one (G .linked) refl in
-      let n : s .grouped ≡ length (G .front ++ (G .last ∷ [])) = G .counts ∙ ap length (G .is) in
-      ap (walk (link (a .area)) (unitOf (s .region) c) (s .first)) n
-      ∙ linked-walk (unitOf (s .region) c) l (λ v h. unit-again (of-region w G sub cl tog v (omega (arith, ap (count v) (G .is)))))
+      let l : Linked (link (a .area)) (indexOf c) (link (a .area) (G .last)) (s .group .first) (G .front ++ (G .last ∷ [])) = linked-append-one (G .linked) refl in
+      let n : s .group .count ≡ length (G .front ++ (G .last ∷ [])) = G .counts ∙ ap length (G .is) in
+      ap (walk (link (a .area)) (unitOf (s .hand .region) c) (s .group .first)) n
+      ∙ linked-walk (unitOf (s .hand .region) c) l (λ v h. unit-again (of-region w G sub cl tog v (omega (arith, ap (count v) (G .is)))))
       ∙ sym (G .is)
 
   -- at the place n the table of what is under way has q
@@ -157,14 +157,14 @@ module _ {regions : ℕ} {a : Memory} {m : Mem} {t : ℕ} {k : ℕ → List ℕ}
   under-way w (r-a4 {x = x} {q = q} e l n f) =
       let s = a .slot t in
       at-place w 25 (x ∷ q) e
-      (ap (walk (link (a .area)) (unitOf (s .region) (s .class)) (s .index)) n
-      ∙ linked-walk (unitOf (s .region) (s .class)) l (λ v h. unit-again (counts-block (s .region) (s .class) v (omega (arith, f v)))))
+      (ap (walk (link (a .area)) (unitOf (s .hand .region) (s .class)) (s .hand .index)) n
+      ∙ linked-walk (unitOf (s .hand .region) (s .class)) l (λ v h. unit-again (counts-block (s .hand .region) (s .class) v (omega (arith, f v)))))
   under-way w (r-a7 e) = at-place w 26 [] e refl
   under-way w (r-a8 e) = at-place w 27 _ e refl
   under-way w (r-f1 e) = at-place w 28 (a .slot t .unit ∷ []) e refl
   under-way w (r-f2 e z) =
       let s = a .slot t in
-      at-place w 29 (s .unit ∷ []) e (freed-with (ap (walk (link (a .area)) (unitOf (s .region) (s .class)) (s .first)) z))
+      at-place w 29 (s .unit ∷ []) e (freed-with (ap (walk (link (a .area)) (unitOf (s .hand .region) (s .class)) (s .group .first)) z))
   under-way w (r-f2-more {y = y} {g = g} e G) =
       at-place w 29 (a .slot t .unit ∷ y ∷ g) e (freed-with (group-is w G (λ v. omega arith) refl (placeHolds (w .turn) .3)))
   under-way w (r-f3-read {y = y} {g = g} e G) =
@@ -191,15 +191,15 @@ module _ {regions : ℕ} {a : Memory} {m : Mem} (small : regions ≤ 16) (R : Re
       omega (
         arith,
         ap (count v) (under-way w (S .place)),
-        total-same 16 (λ c n. inCache a v (a .slot t .top c) n) (a .slot t .count) (rowWeight v) (m .task t .cache) (λ c i.
-            ap (λ (n : ℕ). inCache a v (a .slot t .top c) n) (S .counts c i) ∙ ap (count v) (linked-walk (λ u. u) (S .tops c i) (λ u e. refl))),
+        total-same 16 (λ c n. inCache a v (a .slot t .caches .top c) n) (a .slot t .caches .count) (rowWeight v) (m .task t .cache) (λ c i.
+            ap (λ (n : ℕ). inCache a v (a .slot t .caches .top c) n) (S .counts c i) ∙ ap (count v) (linked-walk (λ u. u) (S .tops c i) (λ u e. refl))),
       )
 
-  classes-at : (r : ℕ) → r < regions → classBy (a .map r) r a ≡ plainClass m r
-  classes-at r l = subst (λ (z : ℕ). classBy z r a ≡ plainClass m r) (sym (R .core .maps r l)) (classes R I (m .map r) r (I .entries r))
+  classes-at : (r : ℕ) → r < regions → classBy (a .entries .map r) r a ≡ plainClass m r
+  classes-at r l = subst (λ (z : ℕ). classBy z r a ≡ plainClass m r) (sym (R .core .entries .maps r l)) (classes R I (m .map r) r (I .entries r))
 
-  chains-at : (r : ℕ) → r < regions → chainBy (a .map r) r a ≡ plainChain m r
-  chains-at r l = subst (λ (z : ℕ). chainBy z r a ≡ plainChain m r) (sym (R .core .maps r l)) (chains R I (m .map r) r (I .entries r))
+  chains-at : (r : ℕ) → r < regions → chainBy (a .entries .map r) r a ≡ plainChain m r
+  chains-at r l = subst (λ (z : ℕ). chainBy z r a ≡ plainChain m r) (sym (R .core .entries .maps r l)) (chains R I (m .map r) r (I .entries r))
 
   -- ---- one place
 
@@ -256,16 +256,16 @@ module _ {regions : ℕ} {a : Memory} {m : Mem} (small : regions ≤ 16) (R : Re
 
   pub observed : Same regions a m
   observed = record {
-    lists = λ ℓ l. list-read 65 (R .core .rows ℓ l) (more (short 64 (m .row ℓ) (λ v. omega (arith, I .descriptors v, total-one 17 (rowWeight v) (m .row) ℓ l))));
-    spares = list-read (suc regions) (R .core .spareRow) (more (short regions (m .row REGIONS) (λ v. omega (arith, I .regions v))));
+    lists = λ ℓ l. list-read 65 (R .core .lists .rows ℓ l) (more (short 64 (m .row ℓ) (λ v. omega (arith, I .descriptors v, total-one 17 (rowWeight v) (m .row) ℓ l))));
+    spares = list-read (suc regions) (R .core .lists .spareRow) (more (short regions (m .row REGIONS) (λ v. omega (arith, I .regions v))));
     classes = classes-at;
     chains = chains-at;
     holders = λ r v l k.
-        rw (R .core .marks v k, chains-at r l, holder-same 8 (λ t. withTask a t v) (λ t. blockWeight v t (m .task t)) (count v (plainChain m r)) 0 (λ t i j. with-task t v (omega arith)));
+        rw (R .core .entries .marks v k, chains-at r l, holder-same 8 (λ t. withTask a t v) (λ t. blockWeight v t (m .task t)) (count v (plainChain m r)) 0 (λ t i j. with-task t v (omega arith)));
     one-place = λ r c v l f b. omega (
       arith,
       plain-one r c v l (sym (classes-at r l) ∙ f) b,
-      R .core .marks v (omega (arith, unit-below b (omega arith))),
+      R .core .entries .marks v (omega (arith, unit-below b (omega arith))),
       ap (count v) (chains-at r l),
       total-same 8 (λ t s. withTask a t v) (a .slot) (blockWeight v) (m .task) (λ t i. with-task t v i),
     );

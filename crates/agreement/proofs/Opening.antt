@@ -1,5 +1,4 @@
 -- Step 7 of allocate, in both pools: a spare descriptor and a spare region in hand become an open region.
--- Assumes nothing.
 use mathlib.Core.Path.{_≡_, refl, sym, ap, subst, _∙_}
 use mathlib.Core.Bool.{_&&_}
 use mathlib.Core.List.{List, [], _∷_}
@@ -40,10 +39,11 @@ use Rattle.stepped.specs.Allocate as Allocate
 use Rattle.agreement.specs.Memory.{Memory, Slot, slotOf, memoryOf}
 use Rattle.agreement.specs.Relation.{DescriptorRelated, SlotRelated, Core, Related, r-a8}
 use Rattle.agreement.proofs.Slots.{toPlace, toChain}
-use Rattle.agreement.proofs.Sets.{setSlot, setOwner}
-use Rattle.agreement.proofs.Bridge.{withSlots, owner-written}
+use Rattle.agreement.proofs.Sets.{withSlots, setSlot, setOwner}
+use Rattle.agreement.proofs.Bridge.{owner-written}
 use Rattle.agreement.proofs.Tops.{descriptor-in-hand, region-in-hand}
-use Rattle.agreement.proofs.Frames.{Reads, after}
+use Rattle.agreement.proofs.Frames.{Reads, after, lists-kept}
+use Rattle.agreement.proofs.Parts.{map-related}
 use Rattle.agreement.proofs.Couple.{Pair, mine, descriptor-apart}
 use Rattle.stepped.proofs.Conjunction.{both-true}
 use Rattle.agreement.proofs.Both.{Both, pass}
@@ -104,29 +104,24 @@ opening {regions} {a} {m} {t} {c} {d} {r} w e s T low i own =
     ) in
     after {a = a} {m = m} t s T refl refl
     (record {
-      tags = C .tags;
-      rows = C .rows;
-      spareRow = C .spareRow;
-      descriptorNexts = C .descriptorNexts;
-      regionNexts = C .regionNexts;
-      descriptors = descriptors C;
-      avails = update-all (λ j x. j < 64 → x .avail ≤ 512) (a .anchor) d (full (perRegion c)) (λ l. perRegion-high c)
-          (λ j n. C .avails j);
-      chainCounts = update-all (λ j x. j < 64 → x .count ≤ 512) (a .anchor) d (full (perRegion c)) (λ l. omega arith)
-          (λ j n. C .chainCounts j);
-      descriptorRegions = update-all (λ j x. j < 64 → x < regions) (a .descriptorRegion) d r (λ l. lr)
-          (λ j n. C .descriptorRegions j);
-      descriptorClasses = update-all (λ j x. j < 64 → x < 16) (a .descriptorClass) d c (λ l. low) (λ j n. C .descriptorClasses j);
-      maps = update-all₂ (λ j x y. j < regions → x ≡ y) (a .map) (m .map) r e (suc d) (λ l. i) (λ j n. C .maps j);
-      marks = C .marks;
+      lists = C .lists;
+      descriptors = record {
+        each = descriptors C;
+        avails = update-all (λ j x. j < 64 → x .avail ≤ 512) (a .descriptors .anchor) d (full (perRegion c))
+            (λ l. perRegion-high c) (λ j n. C .descriptors .avails j);
+        chainCounts = update-all (λ j x. j < 64 → x .count ≤ 512) (a .descriptors .anchor) d (full (perRegion c))
+            (λ l. omega arith) (λ j n. C .descriptors .chainCounts j);
+        regionNumbers = update-all (λ j x. j < 64 → x < regions) (a .descriptors .region) d r (λ l. lr)
+            (λ j n. C .descriptors .regionNumbers j);
+        classNumbers = update-all (λ j x. j < 64 → x < 16) (a .descriptors .class) d c (λ l. low)
+            (λ j n. C .descriptors .classNumbers j);
+      };
+      entries = map-related (C .entries) r e (suc d) i;
       length = C .length;
     })
     own
     (λ j l n. record {
-      wins = λ ℓ. omega arith;
-      still = λ ℓ e. refl;
-      descriptorNexts = λ x h. refl;
-      regionNexts = λ x h. refl;
+      lists = lists-kept;
       links = λ y h. refl;
       regions = λ x h. ap (λ (F : Descriptor). F .region) (update-other (m .descriptor) d (opened r c) x (λ f.
           let z : holdsDescriptor x (m .task j .place) ≡ 0 =
@@ -141,24 +136,24 @@ opening {regions} {a} {m} {t} {c} {d} {r} w e s T low i own =
     (w .rel .slots)
   where
     descriptors : Core regions a m → (j : ℕ) → j < 64
-        → DescriptorRelated (link (a .area)) (update (a .anchor) d (full (perRegion c)) j) (update (a .descriptorRegion) d r j)
-        (update (a .descriptorClass) d c j) (update (m .descriptor) d (opened r c) j)
+        → DescriptorRelated (link (a .area)) (update (a .descriptors .anchor) d (full (perRegion c)) j) (update (a .descriptors .region) d r j)
+        (update (a .descriptors .class) d c j) (update (m .descriptor) d (opened r c) j)
     descriptors C j l = elim (same? j d) [
       | same e ↦ rw (
         e,
-        update-same (a .anchor) d (full (perRegion c)),
-        update-same (a .descriptorRegion) d r,
-        update-same (a .descriptorClass) d c,
+        update-same (a .descriptors .anchor) d (full (perRegion c)),
+        update-same (a .descriptors .region) d r,
+        update-same (a .descriptors .class) d c,
         update-same (m .descriptor) d (opened r c),
       )
           (record { state = refl; region = refl; class = refl; chain = record { linked = ends refl; counts = refl } })
       | other n ↦ rw (
-        update-other (a .anchor) d (full (perRegion c)) j n,
-        update-other (a .descriptorRegion) d r j n,
-        update-other (a .descriptorClass) d c j n,
+        update-other (a .descriptors .anchor) d (full (perRegion c)) j n,
+        update-other (a .descriptors .region) d r j n,
+        update-other (a .descriptors .class) d c j n,
         update-other (m .descriptor) d (opened r c) j n,
       )
-          (C .descriptors j l)
+          (C .descriptors .each j l)
     ]
 
 module _ {regions : ℕ} {v : View} {area : List ℕ} {m : Mem} {t : ℕ} {k : ℕ → List ℕ} where

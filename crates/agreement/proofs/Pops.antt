@@ -62,9 +62,9 @@ pop-list v t Region = refl
 
 -- the column of the nexts of its items
 abbrev nexts : Pop → Memory → ℕ → ℕ
-nexts Partial a = a .descriptorNext
-nexts Spare a = a .descriptorNext
-nexts Region a = a .regionNext
+nexts Partial a = a .lists .descriptorNext
+nexts Spare a = a .lists .descriptorNext
+nexts Region a = a .lists .regionNext
 
 pop-kind : (P : Pop) (regions c : ℕ) → c < 16
     → Kind regions (Lists.popList P c) (Lists.popItems P regions) (Lists.popNextField P) (nexts P)
@@ -75,7 +75,7 @@ pop-kind Region regions c h = spare-regions
 -- the place of a pop
 pub pop-place : {regions : ℕ} {a : Memory} {m : Mem} {s : Slot} {φ : Phase} (P : Pop)
     → PopRelated m s (Lists.popPlace P) (Lists.popList P (s .class)) (Lists.popItems P regions) φ
-    → PlaceRelated regions a m s (popping (plainPop P (s .class) (s .descriptor)) φ)
+    → PlaceRelated regions a m s (popping (plainPop P (s .class) (s .hand .descriptor)) φ)
 pop-place Partial h = r-partial h
 pop-place Spare h = r-spare h
 pop-place Region h = r-region h

@@ -48,17 +48,17 @@ plainPush Offer c u d z r = Plain.offer c u d
 
 -- the item in hand
 abbrev pub inHand : Push → Slot → ℕ
-inHand Retire s = s .descriptor
-inHand Back s = s .descriptor
-inHand Release s = s .region
-inHand Offer s = s .descriptor
+inHand Retire s = s .hand .descriptor
+inHand Back s = s .hand .descriptor
+inHand Release s = s .hand .region
+inHand Offer s = s .hand .descriptor
 
 -- the column of the nexts of the list's items
 abbrev pub pushNexts : Push → Memory → ℕ → ℕ
-pushNexts Retire a = a .descriptorNext
-pushNexts Back a = a .descriptorNext
-pushNexts Release a = a .regionNext
-pushNexts Offer a = a .descriptorNext
+pushNexts Retire a = a .lists .descriptorNext
+pushNexts Back a = a .lists .descriptorNext
+pushNexts Release a = a .lists .regionNext
+pushNexts Offer a = a .lists .descriptorNext
 
 -- a release has noted the state that it found, for the step after it
 abbrev pub Found : Push → ℕ → State → Type 0
@@ -69,10 +69,10 @@ Found Offer was z = Unit {0}
 
 -- the place of a push
 pub push-place : {regions : ℕ} {a : Memory} {m : Mem} {s : Slot} {φ : Phase} (P : Push) (z : State)
-    → Found P (s .state) z
+    → Found P (s .hand .state) z
     → PushRelated m s (Lists.pushPlace P) (Lists.pushList P (s .class)) (Lists.pushItems P regions) (inHand P s)
     (pushNexts P a) φ
-    → PlaceRelated regions a m s (pushing (plainPush P (s .class) (s .unit) (s .descriptor) z (s .region)) φ)
+    → PlaceRelated regions a m s (pushing (plainPush P (s .class) (s .unit) (s .hand .descriptor) z (s .hand .region)) φ)
 push-place Retire z f h = r-retire h
 push-place Back z f h = r-back h
 push-place Release z f h = r-release f h

@@ -57,7 +57,7 @@ module _ {regions : ℕ} {v : View} {area : List ℕ} {m : Mem} {t : ℕ} {k : �
         let c = v (TaskClass t) in
         let n = v (GroupCount t) in
         let F = owner (w .pair .turn) y d (omega (arith, when-same y 1)) e in
-        let D = w .pair .rel .core .descriptors d (F .fits) in
+        let D = w .pair .rel .core .descriptors .each d (F .fits) in
         let C = open-holds (m .descriptor d .state) (F .counts) (D .chain) in
         let O = open-holds (m .descriptor d .state) (F .counts) (w .pair .turn .inv .chains d (F .fits)) in
         let N = re-note {m = m} {m′ = m} refl (F .class) (note-of m d D C O) in
@@ -70,7 +70,7 @@ module _ {regions : ℕ} {v : View} {area : List ℕ} {m : Mem} {t : ℕ} {k : �
               (toPlace 31 (toDescriptor d (toAnchor (anchorOf (v (Anchor d))) (slotOf v t))))
               (f3-link c (v (TaskUnit t)) y g d (noted (m .descriptor d)))
               refl (rw (eq-eqb t t refl)) (λ j n. rw (ne-eqb t j n)) refl refl refl
-              (r-f3-link refl (same-group refl refl refl refl refl refl G) (re-note refl refl N) l);
+              (r-f3-link refl (same-group refl refl refl refl G) (re-note refl refl N) l);
           sound = omega (arith, w .pair .turn .fits, F .fits, w .fitting (Anchor d) (omega (arith, F .fits)));
           apart = tt;
         })
@@ -87,7 +87,7 @@ module _ {regions : ℕ} {v : View} {area : List ℕ} {m : Mem} {t : ℕ} {k : �
       let o = placeHolds (w .pair .turn) in
       let h = home-of (w .pair .turn) y (omega (arith, when-same y 1)) in
       let l : r < regions = region-below (w .pair) G (λ z. omega arith) refl (o .2) in
-      let e : v (Map r) ≡ suc (h .d) = w .pair .rel .core .maps r l ∙ ap (m .map) (G .region) ∙ h .named in
+      let e : v (Map r) ≡ suc (h .d) = w .pair .rel .core .entries .maps r l ∙ ap (m .map) (G .region) ∙ h .named in
       let i : v (Map r) - 1 ≡ h .d = omega arith in
       pass _ (both-true (lt-ltb r regions l)
       (both-true (le-leb 1 n (omega (arith, G .counts))) (le-leb n (perRegion c) (omega (arith, G .counts, o .1)))))

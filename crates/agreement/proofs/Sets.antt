@@ -1,143 +1,100 @@
--- The two memories with some columns changed.
--- Assumes nothing.
+-- The two memories with one part changed, and with some columns of a part changed. A part's other columns are named in the setters
+-- of that part alone, and the other parts in `onLists` to `withArea` alone.
+use mathlib.Core.List.{List}
 use Prim.Native.Nat.{ℕ}
 use Rattle.rows.specs.Update.{update}
 use Rattle.links.specs.Link.{withLink}
 use Rattle.words.specs.declared.head.Head.{Head}
 use Rattle.words.specs.declared.anchor.Anchor.{Anchor}
-use Rattle.agreement.specs.Memory.{Slot, Memory}
+use Rattle.agreement.specs.Memory.{Slot, Lists, Descriptors, Entries, Memory}
+
+-- ---- the parts
+
+-- other lists
+abbrev pub onLists : (Lists → Lists) → Memory → Memory
+onLists f a =
+    record { lists = f (a .lists); descriptors = a .descriptors; entries = a .entries; slot = a .slot; area = a .area }
+
+-- other descriptors
+abbrev pub onDescriptors : (Descriptors → Descriptors) → Memory → Memory
+onDescriptors f a =
+    record { lists = a .lists; descriptors = f (a .descriptors); entries = a .entries; slot = a .slot; area = a .area }
+
+-- another map, other marks
+abbrev pub onEntries : (Entries → Entries) → Memory → Memory
+onEntries f a =
+    record { lists = a .lists; descriptors = a .descriptors; entries = f (a .entries); slot = a .slot; area = a .area }
+
+-- other parts of the tasks
+abbrev pub withSlots : (ℕ → Slot) → Memory → Memory
+withSlots S a = record { lists = a .lists; descriptors = a .descriptors; entries = a .entries; slot = S; area = a .area }
+
+-- another area
+abbrev pub withArea : List ℕ → Memory → Memory
+withArea b a = record { lists = a .lists; descriptors = a .descriptors; entries = a .entries; slot = a .slot; area = b }
+
+-- ---- a part with another column
+
+abbrev pub withHeads : (ℕ → Head) → Lists → Lists
+withHeads f l = record { head = f; descriptorNext = l .descriptorNext; regionNext = l .regionNext }
+
+abbrev pub withDescriptorNexts : (ℕ → ℕ) → Lists → Lists
+withDescriptorNexts f l = record { head = l .head; descriptorNext = f; regionNext = l .regionNext }
+
+abbrev pub withRegionNexts : (ℕ → ℕ) → Lists → Lists
+withRegionNexts f l = record { head = l .head; descriptorNext = l .descriptorNext; regionNext = f }
+
+abbrev pub withAnchors : (ℕ → Anchor) → Descriptors → Descriptors
+withAnchors f D = record { anchor = f; region = D .region; class = D .class }
+
+abbrev pub withMap : (ℕ → ℕ) → Entries → Entries
+withMap f e = record { map = f; mark = e .mark }
+
+abbrev pub withMarks : (ℕ → ℕ) → Entries → Entries
+withMarks f e = record { map = e .map; mark = f }
+
+-- ---- one item of a column
 
 -- the part of the task t
 abbrev pub setSlot : ℕ → Slot → Memory → Memory
-setSlot t s a = record {
-  head = a .head;
-  descriptorNext = a .descriptorNext;
-  regionNext = a .regionNext;
-  anchor = a .anchor;
-  descriptorRegion = a .descriptorRegion;
-  descriptorClass = a .descriptorClass;
-  map = a .map;
-  mark = a .mark;
-  slot = update (a .slot) t s;
-  area = a .area;
-}
+setSlot t s a = withSlots (update (a .slot) t s) a
 
 -- the head of the list ℓ
 abbrev pub setHead : ℕ → Head → Memory → Memory
-setHead ℓ h a = record {
-  head = update (a .head) ℓ h;
-  descriptorNext = a .descriptorNext;
-  regionNext = a .regionNext;
-  anchor = a .anchor;
-  descriptorRegion = a .descriptorRegion;
-  descriptorClass = a .descriptorClass;
-  map = a .map;
-  mark = a .mark;
-  slot = a .slot;
-  area = a .area;
-}
+setHead ℓ h = onLists (λ l. withHeads (update (l .head) ℓ h) l)
 
 -- the next of a descriptor
 abbrev pub setDescriptorNext : ℕ → ℕ → Memory → Memory
-setDescriptorNext d n a = record {
-  head = a .head;
-  descriptorNext = update (a .descriptorNext) d n;
-  regionNext = a .regionNext;
-  anchor = a .anchor;
-  descriptorRegion = a .descriptorRegion;
-  descriptorClass = a .descriptorClass;
-  map = a .map;
-  mark = a .mark;
-  slot = a .slot;
-  area = a .area;
-}
+setDescriptorNext d n = onLists (λ l. withDescriptorNexts (update (l .descriptorNext) d n) l)
 
 -- the next of a region
 abbrev pub setRegionNext : ℕ → ℕ → Memory → Memory
-setRegionNext r n a = record {
-  head = a .head;
-  descriptorNext = a .descriptorNext;
-  regionNext = update (a .regionNext) r n;
-  anchor = a .anchor;
-  descriptorRegion = a .descriptorRegion;
-  descriptorClass = a .descriptorClass;
-  map = a .map;
-  mark = a .mark;
-  slot = a .slot;
-  area = a .area;
-}
+setRegionNext r n = onLists (λ l. withRegionNexts (update (l .regionNext) r n) l)
 
 -- the anchor of a descriptor
 abbrev pub setAnchor : ℕ → Anchor → Memory → Memory
-setAnchor d b a = record {
-  head = a .head;
-  descriptorNext = a .descriptorNext;
-  regionNext = a .regionNext;
-  anchor = update (a .anchor) d b;
-  descriptorRegion = a .descriptorRegion;
-  descriptorClass = a .descriptorClass;
-  map = a .map;
-  mark = a .mark;
-  slot = a .slot;
-  area = a .area;
-}
+setAnchor d b = onDescriptors (λ D. withAnchors (update (D .anchor) d b) D)
 
--- a descriptor written whole, and the map entry e of its region
-abbrev pub setOwner : ℕ → Anchor → ℕ → ℕ → ℕ → Memory → Memory
-setOwner d b r c e a = record {
-  head = a .head;
-  descriptorNext = a .descriptorNext;
-  regionNext = a .regionNext;
-  anchor = update (a .anchor) d b;
-  descriptorRegion = update (a .descriptorRegion) d r;
-  descriptorClass = update (a .descriptorClass) d c;
-  map = update (a .map) r e;
-  mark = a .mark;
-  slot = a .slot;
-  area = a .area;
-}
+-- a descriptor written whole
+abbrev pub setDescriptor : ℕ → Anchor → ℕ → ℕ → Memory → Memory
+setDescriptor d b r c = onDescriptors (λ D. record {
+  anchor = update (D .anchor) d b;
+  region = update (D .region) d r;
+  class = update (D .class) d c;
+})
 
 -- a map entry
 abbrev pub setMap : ℕ → ℕ → Memory → Memory
-setMap r e a = record {
-  head = a .head;
-  descriptorNext = a .descriptorNext;
-  regionNext = a .regionNext;
-  anchor = a .anchor;
-  descriptorRegion = a .descriptorRegion;
-  descriptorClass = a .descriptorClass;
-  map = update (a .map) r e;
-  mark = a .mark;
-  slot = a .slot;
-  area = a .area;
-}
+setMap r e = onEntries (λ E. withMap (update (E .map) r e) E)
+
+-- a descriptor written whole, and the map entry e of its region
+abbrev pub setOwner : ℕ → Anchor → ℕ → ℕ → ℕ → Memory → Memory
+setOwner d b r c e a = setMap r e (setDescriptor d b r c a)
 
 -- a mark
 abbrev pub setMark : ℕ → ℕ → Memory → Memory
-setMark u b a = record {
-  head = a .head;
-  descriptorNext = a .descriptorNext;
-  regionNext = a .regionNext;
-  anchor = a .anchor;
-  descriptorRegion = a .descriptorRegion;
-  descriptorClass = a .descriptorClass;
-  map = a .map;
-  mark = update (a .mark) u b;
-  slot = a .slot;
-  area = a .area;
-}
+setMark u b = onEntries (λ e. withMarks (update (e .mark) u b) e)
 
 -- a link
 abbrev pub setLink : ℕ → ℕ → Memory → Memory
-setLink u x a = record {
-  head = a .head;
-  descriptorNext = a .descriptorNext;
-  regionNext = a .regionNext;
-  anchor = a .anchor;
-  descriptorRegion = a .descriptorRegion;
-  descriptorClass = a .descriptorClass;
-  map = a .map;
-  mark = a .mark;
-  slot = a .slot;
-  area = withLink (a .area) u x;
-}
+setLink u x a = withArea (withLink (a .area) u x) a

@@ -10,8 +10,8 @@ use Rattle.plain.specs.Steps.{at}
 use Rattle.plain.proofs.Places.{taskOf}
 use Rattle.agreement.specs.Memory.{Slot, Memory, slotOf, memoryOf}
 use Rattle.agreement.specs.Relation.{PlaceRelated, SlotRelated, Related}
-use Rattle.agreement.proofs.Sets.{setSlot}
-use Rattle.agreement.proofs.Bridge.{withSlots, becomes}
+use Rattle.agreement.proofs.Sets.{withSlots, setSlot}
+use Rattle.agreement.proofs.Bridge.{becomes}
 use Rattle.agreement.proofs.Blocks.{re-slot}
 use Rattle.agreement.proofs.Turns.{At}
 
@@ -23,7 +23,7 @@ module _ {regions : ℕ} {v : View} {area : List ℕ} {m : Mem} {t : ℕ} {p : P
       → (SlotRelated regions (setSlot t s b) (at t k p′ m₁) s (taskOf p′ k) → Related regions (setSlot t s b) (at t k p′ m₁))
       → memoryOf (assigned ws v) area ≡ withSlots (slotOf (assigned ws v)) b → b .slot ≡ slotOf v → b .area ≡ area
       → slotOf (assigned ws v) t ≡ s → ((j : ℕ) → t ≢ j → slotOf (assigned ws v) j ≡ slotOf v j)
-      → s .class ≡ slotOf v t .class → s .top ≡ slotOf v t .top → s .count ≡ slotOf v t .count
+      → s .class ≡ slotOf v t .class → s .caches .top ≡ slotOf v t .caches .top → s .caches .count ≡ slotOf v t .caches .count
       → PlaceRelated regions (setSlot t s b) (at t k p′ m₁) s p′
       → Related regions (memoryOf (assigned ws v) area) (at t k p′ m₁)
   shares ws s p′ b m₁ change e f i own others g h j pl =

@@ -1,31 +1,12 @@
--- One task's part with some columns changed.
--- Assumes nothing.
+-- One task's part with some columns changed. The columns of what it noted, has in hand or grouped are named in the setters of
+-- that part alone, and the other parts in `toRequest` to `withCaches` alone.
 use Prim.Native.Nat.{ℕ}
 use Rattle.rows.specs.Update.{update}
 use Rattle.words.specs.declared.head.Head.{Head}
 use Rattle.words.specs.declared.anchor.Anchor.{Anchor}
-use Rattle.agreement.specs.Memory.{Slot}
+use Rattle.agreement.specs.Memory.{TaskNotes, TaskHand, TaskGroup, TaskCaches, Slot}
 
--- at another place
-abbrev pub toPlace : ℕ → Slot → Slot
-toPlace n s = record {
-  place = n;
-  class = s .class;
-  unit = s .unit;
-  head = s .head;
-  next = s .next;
-  anchor = s .anchor;
-  descriptor = s .descriptor;
-  region = s .region;
-  index = s .index;
-  left = s .left;
-  first = s .first;
-  last = s .last;
-  grouped = s .grouped;
-  state = s .state;
-  top = s .top;
-  count = s .count;
-}
+-- ---- the parts
 
 -- a request begun: place, class and unit
 abbrev pub toRequest : ℕ → ℕ → ℕ → Slot → Slot
@@ -33,248 +14,112 @@ toRequest n c u s = record {
   place = n;
   class = c;
   unit = u;
-  head = s .head;
-  next = s .next;
-  anchor = s .anchor;
-  descriptor = s .descriptor;
-  region = s .region;
-  index = s .index;
-  left = s .left;
-  first = s .first;
-  last = s .last;
-  grouped = s .grouped;
-  state = s .state;
-  top = s .top;
-  count = s .count;
+  noted = s .noted;
+  hand = s .hand;
+  group = s .group;
+  caches = s .caches;
 }
+
+-- other notes
+abbrev withNotes : TaskNotes → Slot → Slot
+withNotes n s = record {
+  place = s .place;
+  class = s .class;
+  unit = s .unit;
+  noted = n;
+  hand = s .hand;
+  group = s .group;
+  caches = s .caches;
+}
+
+-- other things in hand
+abbrev withHand : TaskHand → Slot → Slot
+withHand h s = record {
+  place = s .place;
+  class = s .class;
+  unit = s .unit;
+  noted = s .noted;
+  hand = h;
+  group = s .group;
+  caches = s .caches;
+}
+
+-- another group
+abbrev withGroup : TaskGroup → Slot → Slot
+withGroup g s = record {
+  place = s .place;
+  class = s .class;
+  unit = s .unit;
+  noted = s .noted;
+  hand = s .hand;
+  group = g;
+  caches = s .caches;
+}
+
+-- other caches
+abbrev pub withCaches : TaskCaches → Slot → Slot
+withCaches k s = record {
+  place = s .place;
+  class = s .class;
+  unit = s .unit;
+  noted = s .noted;
+  hand = s .hand;
+  group = s .group;
+  caches = k;
+}
+
+-- ---- the columns
+
+-- at another place
+abbrev pub toPlace : ℕ → Slot → Slot
+toPlace n s = toRequest n (s .class) (s .unit) s
 
 -- the noted head
 abbrev pub toHead : Head → Slot → Slot
-toHead h s = record {
-  place = s .place;
-  class = s .class;
-  unit = s .unit;
-  head = h;
-  next = s .next;
-  anchor = s .anchor;
-  descriptor = s .descriptor;
-  region = s .region;
-  index = s .index;
-  left = s .left;
-  first = s .first;
-  last = s .last;
-  grouped = s .grouped;
-  state = s .state;
-  top = s .top;
-  count = s .count;
-}
+toHead h s = withNotes (record { head = h; next = s .noted .next; anchor = s .noted .anchor }) s
 
 -- the noted next
 abbrev pub toNext : ℕ → Slot → Slot
-toNext n s = record {
-  place = s .place;
-  class = s .class;
-  unit = s .unit;
-  head = s .head;
-  next = n;
-  anchor = s .anchor;
-  descriptor = s .descriptor;
-  region = s .region;
-  index = s .index;
-  left = s .left;
-  first = s .first;
-  last = s .last;
-  grouped = s .grouped;
-  state = s .state;
-  top = s .top;
-  count = s .count;
-}
+toNext n s = withNotes (record { head = s .noted .head; next = n; anchor = s .noted .anchor }) s
 
 -- the noted anchor
 abbrev pub toAnchor : Anchor → Slot → Slot
-toAnchor b s = record {
-  place = s .place;
-  class = s .class;
-  unit = s .unit;
-  head = s .head;
-  next = s .next;
-  anchor = b;
-  descriptor = s .descriptor;
-  region = s .region;
-  index = s .index;
-  left = s .left;
-  first = s .first;
-  last = s .last;
-  grouped = s .grouped;
-  state = s .state;
-  top = s .top;
-  count = s .count;
-}
+toAnchor b s = withNotes (record { head = s .noted .head; next = s .noted .next; anchor = b }) s
 
 -- the descriptor in hand
 abbrev pub toDescriptor : ℕ → Slot → Slot
-toDescriptor d s = record {
-  place = s .place;
-  class = s .class;
-  unit = s .unit;
-  head = s .head;
-  next = s .next;
-  anchor = s .anchor;
-  descriptor = d;
-  region = s .region;
-  index = s .index;
-  left = s .left;
-  first = s .first;
-  last = s .last;
-  grouped = s .grouped;
-  state = s .state;
-  top = s .top;
-  count = s .count;
-}
-
--- the region in hand
-abbrev pub toRegion : ℕ → Slot → Slot
-toRegion r s = record {
-  place = s .place;
-  class = s .class;
-  unit = s .unit;
-  head = s .head;
-  next = s .next;
-  anchor = s .anchor;
-  descriptor = s .descriptor;
-  region = r;
-  index = s .index;
-  left = s .left;
-  first = s .first;
-  last = s .last;
-  grouped = s .grouped;
-  state = s .state;
-  top = s .top;
-  count = s .count;
-}
-
--- the index of the next block
-abbrev pub toIndex : ℕ → Slot → Slot
-toIndex i s = record {
-  place = s .place;
-  class = s .class;
-  unit = s .unit;
-  head = s .head;
-  next = s .next;
-  anchor = s .anchor;
-  descriptor = s .descriptor;
-  region = s .region;
-  index = i;
-  left = s .left;
-  first = s .first;
-  last = s .last;
-  grouped = s .grouped;
-  state = s .state;
-  top = s .top;
-  count = s .count;
-}
+toDescriptor d s =
+    let h = s .hand in
+    withHand (record { descriptor = d; region = h .region; index = h .index; left = h .left; state = h .state }) s
 
 -- a chain to move: its region, the index of its next block, how many are left
 abbrev pub toChain : ℕ → ℕ → ℕ → Slot → Slot
-toChain r i l s = record {
-  place = s .place;
-  class = s .class;
-  unit = s .unit;
-  head = s .head;
-  next = s .next;
-  anchor = s .anchor;
-  descriptor = s .descriptor;
-  region = r;
-  index = i;
-  left = l;
-  first = s .first;
-  last = s .last;
-  grouped = s .grouped;
-  state = s .state;
-  top = s .top;
-  count = s .count;
-}
+toChain r i l s =
+    withHand (record { descriptor = s .hand .descriptor; region = r; index = i; left = l; state = s .hand .state }) s
 
--- a group: its region, the indexes of its first and last block, how many it has
-abbrev pub toGroup : ℕ → ℕ → ℕ → ℕ → Slot → Slot
-toGroup r f l g s = record {
-  place = s .place;
-  class = s .class;
-  unit = s .unit;
-  head = s .head;
-  next = s .next;
-  anchor = s .anchor;
-  descriptor = s .descriptor;
-  region = r;
-  index = s .index;
-  left = s .left;
-  first = f;
-  last = l;
-  grouped = g;
-  state = s .state;
-  top = s .top;
-  count = s .count;
-}
+-- the region in hand
+abbrev pub toRegion : ℕ → Slot → Slot
+toRegion r s = toChain r (s .hand .index) (s .hand .left) s
 
--- how many blocks the group has
-abbrev pub toGrouped : ℕ → Slot → Slot
-toGrouped g s = record {
-  place = s .place;
-  class = s .class;
-  unit = s .unit;
-  head = s .head;
-  next = s .next;
-  anchor = s .anchor;
-  descriptor = s .descriptor;
-  region = s .region;
-  index = s .index;
-  left = s .left;
-  first = s .first;
-  last = s .last;
-  grouped = g;
-  state = s .state;
-  top = s .top;
-  count = s .count;
-}
+-- the index of the next block
+abbrev pub toIndex : ℕ → Slot → Slot
+toIndex i s = toChain (s .hand .region) i (s .hand .left) s
 
 -- the state in which a free found the anchor
 abbrev pub toState : ℕ → Slot → Slot
-toState w s = record {
-  place = s .place;
-  class = s .class;
-  unit = s .unit;
-  head = s .head;
-  next = s .next;
-  anchor = s .anchor;
-  descriptor = s .descriptor;
-  region = s .region;
-  index = s .index;
-  left = s .left;
-  first = s .first;
-  last = s .last;
-  grouped = s .grouped;
-  state = w;
-  top = s .top;
-  count = s .count;
-}
+toState w s =
+    let h = s .hand in
+    withHand (record { descriptor = h .descriptor; region = h .region; index = h .index; left = h .left; state = w }) s
+
+-- a group: its region, the indexes of its first and last block, how many it has
+abbrev pub toGroup : ℕ → ℕ → ℕ → ℕ → Slot → Slot
+toGroup r f l g s = toRegion r (withGroup (record { first = f; last = l; count = g }) s)
+
+-- how many blocks the group has
+abbrev pub toGrouped : ℕ → Slot → Slot
+toGrouped g s = withGroup (record { first = s .group .first; last = s .group .last; count = g }) s
 
 -- the cache of the class c: its top and how many it has
 abbrev pub toCache : ℕ → ℕ → ℕ → Slot → Slot
-toCache c u n s = record {
-  place = s .place;
-  class = s .class;
-  unit = s .unit;
-  head = s .head;
-  next = s .next;
-  anchor = s .anchor;
-  descriptor = s .descriptor;
-  region = s .region;
-  index = s .index;
-  left = s .left;
-  first = s .first;
-  last = s .last;
-  grouped = s .grouped;
-  state = s .state;
-  top = update (s .top) c u;
-  count = update (s .count) c n;
-}
+toCache c u n s =
+    withCaches (record { top = update (s .caches .top) c u; count = update (s .caches .count) c n }) s

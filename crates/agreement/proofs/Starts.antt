@@ -1,5 +1,4 @@
 -- The relation after a start, on any bytes.
--- Assumes nothing.
 use mathlib.Core.Path.{_≡_, refl, sym, ap, _∙_}
 use mathlib.Core.Bool.{Bool, true, false, cond}
 use mathlib.Core.List.{List, [], _∷_, _++_}
@@ -136,23 +135,29 @@ module _ (tasks regions : ℕ) (few : 1 ≤ regions) where
   unfolding startMem
   start-related area e h = record {
     core = record {
-      tags = λ ℓ l. ap tagOf (at-head tasks regions ℓ) ∙ tags ℓ (eqb 17 ℓ) (eqb 16 ℓ);
-      rows = λ ℓ l. row ℓ l (ℕ-discrete ℓ 16) (ℕ-discrete ℓ 17);
-      spareRow = spare (ℕ-discrete 17 16) (ℕ-discrete 17 17);
-      descriptorNexts = λ d l. rw (at-next tasks regions d l) (next-max 64 d l);
-      regionNexts = λ r l. rw (at-region-next tasks regions r l) (next-max regions r l);
-      descriptors = λ d l. record {
-        state = ap (λ (x : ℕ). x % 4) (unfilled tasks regions 1 d refl refl refl);
-        region = unfilled tasks regions 21 d refl refl refl;
-        class = unfilled tasks regions 22 d refl refl refl;
-        chain = tt;
+      lists = record {
+        tags = λ ℓ l. ap tagOf (at-head tasks regions ℓ) ∙ tags ℓ (eqb 17 ℓ) (eqb 16 ℓ);
+        rows = λ ℓ l. row ℓ l (ℕ-discrete ℓ 16) (ℕ-discrete ℓ 17);
+        spareRow = spare (ℕ-discrete 17 16) (ℕ-discrete 17 17);
+        descriptorNexts = λ d l. rw (at-next tasks regions d l) (next-max 64 d l);
+        regionNexts = λ r l. rw (at-region-next tasks regions r l) (next-max regions r l);
       };
-      avails = λ d l. rw (unfilled tasks regions 1 d refl refl refl) (omega arith);
-      chainCounts = λ d l. rw (unfilled tasks regions 1 d refl refl refl) (omega arith);
-      descriptorRegions = λ d l. rw (unfilled tasks regions 21 d refl refl refl) few;
-      descriptorClasses = λ d l. rw (unfilled tasks regions 22 d refl refl refl) (omega arith);
-      maps = λ r l. unfilled tasks regions 23 r refl refl refl;
-      marks = λ u l. ap (λ (x : ℕ). bitAt x (u % 64)) (unfilled tasks regions 2 (u / 64) refl refl refl) ∙ no-bit (u % 64);
+      descriptors = record {
+        each = λ d l. record {
+          state = ap (λ (x : ℕ). x % 4) (unfilled tasks regions 1 d refl refl refl);
+          region = unfilled tasks regions 21 d refl refl refl;
+          class = unfilled tasks regions 22 d refl refl refl;
+          chain = tt;
+        };
+        avails = λ d l. rw (unfilled tasks regions 1 d refl refl refl) (omega arith);
+        chainCounts = λ d l. rw (unfilled tasks regions 1 d refl refl refl) (omega arith);
+        regionNumbers = λ d l. rw (unfilled tasks regions 21 d refl refl refl) few;
+        classNumbers = λ d l. rw (unfilled tasks regions 22 d refl refl refl) (omega arith);
+      };
+      entries = record {
+        maps = λ r l. unfilled tasks regions 23 r refl refl refl;
+        marks = λ u l. ap (λ (x : ℕ). bitAt x (u % 64)) (unfilled tasks regions 2 (u / 64) refl refl refl) ∙ no-bit (u % 64);
+      };
       length = e;
     };
     slots = λ t l. record {

@@ -63,17 +63,17 @@ push-at Offer q h = rw (le-ltb q 14 (omega arith), le-ltb q 17 (omega arith), le
 -- ---- what one move noted
 
 module _ {m : Mem} {s : Slot} {b ℓ items : ℕ} where
-  popped-head : {φ : Phase} → PopRelated m s b ℓ items φ → b + 1 ≤ s .place → OneTo items (s .head .item)
+  popped-head : {φ : Phase} → PopRelated m s b ℓ items φ → b + 1 ≤ s .place → OneTo items (s .noted .head .item)
   popped-head (PopRelated.at-read e) h = absurd (omega arith)
   popped-head (PopRelated.at-next e N i j) h = (i, j)
   popped-head (PopRelated.at-exchange e N i j x f) h = (i, j)
 
-  popped-next : {φ : Phase} → PopRelated m s b ℓ items φ → b + 2 ≤ s .place → s .next ≤ items
+  popped-next : {φ : Phase} → PopRelated m s b ℓ items φ → b + 2 ≤ s .place → s .noted .next ≤ items
   popped-next (PopRelated.at-read e) h = absurd (omega arith)
   popped-next (PopRelated.at-next e N i j) h = absurd (omega arith)
   popped-next (PopRelated.at-exchange e N i j x f) h = x
 
-  pushed-head : {x : ℕ} {nx : ℕ → ℕ} {φ : Phase} → PushRelated m s b ℓ items x nx φ → b + 1 ≤ s .place → s .head .item ≤ items
+  pushed-head : {x : ℕ} {nx : ℕ → ℕ} {φ : Phase} → PushRelated m s b ℓ items x nx φ → b + 1 ≤ s .place → s .noted .head .item ≤ items
   pushed-head (PushRelated.at-read e) h = absurd (omega arith)
   pushed-head (PushRelated.at-next e N i) h = i
   pushed-head (PushRelated.at-exchange e N i j) h = i

@@ -14,8 +14,8 @@ use Rattle.plain.proofs.Places.{taskOf}
 use Rattle.control.specs.Layout.{CacheTop, CacheCount, TaskClass}
 use Rattle.agreement.specs.Memory.{Slot, Memory, slotOf, memoryOf}
 use Rattle.agreement.specs.Relation.{PlaceRelated, Related}
-use Rattle.agreement.proofs.Sets.{setSlot}
-use Rattle.agreement.proofs.Bridge.{withSlots, becomes}
+use Rattle.agreement.proofs.Sets.{withSlots, setSlot}
+use Rattle.agreement.proofs.Bridge.{becomes}
 use Rattle.agreement.proofs.Couple.{Pair, mine, quiet}
 use Rattle.agreement.proofs.Blocks.{re-slot}
 use Rattle.agreement.proofs.Both.{Fitting}
@@ -31,7 +31,7 @@ module _ {regions : ℕ} {v : View} {area : List ℕ} {m : Mem} {t : ℕ} {p : P
   pub goes : (ws : List Write) (s : Slot) (p′ : Place)
       → memoryOf (assigned ws v) area ≡ withSlots (slotOf (assigned ws v)) (memoryOf v area)
       → slotOf (assigned ws v) t ≡ s → ((j : ℕ) → t ≢ j → slotOf (assigned ws v) j ≡ slotOf v j)
-      → s .class ≡ slotOf v t .class → s .top ≡ slotOf v t .top → s .count ≡ slotOf v t .count
+      → s .class ≡ slotOf v t .class → s .caches .top ≡ slotOf v t .caches .top → s .caches .count ≡ slotOf v t .caches .count
       → PlaceRelated regions (setSlot t s (memoryOf v area)) (at t k p′ m) s p′
       → Related regions (memoryOf (assigned ws v) area) (at t k p′ m)
   goes ws s p′ e own others f g h pl =
@@ -40,7 +40,7 @@ module _ {regions : ℕ} {v : View} {area : List ℕ} {m : Mem} {t : ℕ} {p : P
       (quiet (w .pair) s (taskOf p′ k) (re-slot (w .pair) _ _ s p′ refl f g h pl))
 
   -- the top of the cache of the request's class, and how many it has, as the fields say
-  pub cache-top : slotOf v t .top (v (TaskClass t)) ≡ v (CacheTop t (v (TaskClass t)))
+  pub cache-top : slotOf v t .caches .top (v (TaskClass t)) ≡ v (CacheTop t (v (TaskClass t)))
   cache-top = if-yes (decLt (v (TaskClass t)) 16) _ _ (mine (w .pair) .fits)
 
   pub cache-count : v (CacheCount t (v (TaskClass t))) ≡ length (k (v (TaskClass t)))

@@ -1,5 +1,4 @@
 -- The relation speaks of the fields of the layout alone: two views that agree there are related alike.
--- Assumes nothing.
 use mathlib.Core.Path.{_≡_, refl, sym, subst, fun-ext}
 use mathlib.Core.List.{List}
 use Prim.Native.Nat.{ℕ, _+_, _*_, _/_, _≤_, _<_}
@@ -41,19 +40,27 @@ module _ {v v′ : View} (same : (g : Field) → Has layout g → v′ g ≡ v g
     place = same (Layout.TaskPlace t) (omega arith) i;
     class = same (Layout.TaskClass t) (omega arith) i;
     unit = same (Layout.TaskUnit t) (omega arith) i;
-    head = headOf (same (Layout.TaskHead t) (omega arith) i);
-    next = same (Layout.TaskNext t) (omega arith) i;
-    anchor = anchorOf (same (Layout.TaskAnchor t) (omega arith) i);
-    descriptor = same (Layout.TaskDescriptor t) (omega arith) i;
-    region = same (Layout.TaskRegion t) (omega arith) i;
-    index = same (Layout.TaskIndex t) (omega arith) i;
-    left = same (Layout.TaskLeft t) (omega arith) i;
-    first = same (Layout.GroupFirst t) (omega arith) i;
-    last = same (Layout.GroupLast t) (omega arith) i;
-    grouped = same (Layout.GroupCount t) (omega arith) i;
-    state = same (Layout.TaskState t) (omega arith) i;
-    top = caches-same 5 t l (λ j h. omega arith) i;
-    count = caches-same 6 t l (λ j h. omega arith) i;
+    noted = record {
+      head = headOf (same (Layout.TaskHead t) (omega arith) i);
+      next = same (Layout.TaskNext t) (omega arith) i;
+      anchor = anchorOf (same (Layout.TaskAnchor t) (omega arith) i);
+    };
+    hand = record {
+      descriptor = same (Layout.TaskDescriptor t) (omega arith) i;
+      region = same (Layout.TaskRegion t) (omega arith) i;
+      index = same (Layout.TaskIndex t) (omega arith) i;
+      left = same (Layout.TaskLeft t) (omega arith) i;
+      state = same (Layout.TaskState t) (omega arith) i;
+    };
+    group = record {
+      first = same (Layout.GroupFirst t) (omega arith) i;
+      last = same (Layout.GroupLast t) (omega arith) i;
+      count = same (Layout.GroupCount t) (omega arith) i;
+    };
+    caches = record {
+      top = caches-same 5 t l (λ j h. omega arith) i;
+      count = caches-same 6 t l (λ j h. omega arith) i;
+    };
   }
 
   module _ {regions : ℕ} {m : Mem} (area : List ℕ) (small : regions ≤ 16) (I : Invariant regions m) (R : Related regions (memoryOf v area) m) where
@@ -65,24 +72,32 @@ module _ {v v′ : View} (same : (g : Field) → Has layout g → v′ g ≡ v g
         → DescriptorRelated (link area) (anchorOf (v′ (Layout.Anchor d))) (v′ (Layout.DescriptorRegion d)) (v′ (Layout.DescriptorClass d)) (m .descriptor d)
     descriptor d l =
         rw (same (Layout.Anchor d) (omega arith), same (Layout.DescriptorRegion d) (omega arith), same (Layout.DescriptorClass d) (omega arith))
-        (R .core .descriptors d l)
+        (R .core .descriptors .each d l)
 
     core : Core regions (memoryOf v′ area) m
     core = record {
-      tags = λ ℓ l. rw (head ℓ l) (R .core .tags ℓ l);
-      rows = λ ℓ l. rw (head ℓ (omega arith))
-          (linked-frame (λ x h. same (Layout.DescriptorNext x) (let k : x < 64 = listed I ℓ l x h in omega arith)) (R .core .rows ℓ l));
-      spareRow = rw (head REGIONS (omega arith))
-          (linked-frame (λ x h. same (Layout.RegionNext x) (let k : x < regions = listed-region I x h in omega arith)) (R .core .spareRow));
-      descriptorNexts = λ d l. rw (same (Layout.DescriptorNext d) (omega arith)) (R .core .descriptorNexts d l);
-      regionNexts = λ r l. rw (same (Layout.RegionNext r) (omega arith)) (R .core .regionNexts r l);
-      descriptors = descriptor;
-      avails = λ d l. rw (same (Layout.Anchor d) (omega arith)) (R .core .avails d l);
-      chainCounts = λ d l. rw (same (Layout.Anchor d) (omega arith)) (R .core .chainCounts d l);
-      descriptorRegions = λ d l. rw (same (Layout.DescriptorRegion d) (omega arith)) (R .core .descriptorRegions d l);
-      descriptorClasses = λ d l. rw (same (Layout.DescriptorClass d) (omega arith)) (R .core .descriptorClasses d l);
-      maps = λ r l. rw (same (Layout.Map r) (omega arith)) (R .core .maps r l);
-      marks = λ u l. rw (same (Layout.Marks (u / 64)) (omega arith)) (R .core .marks u l);
+      lists = record {
+        tags = λ ℓ l. rw (head ℓ l) (R .core .lists .tags ℓ l);
+        rows = λ ℓ l. rw (head ℓ (omega arith))
+            (linked-frame (λ x h. same (Layout.DescriptorNext x) (let k : x < 64 = listed I ℓ l x h in omega arith))
+            (R .core .lists .rows ℓ l));
+        spareRow = rw (head REGIONS (omega arith))
+            (linked-frame (λ x h. same (Layout.RegionNext x) (let k : x < regions = listed-region I x h in omega arith))
+            (R .core .lists .spareRow));
+        descriptorNexts = λ d l. rw (same (Layout.DescriptorNext d) (omega arith)) (R .core .lists .descriptorNexts d l);
+        regionNexts = λ r l. rw (same (Layout.RegionNext r) (omega arith)) (R .core .lists .regionNexts r l);
+      };
+      descriptors = record {
+        each = descriptor;
+        avails = λ d l. rw (same (Layout.Anchor d) (omega arith)) (R .core .descriptors .avails d l);
+        chainCounts = λ d l. rw (same (Layout.Anchor d) (omega arith)) (R .core .descriptors .chainCounts d l);
+        regionNumbers = λ d l. rw (same (Layout.DescriptorRegion d) (omega arith)) (R .core .descriptors .regionNumbers d l);
+        classNumbers = λ d l. rw (same (Layout.DescriptorClass d) (omega arith)) (R .core .descriptors .classNumbers d l);
+      };
+      entries = record {
+        maps = λ r l. rw (same (Layout.Map r) (omega arith)) (R .core .entries .maps r l);
+        marks = λ u l. rw (same (Layout.Marks (u / 64)) (omega arith)) (R .core .entries .marks u l);
+      };
       length = R .core .length;
     }
 
@@ -92,10 +107,14 @@ module _ {v v′ : View} (same : (g : Field) → Has layout g → v′ g ≡ v g
     -- a task keeps what it reads of others' columns: the nexts of what it has in hand
     kept : (t : ℕ) → t < 8 → Kept (memoryOf v area) (memoryOf v′ area) m m (m .task t)
     kept t l = record {
-      wins = λ ℓ. omega arith;
-      still = λ ℓ e. refl;
-      descriptorNexts = λ x h. same (Layout.DescriptorNext x) (let k : x < 64 = descriptor-in-hand (turn t l) x h in omega arith);
-      regionNexts = λ x h. same (Layout.RegionNext x) (let k : x < regions = region-in-hand (turn t l) x h in omega arith);
+      lists = record {
+        wins = λ ℓ. omega arith;
+        still = λ ℓ e. refl;
+        descriptorNexts = λ x h. same (Layout.DescriptorNext x)
+            (let k : x < 64 = descriptor-in-hand (turn t l) x h in omega arith);
+        regionNexts = λ x h. same (Layout.RegionNext x)
+            (let k : x < regions = region-in-hand (turn t l) x h in omega arith);
+      };
       links = λ u h. refl;
       regions = λ x h. refl;
     }

@@ -16,8 +16,8 @@ use Rattle.plain.proofs.Places.{taskOf}
 use Rattle.agreement.specs.Memory.{Slot, Memory, slotOf, memoryOf}
 use Rattle.agreement.specs.Relation.{ChainRelated, Related, SlotRelated}
 use Rattle.agreement.proofs.Slots.{toCache}
-use Rattle.agreement.proofs.Sets.{setSlot, setLink, setAnchor, setMap}
-use Rattle.agreement.proofs.Bridge.{withSlots, becomes}
+use Rattle.agreement.proofs.Sets.{withSlots, setSlot, setLink, setAnchor, setMap}
+use Rattle.agreement.proofs.Bridge.{becomes}
 use Rattle.agreement.proofs.Couple.{quiet, linking}
 use Rattle.agreement.proofs.Changes.{anchoring, clearing}
 use Rattle.agreement.proofs.Turns.{At}

@@ -1,5 +1,4 @@
 -- A user's write, and a link that a step writes: which bytes they leave.
--- Assumes nothing.
 use mathlib.Core.Path.{_≡_, refl, ap, subst, _∙_}
 use mathlib.Core.Logic.{_≢_}
 use mathlib.Core.List.{List, [], _∷_}
@@ -26,7 +25,8 @@ use Rattle.plain.proofs.States.{open-holds}
 use Rattle.plain.proofs.Homes.{inside-open}
 use Rattle.agreement.specs.Memory.{memoryOf}
 use Rattle.agreement.specs.Relation.{Related}
-use Rattle.agreement.proofs.Frames.{kept-slot}
+use Rattle.agreement.proofs.Frames.{kept-slot, lists-kept}
+use Rattle.agreement.proofs.Parts.{links-related}
 use Rattle.agreement.proofs.Couple.{Valid, valid, same-class}
 use Rattle.agreement.proofs.Both.{Apart}
 
@@ -83,33 +83,14 @@ module _ {regions : ℕ} {m : Mem} (I : Invariant regions m) (u at : ℕ) (held 
       let C = R .core in
       record {
         core = record {
-          tags = C .tags;
-          rows = C .rows;
-          spareRow = C .spareRow;
-          descriptorNexts = C .descriptorNexts;
-          regionNexts = C .regionNexts;
-          descriptors = λ d l. record {
-            state = C .descriptors d l .state;
-            region = C .descriptors d l .region;
-            class = C .descriptors d l .class;
-            chain = if-open (m .descriptor d .state) (λ g c. record {
-              linked = linked-frame (λ x h. link-kept area b x (omega (arith, total-one 64 (chainWeight x) (m .descriptor) d l, g (count x (m .descriptor d .chain))))) (c .linked);
-              counts = c .counts;
-            }) (C .descriptors d l .chain);
-          };
-          avails = C .avails;
-          chainCounts = C .chainCounts;
-          descriptorRegions = C .descriptorRegions;
-          descriptorClasses = C .descriptorClasses;
-          maps = C .maps;
-          marks = C .marks;
+          lists = C .lists;
+          descriptors = links-related (C .descriptors) (link (set area at b)) (λ d l g x h. link-kept area b x (omega
+              (arith, total-one 64 (chainWeight x) (m .descriptor) d l, g (count x (m .descriptor d .chain)))));
+          entries = C .entries;
           length = length-set area at b ∙ C .length;
         };
         slots = λ t l. kept-slot {a = memoryOf v area} {m = m} (record {
-          wins = λ ℓ. omega arith;
-          still = λ ℓ e. refl;
-          descriptorNexts = λ x h. refl;
-          regionNexts = λ x h. refl;
+          lists = lists-kept;
           links = λ x h. link-kept area b x (omega (arith, total-one 8 (blockWeight x) (m .task) t l));
           regions = λ x h. refl;
         }) (R .slots t l);

@@ -1,5 +1,4 @@
 -- The two memories, column by column: what each field and each link says.
--- Assumes nothing.
 use Prim.Native.Nat.{ℕ, _+_, _*_, _/_, _%_}
 use native.Mathlib.Decide.{decLt}
 use mathlib.Core.List.{List}
@@ -12,38 +11,70 @@ use Rattle.words.specs.declared.head.Head.{Head}
 use Rattle.words.specs.declared.anchor.Anchor.{Anchor}
 use Rattle.control.specs.Layout
 
--- a task's part of the control memory
-pub record Slot : Type 0 where
-  pub place : ℕ
-  pub class : ℕ
-  pub unit : ℕ
+-- ---- a task's part of the control memory
+
+-- what a task noted: of a list, its head and the next of the head's item; of a descriptor, its anchor
+pub record TaskNotes : Type 0 where
   pub head : Head
   pub next : ℕ
   pub anchor : Anchor
+
+-- what a task has in hand: a descriptor; a region, in it the next block's index and how many are left; and the state in
+-- which a free found the anchor
+pub record TaskHand : Type 0 where
   pub descriptor : ℕ
   pub region : ℕ
   pub index : ℕ
   pub left : ℕ
+  pub state : ℕ
+
+-- the group of a free: the indexes of its first and its last block, and how many it has
+pub record TaskGroup : Type 0 where
   pub first : ℕ
   pub last : ℕ
-  pub grouped : ℕ
-  pub state : ℕ
-  -- of each class's cache: the top block, and how many
+  pub count : ℕ
+
+-- of each class's cache: the top block, and how many
+pub record TaskCaches : Type 0 where
   pub top : ℕ → ℕ
   pub count : ℕ → ℕ
 
--- the control memory and the area
-pub record Memory : Type 0 where
+pub record Slot : Type 0 where
+  pub place : ℕ
+  pub class : ℕ
+  pub unit : ℕ
+  pub noted : TaskNotes
+  pub hand : TaskHand
+  pub group : TaskGroup
+  pub caches : TaskCaches
+
+-- ---- the control memory and the area
+
+-- the lists: each one's head, and the nexts of the descriptors and of the regions
+pub record Lists : Type 0 where
   pub head : ℕ → Head
   pub descriptorNext : ℕ → ℕ
   pub regionNext : ℕ → ℕ
+
+-- the descriptors
+pub record Descriptors : Type 0 where
   pub anchor : ℕ → Anchor
-  pub descriptorRegion : ℕ → ℕ
-  pub descriptorClass : ℕ → ℕ
+  pub region : ℕ → ℕ
+  pub class : ℕ → ℕ
+
+-- the map's entry of each region, and the mark of each unit
+pub record Entries : Type 0 where
   pub map : ℕ → ℕ
   pub mark : ℕ → ℕ
+
+pub record Memory : Type 0 where
+  pub lists : Lists
+  pub descriptors : Descriptors
+  pub entries : Entries
   pub slot : ℕ → Slot
   pub area : List ℕ
+
+-- ---- read off a view of the fields
 
 -- a field of the sixteen caches of the task t: those of the classes, and 0 past them
 abbrev pub byClass : (ℕ → ℕ) → ℕ → ℕ → ℕ
@@ -54,19 +85,27 @@ slotOf v t = record {
   place = v (Layout.TaskPlace t);
   class = v (Layout.TaskClass t);
   unit = v (Layout.TaskUnit t);
-  head = headOf (v (Layout.TaskHead t));
-  next = v (Layout.TaskNext t);
-  anchor = anchorOf (v (Layout.TaskAnchor t));
-  descriptor = v (Layout.TaskDescriptor t);
-  region = v (Layout.TaskRegion t);
-  index = v (Layout.TaskIndex t);
-  left = v (Layout.TaskLeft t);
-  first = v (Layout.GroupFirst t);
-  last = v (Layout.GroupLast t);
-  grouped = v (Layout.GroupCount t);
-  state = v (Layout.TaskState t);
-  top = byClass (λ i. v (Layout.Top i)) t;
-  count = byClass (λ i. v (Layout.Count i)) t;
+  noted = record {
+    head = headOf (v (Layout.TaskHead t));
+    next = v (Layout.TaskNext t);
+    anchor = anchorOf (v (Layout.TaskAnchor t));
+  };
+  hand = record {
+    descriptor = v (Layout.TaskDescriptor t);
+    region = v (Layout.TaskRegion t);
+    index = v (Layout.TaskIndex t);
+    left = v (Layout.TaskLeft t);
+    state = v (Layout.TaskState t);
+  };
+  group = record {
+    first = v (Layout.GroupFirst t);
+    last = v (Layout.GroupLast t);
+    count = v (Layout.GroupCount t);
+  };
+  caches = record {
+    top = byClass (λ i. v (Layout.Top i)) t;
+    count = byClass (λ i. v (Layout.Count i)) t;
+  };
 }
 
 -- "One mark per unit": that of the unit u is a bit of its word
@@ -75,14 +114,17 @@ markOf v u = bitAt (v (Layout.Marks (u / 64))) (u % 64)
 
 abbrev pub memoryOf : View → List ℕ → Memory
 memoryOf v area = record {
-  head = λ ℓ. headOf (v (Layout.Head ℓ));
-  descriptorNext = λ d. v (Layout.DescriptorNext d);
-  regionNext = λ r. v (Layout.RegionNext r);
-  anchor = λ d. anchorOf (v (Layout.Anchor d));
-  descriptorRegion = λ d. v (Layout.DescriptorRegion d);
-  descriptorClass = λ d. v (Layout.DescriptorClass d);
-  map = λ r. v (Layout.Map r);
-  mark = markOf v;
+  lists = record {
+    head = λ ℓ. headOf (v (Layout.Head ℓ));
+    descriptorNext = λ d. v (Layout.DescriptorNext d);
+    regionNext = λ r. v (Layout.RegionNext r);
+  };
+  descriptors = record {
+    anchor = λ d. anchorOf (v (Layout.Anchor d));
+    region = λ d. v (Layout.DescriptorRegion d);
+    class = λ d. v (Layout.DescriptorClass d);
+  };
+  entries = record { map = λ r. v (Layout.Map r); mark = markOf v };
   slot = slotOf v;
   area = area;
 }

@@ -31,10 +31,10 @@ listFrom next (suc n) (suc x) = x ∷ listFrom next n (next x)
 -- The list ℓ of descriptors, and that of the spare regions: one item more is read than there are descriptors or regions, so that
 -- a list that does not end is not taken for one that does.
 abbrev pub listOf : Memory → ℕ → List ℕ
-listOf a ℓ = listFrom (a .descriptorNext) 65 (a .head ℓ .item)
+listOf a ℓ = listFrom (a .lists .descriptorNext) 65 (a .lists .head ℓ .item)
 
 abbrev pub spareRegions : Memory → ℕ → List ℕ
-spareRegions a regions = listFrom (a .regionNext) (suc regions) (a .head REGIONS .item)
+spareRegions a regions = listFrom (a .lists .regionNext) (suc regions) (a .lists .head REGIONS .item)
 
 -- ---- open regions: "a region is open while that descriptor names it back and its anchor is not EMPTY"
 
@@ -42,14 +42,14 @@ spareRegions a regions = listFrom (a .regionNext) (suc regions) (a .head REGIONS
 abbrev pub classBy : ℕ → ℕ → Memory → ℕ
 classBy zero r a = 0
 classBy (suc d) r a =
-    if (both (ℕ-discrete (a .descriptorRegion d) r) (decLe 1 (a .anchor d .state))) (suc (a .descriptorClass d)) 0
+    if (both (ℕ-discrete (a .descriptors .region d) r) (decLe 1 (a .descriptors .anchor d .state))) (suc (a .descriptors .class d)) 0
 
 -- its chain: as many blocks as the anchor counts, from avail on
 abbrev pub chainBy : ℕ → ℕ → Memory → List ℕ
 chainBy zero r a = []
 chainBy (suc d) r a =
-    if (both (ℕ-discrete (a .descriptorRegion d) r) (decLe 1 (a .anchor d .state)))
-    (walk (link (a .area)) (unitOf r (a .descriptorClass d)) (a .anchor d .avail) (a .anchor d .count)) []
+    if (both (ℕ-discrete (a .descriptors .region d) r) (decLe 1 (a .descriptors .anchor d .state)))
+    (walk (link (a .area)) (unitOf r (a .descriptors .class d)) (a .descriptors .anchor d .avail) (a .descriptors .anchor d .count)) []
 
 -- the same of the plain pool
 abbrev pub plainClassBy : ℕ → ℕ → Mem → ℕ
@@ -70,7 +70,7 @@ plainChain m r = plainChainBy (m .map r) r m
 
 -- a task's group: as many blocks as it counts, from its first on
 abbrev groupOf : Slot → Memory → List ℕ
-groupOf s a = walk (link (a .area)) (unitOf (s .region) (s .class)) (s .first) (s .grouped)
+groupOf s a = walk (link (a .area)) (unitOf (s .hand .region) (s .class)) (s .group .first) (s .group .count)
 
 -- "In comparing holders, a chain or group under way, a block being freed and blocks still to be carved count with their
 -- task's cache": what a task has under way at each place, 0 to 33
@@ -85,11 +85,11 @@ underWayAt s a =
     -- 23 and 24: the anchor is read and exchanged
     ∷ [] ∷ []
     -- 25: the rest of the chain that was taken
-    ∷ walk (link (a .area)) (unitOf (s .region) (s .class)) (s .index) (s .left)
+    ∷ walk (link (a .area)) (unitOf (s .hand .region) (s .class)) (s .hand .index) (s .hand .left)
     -- 26: the descriptor and the map are written
     ∷ []
     -- 27: the blocks still to be carved
-    ∷ blocksFrom (s .region) (s .class) (s .index) (perRegion (s .class) - s .index)
+    ∷ blocksFrom (s .hand .region) (s .class) (s .hand .index) (perRegion (s .class) - s .hand .index)
     -- 28: the block that is freed
     ∷ freed
     -- 29 to 32: the group
@@ -107,7 +107,7 @@ inCache a v u n = count v (walk (link (a .area)) (λ x. x) u n)
 abbrev pub withTask : Memory → ℕ → ℕ → ℕ
 withTask a t v =
     let s = a .slot t in
-    total 16 (λ c n. inCache a v (s .top c) n) (s .count) + count v (getD (underWayAt s a) (s .place) [])
+    total 16 (λ c n. inCache a v (s .caches .top c) n) (s .caches .count) + count v (getD (underWayAt s a) (s .place) [])
 
 -- ---- holders: "a user's hands, a task or its region's chain"
 
@@ -127,7 +127,7 @@ abbrev pub holder : ℕ → (ℕ → ℕ) → ℕ → Holder
 holder mark has inChain = if (decLe 1 mark) hands (holderOf 8 has inChain 0)
 
 abbrev pub holderIn : Memory → ℕ → ℕ → Holder
-holderIn a r v = holder (a .mark v) (λ t. withTask a t v) (count v (chainBy (a .map r) r a))
+holderIn a r v = holder (a .entries .mark v) (λ t. withTask a t v) (count v (chainBy (a .entries .map r) r a))
 
 abbrev pub plainHolder : Mem → ℕ → ℕ → Holder
 plainHolder m r v = holder (m .hands v) (λ t. blockWeight v t (m .task t)) (count v (plainChain m r))
@@ -137,13 +137,13 @@ plainHolder m r v = holder (m .hands v) (λ t. blockWeight v t (m .task t)) (cou
 pub record Same (regions : ℕ) (a : Memory) (m : Mem) : Type 0 where
   pub lists : (ℓ : ℕ) → ℓ < 17 → listOf a ℓ ≡ m .row ℓ
   pub spares : spareRegions a regions ≡ m .row REGIONS
-  pub classes : (r : ℕ) → r < regions → classBy (a .map r) r a ≡ plainClass m r
-  pub chains : (r : ℕ) → r < regions → chainBy (a .map r) r a ≡ plainChain m r
+  pub classes : (r : ℕ) → r < regions → classBy (a .entries .map r) r a ≡ plainClass m r
+  pub chains : (r : ℕ) → r < regions → chainBy (a .entries .map r) r a ≡ plainChain m r
   -- the holder of the block v of the region r, and, beyond what is asked, of every unit with regard to every region
   pub holders : (r v : ℕ) → r < regions → v < 8192 → holderIn a r v ≡ plainHolder m r v
   -- "each block of an open region is in exactly one place": counted in the memories, and in the plain pool
-  pub one-place : (r c v : ℕ) → r < regions → classBy (a .map r) r a ≡ suc c → Block r c v
-      → a .mark v + total 8 (λ t s. withTask a t v) (a .slot) + count v (chainBy (a .map r) r a) ≡ 1
+  pub one-place : (r c v : ℕ) → r < regions → classBy (a .entries .map r) r a ≡ suc c → Block r c v
+      → a .entries .mark v + total 8 (λ t s. withTask a t v) (a .slot) + count v (chainBy (a .entries .map r) r a) ≡ 1
   pub plain-one-place : (r c v : ℕ) → r < regions → plainClass m r ≡ suc c → Block r c v
       → m .hands v + total 8 (blockWeight v) (m .task) + count v (plainChain m r) ≡ 1
   -- an open region's chain has blocks of this region and class alone, so that no block stands in another region's chain

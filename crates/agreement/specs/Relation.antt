@@ -1,5 +1,4 @@
 -- What holds between the two memories of the stepped pool, column by column, and the plain pool.
--- Assumes nothing.
 use mathlib.Core.Path.{_≡_}
 use mathlib.Core.List.{List, [], _∷_, _++_}
 use Prim.Native.Nat.{ℕ, zero, suc, _+_, _*_, _%_, _≤_, _<_}
@@ -16,7 +15,7 @@ use Rattle.plain.specs.State.{Place, idle, a1, popping, pushing, a3-read, a3-ex
 use Rattle.plain.specs.Steps.{top}
 use Rattle.plain.specs.States.{IfOpen}
 use Rattle.plain.specs.Blocks.{isBlock}
-use Rattle.agreement.specs.Memory.{Slot, Memory}
+use Rattle.agreement.specs.Memory.{Slot, Lists, Descriptors, Entries, Memory}
 
 -- the tag of a number of won exchanges
 abbrev pub wrap : ℕ → ℕ
@@ -39,17 +38,17 @@ pub record Noted (m : Mem) (ℓ : ℕ) (h : Head) (n : ℕ) : Type 0 where
 -- what stands below the row's top: nothing is said of the links, so that the steps of others leave it.
 pub data PopRelated (m : Mem) (s : Slot) (b ℓ items : ℕ) : Phase → Type 0 where
   at-read : s .place ≡ b → PopRelated m s b ℓ items read
-  at-next : {n : ℕ} → s .place ≡ b + 1 → Noted m ℓ (s .head) n → 1 ≤ s .head .item → s .head .item ≤ items
+  at-next : {n : ℕ} → s .place ≡ b + 1 → Noted m ℓ (s .noted .head) n → 1 ≤ s .noted .head .item → s .noted .head .item ≤ items
       → PopRelated m s b ℓ items (next n)
-  at-exchange : {n : ℕ} → s .place ≡ b + 2 → Noted m ℓ (s .head) n → 1 ≤ s .head .item → s .head .item ≤ items
-      → s .next ≤ items → (n ≡ m .won ℓ → s .next ≡ top (tail (m .row ℓ))) → PopRelated m s b ℓ items (exchange n)
+  at-exchange : {n : ℕ} → s .place ≡ b + 2 → Noted m ℓ (s .noted .head) n → 1 ≤ s .noted .head .item → s .noted .head .item ≤ items
+      → s .noted .next ≤ items → (n ≡ m .won ℓ → s .noted .next ≡ top (tail (m .row ℓ))) → PopRelated m s b ℓ items (exchange n)
 
 -- A push of the item x, whose next, which its owner alone writes, is the noted head's item.
 pub data PushRelated (m : Mem) (s : Slot) (b ℓ items x : ℕ) (nx : ℕ → ℕ) : Phase → Type 0 where
   at-read : s .place ≡ b → PushRelated m s b ℓ items x nx read
-  at-next : {n : ℕ} → s .place ≡ b + 1 → Noted m ℓ (s .head) n → s .head .item ≤ items
+  at-next : {n : ℕ} → s .place ≡ b + 1 → Noted m ℓ (s .noted .head) n → s .noted .head .item ≤ items
       → PushRelated m s b ℓ items x nx (next n)
-  at-exchange : {n : ℕ} → s .place ≡ b + 2 → Noted m ℓ (s .head) n → s .head .item ≤ items → nx x ≡ s .head .item
+  at-exchange : {n : ℕ} → s .place ≡ b + 2 → Noted m ℓ (s .noted .head) n → s .noted .head .item ≤ items → nx x ≡ s .noted .head .item
       → PushRelated m s b ℓ items x nx (exchange n)
 
 -- the index by which an anchor names a chain's first block, which is given plus one, or 0 for none: n for none
@@ -75,10 +74,10 @@ pub record GroupRelated (a : Memory) (s : Slot) (y : ℕ) (g : List ℕ) : Type 
   pub front : List ℕ
   pub last : ℕ
   pub is : y ∷ g ≡ front ++ (last ∷ [])
-  pub linked : Linked (link (a .area)) (indexOf (s .class)) (indexOf (s .class) last) (s .first) front
-  pub lastIs : s .last ≡ indexOf (s .class) last
-  pub counts : s .grouped ≡ suc (length g)
-  pub region : s .region ≡ regionOf y
+  pub linked : Linked (link (a .area)) (indexOf (s .class)) (indexOf (s .class) last) (s .group .first) front
+  pub lastIs : s .group .last ≡ indexOf (s .class) last
+  pub counts : s .group .count ≡ suc (length g)
+  pub region : s .hand .region ≡ regionOf y
 
 -- ---- a task
 
@@ -89,51 +88,51 @@ pub data PlaceRelated (regions : ℕ) (a : Memory) (m : Mem) (s : Slot) : Place 
   r-partial : {φ : Phase} → PopRelated m s 2 (s .class) 64 φ → PlaceRelated regions a m s (popping (partial (s .class)) φ)
   r-spare : {φ : Phase} → PopRelated m s 5 SPARES 64 φ → PlaceRelated regions a m s (popping (spare (s .class)) φ)
   r-region : {φ : Phase} → PopRelated m s 8 REGIONS regions φ
-      → PlaceRelated regions a m s (popping (Pop.region (s .class) (s .descriptor)) φ)
-  r-retire : {φ : Phase} → PushRelated m s 11 SPARES 64 (s .descriptor) (a .descriptorNext) φ
-      → PlaceRelated regions a m s (pushing (retire (s .class) (s .descriptor)) φ)
-  r-back : {φ : Phase} → PushRelated m s 14 SPARES 64 (s .descriptor) (a .descriptorNext) φ
-      → PlaceRelated regions a m s (pushing (back (s .class) (s .descriptor)) φ)
-  r-release : {w : State} {φ : Phase} → s .state ≡ numberOf w
-      → PushRelated m s 17 REGIONS regions (s .region) (a .regionNext) φ
-      → PlaceRelated regions a m s (pushing (release (s .class) (s .unit) (s .descriptor) w (s .region)) φ)
-  r-offer : {φ : Phase} → PushRelated m s 20 (s .class) 64 (s .descriptor) (a .descriptorNext) φ
-      → PlaceRelated regions a m s (pushing (offer (s .class) (s .unit) (s .descriptor)) φ)
-  r-a3-read : s .place ≡ 23 → PlaceRelated regions a m s (a3-read (s .class) (s .descriptor))
+      → PlaceRelated regions a m s (popping (Pop.region (s .class) (s .hand .descriptor)) φ)
+  r-retire : {φ : Phase} → PushRelated m s 11 SPARES 64 (s .hand .descriptor) (a .lists .descriptorNext) φ
+      → PlaceRelated regions a m s (pushing (retire (s .class) (s .hand .descriptor)) φ)
+  r-back : {φ : Phase} → PushRelated m s 14 SPARES 64 (s .hand .descriptor) (a .lists .descriptorNext) φ
+      → PlaceRelated regions a m s (pushing (back (s .class) (s .hand .descriptor)) φ)
+  r-release : {w : State} {φ : Phase} → s .hand .state ≡ numberOf w
+      → PushRelated m s 17 REGIONS regions (s .hand .region) (a .lists .regionNext) φ
+      → PlaceRelated regions a m s (pushing (release (s .class) (s .unit) (s .hand .descriptor) w (s .hand .region)) φ)
+  r-offer : {φ : Phase} → PushRelated m s 20 (s .class) 64 (s .hand .descriptor) (a .lists .descriptorNext) φ
+      → PlaceRelated regions a m s (pushing (offer (s .class) (s .unit) (s .hand .descriptor)) φ)
+  r-a3-read : s .place ≡ 23 → PlaceRelated regions a m s (a3-read (s .class) (s .hand .descriptor))
   -- the noted anchor is PARTIAL, names a block, and counts 1 to n
-  r-a3-exchange : {n : Note} → s .place ≡ 24 → NoteRelated m (s .class) (s .descriptor) n (s .anchor)
-      → s .anchor .state ≡ 1 → 1 ≤ s .anchor .count → s .anchor .count ≤ perRegion (s .class)
-      → s .anchor .avail < perRegion (s .class)
-      → PlaceRelated regions a m s (a3-exchange (s .class) (s .descriptor) n)
+  r-a3-exchange : {n : Note} → s .place ≡ 24 → NoteRelated m (s .class) (s .hand .descriptor) n (s .noted .anchor)
+      → s .noted .anchor .state ≡ 1 → 1 ≤ s .noted .anchor .count → s .noted .anchor .count ≤ perRegion (s .class)
+      → s .noted .anchor .avail < perRegion (s .class)
+      → PlaceRelated regions a m s (a3-exchange (s .class) (s .hand .descriptor) n)
   r-a4 : {x : ℕ} {q : List ℕ} → s .place ≡ 25
-      → Linked (link (a .area)) (indexOf (s .class)) (perRegion (s .class)) (s .index) (x ∷ q)
-      → s .left ≡ suc (length q) → ((v : ℕ) → count v (x ∷ q) ≤ isBlock v (s .region) (s .class))
+      → Linked (link (a .area)) (indexOf (s .class)) (perRegion (s .class)) (s .hand .index) (x ∷ q)
+      → s .hand .left ≡ suc (length q) → ((v : ℕ) → count v (x ∷ q) ≤ isBlock v (s .hand .region) (s .class))
       → PlaceRelated regions a m s (a4 (s .class) x q)
-  r-a7 : s .place ≡ 26 → PlaceRelated regions a m s (a7 (s .class) (s .descriptor) (s .region))
-  r-a8 : s .place ≡ 27 → PlaceRelated regions a m s (a8 (s .class) (s .region) (s .index))
+  r-a7 : s .place ≡ 26 → PlaceRelated regions a m s (a7 (s .class) (s .hand .descriptor) (s .hand .region))
+  r-a8 : s .place ≡ 27 → PlaceRelated regions a m s (a8 (s .class) (s .hand .region) (s .hand .index))
   r-f1 : s .place ≡ 28 → PlaceRelated regions a m s (f1 (s .class) (s .unit))
-  r-f2 : s .place ≡ 29 → s .grouped ≡ 0 → PlaceRelated regions a m s (f2 (s .class) (s .unit) [])
+  r-f2 : s .place ≡ 29 → s .group .count ≡ 0 → PlaceRelated regions a m s (f2 (s .class) (s .unit) [])
   r-f2-more : {y : ℕ} {g : List ℕ} → s .place ≡ 29 → GroupRelated a s y g
       → PlaceRelated regions a m s (f2 (s .class) (s .unit) (y ∷ g))
   r-f3-read : {y : ℕ} {g : List ℕ} → s .place ≡ 30 → GroupRelated a s y g
       → PlaceRelated regions a m s (f3-read (s .class) (s .unit) y g)
   r-f3-link : {y : ℕ} {g : List ℕ} {n : Note} → s .place ≡ 31 → GroupRelated a s y g
-      → NoteRelated m (s .class) (s .descriptor) n (s .anchor)
-      → s .grouped + s .anchor .count ≤ perRegion (s .class)
-      → PlaceRelated regions a m s (f3-link (s .class) (s .unit) y g (s .descriptor) n)
+      → NoteRelated m (s .class) (s .hand .descriptor) n (s .noted .anchor)
+      → s .group .count + s .noted .anchor .count ≤ perRegion (s .class)
+      → PlaceRelated regions a m s (f3-link (s .class) (s .unit) y g (s .hand .descriptor) n)
   r-f3-exchange : {y : ℕ} {g : List ℕ} {n : Note} → s .place ≡ 32 → (G : GroupRelated a s y g)
-      → NoteRelated m (s .class) (s .descriptor) n (s .anchor)
-      → s .grouped + s .anchor .count ≤ perRegion (s .class) → link (a .area) (G .last) ≡ s .anchor .avail
-      → PlaceRelated regions a m s (f3-exchange (s .class) (s .unit) y g (s .descriptor) n)
-  r-f4-clear : {w : State} → s .place ≡ 33 → s .state ≡ numberOf w
-      → PlaceRelated regions a m s (f4-clear (s .class) (s .unit) (s .descriptor) w (s .region))
+      → NoteRelated m (s .class) (s .hand .descriptor) n (s .noted .anchor)
+      → s .group .count + s .noted .anchor .count ≤ perRegion (s .class) → link (a .area) (G .last) ≡ s .noted .anchor .avail
+      → PlaceRelated regions a m s (f3-exchange (s .class) (s .unit) y g (s .hand .descriptor) n)
+  r-f4-clear : {w : State} → s .place ≡ 33 → s .hand .state ≡ numberOf w
+      → PlaceRelated regions a m s (f4-clear (s .class) (s .unit) (s .hand .descriptor) w (s .hand .region))
 
 -- A task: its class is one of the sixteen, its place, and each cache linked from its top.
 pub record SlotRelated (regions : ℕ) (a : Memory) (m : Mem) (s : Slot) (T : Task) : Type 0 where
   pub fits : s .class < 16
   pub place : PlaceRelated regions a m s (T .place)
-  pub tops : (c : ℕ) → c < 16 → Linked (link (a .area)) (λ u. u) 8192 (s .top c) (T .cache c)
-  pub counts : (c : ℕ) → c < 16 → s .count c ≡ length (T .cache c)
+  pub tops : (c : ℕ) → c < 16 → Linked (link (a .area)) (λ u. u) 8192 (s .caches .top c) (T .cache c)
+  pub counts : (c : ℕ) → c < 16 → s .caches .count c ≡ length (T .cache c)
 
 -- ---- a descriptor
 
@@ -151,23 +150,34 @@ pub record DescriptorRelated (nx : ℕ → ℕ) (a : Anchor) (r c : ℕ) (D : De
 
 -- ---- the pool
 
+-- the lists, by the numbers of won exchanges and the rows of the plain pool
+pub record ListsRelated (regions : ℕ) (l : Lists) (won : ℕ → ℕ) (row : ℕ → List ℕ) : Type 0 where
+  pub tags : (ℓ : ℕ) → ℓ < 18 → l .head ℓ .tag ≡ wrap (won ℓ)
+  -- the lists of descriptors, and that of spare regions
+  pub rows : (ℓ : ℕ) → ℓ < 17 → Linked (l .descriptorNext) suc 0 (l .head ℓ .item) (row ℓ)
+  pub spareRow : Linked (l .regionNext) suc 0 (l .head REGIONS .item) (row REGIONS)
+  pub descriptorNexts : (d : ℕ) → d < 64 → l .descriptorNext d ≤ 64
+  pub regionNexts : (r : ℕ) → r < regions → l .regionNext r ≤ regions
+
+-- the descriptors, with chains linked by nx
+pub record DescriptorsRelated (regions : ℕ) (nx : ℕ → ℕ) (D : Descriptors) (plain : ℕ → Descriptor) : Type 0 where
+  pub each : (d : ℕ) → d < 64 → DescriptorRelated nx (D .anchor d) (D .region d) (D .class d) (plain d)
+  -- also of an EMPTY descriptor: its anchor, its region and its class are in their ranges
+  pub avails : (d : ℕ) → d < 64 → D .anchor d .avail ≤ 512
+  pub chainCounts : (d : ℕ) → d < 64 → D .anchor d .count ≤ 512
+  pub regionNumbers : (d : ℕ) → d < 64 → D .region d < regions
+  pub classNumbers : (d : ℕ) → d < 64 → D .class d < 16
+
+-- the map and the marks
+pub record EntriesRelated (regions : ℕ) (e : Entries) (map hands : ℕ → ℕ) : Type 0 where
+  pub maps : (r : ℕ) → r < regions → e .map r ≡ map r
+  pub marks : (u : ℕ) → u < 8192 → e .mark u ≡ hands u
+
 -- all but the tasks; the area has the started length
 pub record Core (regions : ℕ) (a : Memory) (m : Mem) : Type 0 where
-  pub tags : (ℓ : ℕ) → ℓ < 18 → a .head ℓ .tag ≡ wrap (m .won ℓ)
-  -- the lists of descriptors, and that of spare regions
-  pub rows : (ℓ : ℕ) → ℓ < 17 → Linked (a .descriptorNext) suc 0 (a .head ℓ .item) (m .row ℓ)
-  pub spareRow : Linked (a .regionNext) suc 0 (a .head REGIONS .item) (m .row REGIONS)
-  pub descriptorNexts : (d : ℕ) → d < 64 → a .descriptorNext d ≤ 64
-  pub regionNexts : (r : ℕ) → r < regions → a .regionNext r ≤ regions
-  pub descriptors : (d : ℕ) → d < 64
-      → DescriptorRelated (link (a .area)) (a .anchor d) (a .descriptorRegion d) (a .descriptorClass d) (m .descriptor d)
-  -- also of an EMPTY descriptor: its anchor, its region and its class are in their ranges
-  pub avails : (d : ℕ) → d < 64 → a .anchor d .avail ≤ 512
-  pub chainCounts : (d : ℕ) → d < 64 → a .anchor d .count ≤ 512
-  pub descriptorRegions : (d : ℕ) → d < 64 → a .descriptorRegion d < regions
-  pub descriptorClasses : (d : ℕ) → d < 64 → a .descriptorClass d < 16
-  pub maps : (r : ℕ) → r < regions → a .map r ≡ m .map r
-  pub marks : (u : ℕ) → u < 8192 → a .mark u ≡ m .hands u
+  pub lists : ListsRelated regions (a .lists) (m .won) (m .row)
+  pub descriptors : DescriptorsRelated regions (link (a .area)) (a .descriptors) (m .descriptor)
+  pub entries : EntriesRelated regions (a .entries) (m .map) (m .hands)
   pub length : lib.ListN.length (a .area) ≡ 4096 * regions
 
 pub record Related (regions : ℕ) (a : Memory) (m : Mem) : Type 0 where

@@ -1,0 +1,108 @@
+-- The relation of one part of the memories after a change in that part: of the lists, the descriptors, the map and the marks.
+use mathlib.Core.Path.{_≡_, refl, sym, ap, subst, _∙_}
+use Prim.Native.Nat.{ℕ, suc, _≤_, _<_}
+use mathlib.Core.List.{List}
+use native.Mathlib.Omega.{arith}
+use Rattle.words.specs.declared.anchor.Anchor.{Anchor}
+use Rattle.words.specs.declared.head.Head.{Head}
+use Rattle.rows.specs.Counting.{count}
+use Rattle.rows.specs.Linked.{Agree, Linked}
+use Rattle.rows.specs.Update.{update}
+use Rattle.rows.proofs.Linked.{linked-frame, linked-update}
+use Rattle.rows.proofs.Update.{update-all, update-all₂}
+use Rattle.plain.specs.State.{Descriptor, EMPTY, FULL, PARTIAL, State, numberOf}
+use Rattle.plain.specs.States.{IfOpen, IsOpen}
+use Rattle.agreement.specs.Memory.{Lists, Descriptors, Entries}
+use Rattle.agreement.specs.Relation.{ChainRelated, DescriptorRelated, DescriptorsRelated, EntriesRelated, ListsRelated, wrap}
+use Rattle.agreement.proofs.Sets.{withHeads, withDescriptorNexts, withRegionNexts, withAnchors, withMap, withMarks}
+
+-- ---- the lists
+module _ {regions : ℕ} {l : Lists} {won : ℕ → ℕ} {row : ℕ → List ℕ} (R : ListsRelated regions l won row) where
+  -- a head, whose list has the row q after n won exchanges
+  pub head-related : (ℓ : ℕ) (h : Head) (n : ℕ) (q : List ℕ) → h .tag ≡ wrap n
+      → (ℓ < 17 → Linked (l .descriptorNext) suc 0 (h .item) q) → (ℓ ≡ 17 → Linked (l .regionNext) suc 0 (h .item) q)
+      → ListsRelated regions (withHeads (update (l .head) ℓ h) l) (update won ℓ n) (update row ℓ q)
+  head-related ℓ h n q e f g = record {
+    tags = update-all₂ (λ j x y. j < 18 → x .tag ≡ wrap y) (l .head) won ℓ h n (λ i. e) (λ j d. R .tags j);
+    rows = update-all₂ (λ j x r. j < 17 → Linked (l .descriptorNext) suc 0 (x .item) r) (l .head) row ℓ h q f
+        (λ j d. R .rows j);
+    spareRow = update-all₂ (λ j x r. j ≡ 17 → Linked (l .regionNext) suc 0 (x .item) r) (l .head) row ℓ h q g
+        (λ j d i. subst (λ (z : ℕ). Linked (l .regionNext) suc 0 (l .head z .item) (row z)) (sym i) (R .spareRow)) 17 refl;
+    descriptorNexts = R .descriptorNexts;
+    regionNexts = R .regionNexts;
+  }
+
+  -- the next of a descriptor that is in no list
+  pub descriptorNext-related : (x n : ℕ) → ((ℓ : ℕ) → ℓ < 17 → count x (row ℓ) ≡ 0) → n ≤ 64
+      → ListsRelated regions (withDescriptorNexts (update (l .descriptorNext) x n) l) won row
+  descriptorNext-related x n off b = record {
+    tags = R .tags;
+    rows = λ ℓ i. linked-update x n (off ℓ i) (R .rows ℓ i);
+    spareRow = R .spareRow;
+    descriptorNexts = update-all (λ d y. d < 64 → y ≤ 64) (l .descriptorNext) x n (λ i. b) (λ d e. R .descriptorNexts d);
+    regionNexts = R .regionNexts;
+  }
+
+  -- the next of a region that is not spare
+  pub regionNext-related : (x n : ℕ) → count x (row 17) ≡ 0 → n ≤ regions
+      → ListsRelated regions (withRegionNexts (update (l .regionNext) x n) l) won row
+  regionNext-related x n off b = record {
+    tags = R .tags;
+    rows = R .rows;
+    spareRow = linked-update x n off (R .spareRow);
+    descriptorNexts = R .descriptorNexts;
+    regionNexts = update-all (λ d y. d < regions → y ≤ regions) (l .regionNext) x n (λ i. b) (λ d e. R .regionNexts d);
+  }
+
+-- ---- the descriptors
+module _ {regions : ℕ} {nx : ℕ → ℕ} {D : Descriptors} {P : ℕ → Descriptor} (R : DescriptorsRelated regions nx D P) where
+  -- an anchor: the region and the class stay
+  pub anchor-related : (d : ℕ) (b : Anchor) (E : Descriptor) → d < 64 → b .state ≡ numberOf (E .state)
+      → E .region ≡ P d .region → E .class ≡ P d .class → IfOpen (E .state) (ChainRelated nx b E)
+      → b .avail ≤ 512 → b .count ≤ 512
+      → DescriptorsRelated regions nx (withAnchors (update (D .anchor) d b) D) (update P d E)
+  anchor-related d b E l e f g c i₁ i₂ = record {
+    each = update-all₂ (λ j x F. j < 64 → DescriptorRelated nx x (D .region j) (D .class j) F) (D .anchor) P d b E
+        (λ i. record { state = e; region = R .each d l .region ∙ sym f; class = R .each d l .class ∙ sym g; chain = c })
+        (λ j n. R .each j);
+    avails = update-all (λ j x. j < 64 → x .avail ≤ 512) (D .anchor) d b (λ i. i₁) (λ j n. R .avails j);
+    chainCounts = update-all (λ j x. j < 64 → x .count ≤ 512) (D .anchor) d b (λ i. i₂) (λ j n. R .chainCounts j);
+    regionNumbers = R .regionNumbers;
+    classNumbers = R .classNumbers;
+  }
+
+  -- other links, which are as they were in the chains of open descriptors
+  pub links-related : (nx′ : ℕ → ℕ) → ((d : ℕ) → d < 64 → IsOpen (P d .state) → Agree nx nx′ (P d .chain))
+      → DescriptorsRelated regions nx′ D P
+  links-related nx′ same = record {
+    each = λ d l. record {
+      state = R .each d l .state;
+      region = R .each d l .region;
+      class = R .each d l .class;
+      chain = if-open (P d .state)
+          (λ o C. record { linked = linked-frame (same d l o) (C .linked); counts = C .counts }) (R .each d l .chain);
+    };
+    avails = R .avails;
+    chainCounts = R .chainCounts;
+    regionNumbers = R .regionNumbers;
+    classNumbers = R .classNumbers;
+  }
+    where
+      if-open : (z : State) {X Y : Type 0} → (IsOpen z → X → Y) → IfOpen z X → IfOpen z Y
+      if-open EMPTY f x = tt
+      if-open PARTIAL f x = f (λ i. refl) x
+      if-open FULL f x = f (λ i. refl) x
+
+-- ---- the map and the marks
+module _ {regions : ℕ} {E : Entries} {map hands : ℕ → ℕ} (R : EntriesRelated regions E map hands) where
+  pub map-related : (r x y : ℕ) → x ≡ y → EntriesRelated regions (withMap (update (E .map) r x) E) (update map r y) hands
+  map-related r x y e = record {
+    maps = update-all₂ (λ j x y. j < regions → x ≡ y) (E .map) map r x y (λ l. e) (λ j n. R .maps j);
+    marks = R .marks;
+  }
+
+  pub mark-related : (u b : ℕ) → EntriesRelated regions (withMarks (update (E .mark) u b) E) map (update hands u b)
+  mark-related u b = record {
+    maps = R .maps;
+    marks = update-all₂ (λ j x y. j < 8192 → x ≡ y) (E .mark) hands u b b (λ l. refl) (λ j n. R .marks j);
+  }
