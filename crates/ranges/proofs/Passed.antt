@@ -1,4 +1,4 @@
--- What a test that passed tells of the value. Assumes nothing.
+-- What a test that passed tells of the value.
 use mathlib.Core.Path.{_≡_, sym, ap, _∙_}
 use mathlib.Core.Bool.{Bool, true, false, not, _&&_}
 use mathlib.Core.Logic.{_⊎_, inl, inr}
@@ -7,7 +7,8 @@ use native.Mathlib.Omega.{arith}
 use native.Mathlib.Decide.{decLt}
 use borrow.Author.Tests.{ltb-true, leb-true, eqb-true, not-true, not-false}
 use lib.Dec.{ltb, leb, eqb}
-use Rattle.words.specs.Anchor.{PARTIAL, isState, anchorOf}
+use Rattle.limits.specs.Limits.{REGION-UNITS, UNITS, MOST-BLOCKS}
+use Rattle.words.specs.Anchor.{PARTIAL, FULL, isState, anchorOf}
 use Rattle.classes.specs.Places.{regionOf, isFirst}
 use Rattle.stepped.specs.Ranges.{oneTo, isBlock, isTop, isAnchor, hasChain, hasFirst, hasRoom}
 use Rattle.stepped.proofs.Conjunction.{both}
@@ -55,31 +56,32 @@ passed-top regions c k m x y f e d h = passed-for (isTop regions c) f e d h
 -- ---- the tests
 
 -- a block's first unit lies in the area, with its link
-pub block-passed : (regions c u : ℕ) → isBlock regions c u ≡ true → u < 512 * regions
+pub block-passed : (regions c u : ℕ) → isBlock regions c u ≡ true → u < REGION-UNITS * regions
 block-passed regions c u e =
     omega (arith, ltb-true (regionOf u) regions (both (ltb (regionOf u) regions) (isFirst c u) e .0))
 
 -- a cache's top is a unit of the area, or 8,192
-pub top-passed : (regions c k u : ℕ) → isTop regions c k u ≡ true → (u ≡ 8192) ⊎ (u < 512 * regions)
+pub top-passed : (regions c k u : ℕ) → isTop regions c k u ≡ true → (u ≡ UNITS) ⊎ (u < REGION-UNITS * regions)
 top-passed regions c k u e = elim (decLt 0 k) [
   | yes h ↦ inr (block-passed regions c u (top-of-some regions c k u (λ z. omega arith) ∙ e))
-  | no h ↦ inl (eqb-true u 8192 (top-of-none regions c k u (omega arith) ∙ e))
+  | no h ↦ inl (eqb-true u UNITS (top-of-none regions c k u (omega arith) ∙ e))
 ]
 
 -- the parts of an anchor are as small as those of any class
 pub record Small (w : ℕ) : Type 0 where
-  pub state : anchorOf w .state ≤ 2
-  pub avail : anchorOf w .avail ≤ 512
-  pub count : anchorOf w .count ≤ 512
+  pub state : anchorOf w .state ≤ FULL
+  pub avail : anchorOf w .avail ≤ MOST-BLOCKS
+  pub count : anchorOf w .count ≤ MOST-BLOCKS
 
 pub anchor-passed : (w : ℕ) → isAnchor w ≡ true → Small w
 anchor-passed w e =
-    let p = both (isState (anchorOf w .state) && leb (anchorOf w .avail) 512) (leb (anchorOf w .count) 512) e in
-    let q = both (isState (anchorOf w .state)) (leb (anchorOf w .avail) 512) (p .0) in
+    let p = both (isState (anchorOf w .state) && leb (anchorOf w .avail) MOST-BLOCKS)
+    (leb (anchorOf w .count) MOST-BLOCKS) e in
+    let q = both (isState (anchorOf w .state)) (leb (anchorOf w .avail) MOST-BLOCKS) (p .0) in
     record {
-      state = leb-true (anchorOf w .state) 2 (q .0);
-      avail = leb-true (anchorOf w .avail) 512 (q .1);
-      count = leb-true (anchorOf w .count) 512 (p .1);
+      state = leb-true (anchorOf w .state) FULL (q .0);
+      avail = leb-true (anchorOf w .avail) MOST-BLOCKS (q .1);
+      count = leb-true (anchorOf w .count) MOST-BLOCKS (p .1);
     }
 
 -- a chain that can be taken

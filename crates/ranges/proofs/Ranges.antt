@@ -1,10 +1,11 @@
--- What each test is, from the comparisons that the code makes. Assumes nothing.
+-- What each test is, from the comparisons that the code makes.
 use mathlib.Core.Path.{_≡_, ap}
 use mathlib.Core.Bool.{true, false}
 use Prim.Native.Nat.{ℕ, _+_, _≤_, _<_}
 use borrow.Author.Tests.{lt-ltb, le-ltb, le-leb, lt-leb, eq-eqb, ne-eqb}
 use lib.Dec.{ltb, leb, eqb}
-use Rattle.words.specs.Anchor.{PARTIAL, anchorOf}
+use Rattle.limits.specs.Limits.{UNITS, MOST-BLOCKS}
+use Rattle.words.specs.Anchor.{PARTIAL, FULL, anchorOf}
 use Rattle.words.specs.declared.anchor.Anchor.{Anchor}
 use Rattle.classes.specs.Places.{regionOf, isFirst}
 use Rattle.stepped.specs.Ranges.{isBlock, isTop, isAnchor, hasChain, hasFirst, hasRoom}
@@ -17,7 +18,7 @@ module _ (regions c u : ℕ) where
   block-inside h = rw (lt-ltb _ _ h)
 
 module _ (regions c k u : ℕ) where
-  pub top-of-none : k ≡ 0 → eqb u 8192 ≡ isTop regions c k u
+  pub top-of-none : k ≡ 0 → eqb u UNITS ≡ isTop regions c k u
   top-of-none h = rw (eq-eqb _ _ h)
 
   pub top-of-some : (k ≡ 0 → ⊥) → isBlock regions c u ≡ isTop regions c k u
@@ -30,16 +31,21 @@ pub record Parts (a : Anchor) (w : ℕ) : Type 0 where
   pub count : a .count ≡ anchorOf w .count
 
 pub parts : {a : Anchor} {w : ℕ} → a ≡ anchorOf w → Parts a w
-parts e = record { state = ap (λ (x : Anchor). x .state) e; avail = ap (λ (x : Anchor). x .avail) e; count = ap (λ (x : Anchor). x .count) e }
+parts e = record {
+  state = ap (λ (x : Anchor). x .state) e;
+  avail = ap (λ (x : Anchor). x .avail) e;
+  count = ap (λ (x : Anchor). x .count) e;
+}
 
 module _ (w : ℕ) where
-  pub anchor-state : 2 < anchorOf w .state → false ≡ isAnchor w
+  pub anchor-state : FULL < anchorOf w .state → false ≡ isAnchor w
   anchor-state h = rw (lt-leb _ _ h)
 
-  pub anchor-avail : anchorOf w .state ≤ 2 → 512 < anchorOf w .avail → false ≡ isAnchor w
+  pub anchor-avail : anchorOf w .state ≤ FULL → MOST-BLOCKS < anchorOf w .avail → false ≡ isAnchor w
   anchor-avail s h = rw (le-leb _ _ s, lt-leb _ _ h)
 
-  pub anchor-count : anchorOf w .state ≤ 2 → anchorOf w .avail ≤ 512 → leb (anchorOf w .count) 512 ≡ isAnchor w
+  pub anchor-count : anchorOf w .state ≤ FULL → anchorOf w .avail ≤ MOST-BLOCKS
+      → leb (anchorOf w .count) MOST-BLOCKS ≡ isAnchor w
   anchor-count s h = rw (le-leb _ _ s, le-leb _ _ h)
 
 module _ (n w : ℕ) where

@@ -4,12 +4,13 @@ use words::anchor;
 use words::anchor::Anchor;
 ghost use mathlib.Core.Path.{_≡_};
 ghost use Prim.Native.Nat.{_<_};
+ghost use Rattle.limits.specs.Limits.{CLASSES};
 ghost use Rattle.stepped.specs.Ranges.{isBlock, isTop, isAnchor, hasChain, hasFirst, hasRoom};
 
 // Whether a unit is the first of a block of the class in an area of so many regions. Callers have the class of the
 // request: the steps that take a block from a cache or put one on it.
 pub fn is_block(regions: usize, class: usize, unit: usize) -> bool
-    requires { ⌜ class < 16 ⌝ }
+    requires { ⌜ class < CLASSES ⌝ }
     ensures { λ r. ⌜ r ≡ isBlock regions class unit ⌝ }
 {
     if regions <= place::region_of(unit) {
@@ -21,11 +22,11 @@ pub fn is_block(regions: usize, class: usize, unit: usize) -> bool
 // Whether a unit is the top of `count` cached blocks: 8,192 where there is none. Callers have the class of the request:
 // the steps that take a block from a cache or put one on it.
 pub fn is_top(regions: usize, class: usize, count: usize, unit: usize) -> bool
-    requires { ⌜ class < 16 ⌝ }
+    requires { ⌜ class < CLASSES ⌝ }
     ensures { λ r. ⌜ r ≡ isTop regions class count unit ⌝ }
 {
     if count == 0 {
-        return unit == 8192;
+        return unit == limits::UNITS;
     }
     is_block(regions, class, unit)
 }
@@ -38,10 +39,12 @@ pub fn is_anchor(word: u64) -> bool
     if anchor::FULL < anchor.state {
         return false;
     }
-    if 512 < anchor.avail {
+    let avail = anchor.avail as usize;
+    let count = anchor.count as usize;
+    if limits::MOST_BLOCKS < avail {
         return false;
     }
-    anchor.count <= 512
+    count <= limits::MOST_BLOCKS
 }
 
 // Whether a chain can be taken from a region of `n` blocks with this anchor.

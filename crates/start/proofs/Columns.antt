@@ -1,12 +1,12 @@
--- The image of a start, column by column. Assumes nothing.
+-- The image of a start, column by column.
 use mathlib.Core.Path.{_≡_, refl, sym, ap, _∙_}
 use mathlib.Core.List.{List, [], _∷_, _++_}
-use Prim.Native.Nat.{ℕ, suc, _+_, _-_, _≤_, _<_}
+use Prim.Native.Nat.{ℕ, suc, _+_, _-_, _*_, _≤_, _<_}
 use native.Mathlib.Omega.{arith}
 use lib.ListN.{length, drop, replicate, drop-of-length-le}
+use Rattle.limits.specs.Limits.{CONTROL-BYTES, UNITS, TASKS, CLASSES, DESCRIPTORS, SPARE-DESCRIPTORS, SPARE-REGIONS}
 use Rattle.fields.specs.Columns.{Field, Write, _:=_}
 use Rattle.fields.proofs.Layouts.{length-written}
-use Rattle.plain.specs.State.{SPARES, REGIONS}
 use Rattle.control.specs.Layout.{layout, changed, Head, Tasks, Regions, DescriptorNext, RegionNext, Top}
 use Rattle.stepped.specs.Start.{fill, nextUp, startWrites, startImage}
 use Rattle.start.specs.Filled.{filled}
@@ -29,14 +29,14 @@ changed-append (f := x ∷ ws) us b = changed-append ws us (changed (f := x ∷ 
 -- the fields from i on have their values: what is left to write makes of `now` what the whole makes of `before`
 pub record Filling (f : ℕ → Field) (x : ℕ → ℕ) (n : ℕ) (before : List ℕ) (i : ℕ) (now : List ℕ) : Type 0 where
   pub upTo : i ≤ n
-  pub length : lib.ListN.length now ≡ 8192
+  pub length : lib.ListN.length now ≡ CONTROL-BYTES
   pub rest : filled f x i now ≡ filled f x n before
 
 one-less : (i : ℕ) → 0 < i → i ≡ suc (i - 1)
 one-less i l = omega arith
 
 module _ {f : ℕ → Field} {x : ℕ → ℕ} {n : ℕ} {before : List ℕ} where
-  pub filling-begins : length before ≡ 8192 → Filling f x n before n before
+  pub filling-begins : length before ≡ CONTROL-BYTES → Filling f x n before n before
   filling-begins h = record { upTo = omega arith; length = h; rest = refl }
 
   pub filling-goes : {i y : ℕ} {now after : List ℕ} → Filling f x n before i now → 0 < i → y ≡ x (i - 1)
@@ -66,23 +66,24 @@ pub with-value : (f : Field) {w : ℕ} (x : ℕ) (b : List ℕ) {after : List �
 with-value f x b e h = h ∙ ap (λ (y : ℕ). changed (f := y ∷ []) b) e
 
 -- the writes of a start one after the other, beginning with zeros
-pub image-is : (tasks regions n : ℕ) {b₀ b₁ b₂ b₃ b₄ b₅ b₆ b₇ : List ℕ} → n ≡ 8192 → b₀ ≡ replicate n 0
+pub image-is : (tasks regions n : ℕ) {b₀ b₁ b₂ b₃ b₄ b₅ b₆ b₇ : List ℕ} → n ≡ CONTROL-BYTES → b₀ ≡ replicate n 0
     → b₁ ≡ changed (Tasks := tasks ∷ []) b₀
     → b₂ ≡ changed (Regions := regions ∷ []) b₁
-    → b₃ ≡ changed (Head SPARES := 1 ∷ []) b₂
-    → b₄ ≡ changed (Head REGIONS := 1 ∷ []) b₃
-    → b₅ ≡ filled DescriptorNext (nextUp 64) 64 b₄
+    → b₃ ≡ changed (Head SPARE-DESCRIPTORS := 1 ∷ []) b₂
+    → b₄ ≡ changed (Head SPARE-REGIONS := 1 ∷ []) b₃
+    → b₅ ≡ filled DescriptorNext (nextUp DESCRIPTORS) DESCRIPTORS b₄
     → b₆ ≡ filled RegionNext (nextUp regions) regions b₅
-    → b₇ ≡ filled Top (λ i. 8192) 128 b₆ → b₇ ≡ startImage tasks regions
+    → b₇ ≡ filled Top (λ i. UNITS) (TASKS * CLASSES) b₆ → b₇ ≡ startImage tasks regions
 unfolding startImage startWrites filled
 image-is tasks regions n e h₀ h₁ h₂ h₃ h₄ h₅ h₆ h₇ =
-    let ds = fill DescriptorNext (nextUp 64) 64 in
+    let ds = fill DescriptorNext (nextUp DESCRIPTORS) DESCRIPTORS in
     let rs = fill RegionNext (nextUp regions) regions in
-    let ts = fill Top (λ i. 8192) 128 in
-    let zeros : List ℕ = replicate 8192 0 in
-    let heads = Tasks := tasks ∷ Regions := regions ∷ Head SPARES := 1 ∷ Head REGIONS := 1 ∷ [] in
+    let ts = fill Top (λ i. UNITS) (TASKS * CLASSES) in
+    let zeros : List ℕ = replicate CONTROL-BYTES 0 in
+    let heads = Tasks := tasks ∷ Regions := regions ∷ Head SPARE-DESCRIPTORS := 1 ∷ Head SPARE-REGIONS := 1 ∷ [] in
     h₇
     ∙ ap (changed ts) (h₆ ∙ ap (changed rs) (h₅ ∙ ap (changed ds)
-    (h₄ ∙ ap (changed (Head REGIONS := 1 ∷ [])) (h₃ ∙ ap (changed (Head SPARES := 1 ∷ []))
-    (h₂ ∙ ap (changed (Regions := regions ∷ [])) (h₁ ∙ ap (changed (Tasks := tasks ∷ [])) (h₀ ∙ ap (λ (k : ℕ). replicate k 0) e)))))))
+    (h₄ ∙ ap (changed (Head SPARE-REGIONS := 1 ∷ [])) (h₃ ∙ ap (changed (Head SPARE-DESCRIPTORS := 1 ∷ []))
+    (h₂ ∙ ap (changed (Regions := regions ∷ [])) (h₁
+    ∙ ap (changed (Tasks := tasks ∷ [])) (h₀ ∙ ap (λ (k : ℕ). replicate k 0) e)))))))
     ∙ sym (changed-append ds (rs ++ ts) (changed heads zeros) ∙ changed-append rs ts (changed ds (changed heads zeros)))

@@ -4,11 +4,19 @@ use control::lists;
 use control::started;
 use words::head::Head;
 ghost use mathlib.Core.Path.{_≡_};
-ghost use Prim.Native.Nat.{_<_, _≤_};
+ghost use Prim.Native.Nat.{_*_, _<_, _≤_};
 ghost use lib.ListN.{length, replicate};
+ghost use Rattle.limits.specs.Limits.{UNITS, TASKS, REGIONS, CLASSES, DESCRIPTORS};
 ghost use Rattle.control.specs.Layout.{Control, DescriptorNext, RegionNext, Top};
 ghost use Rattle.stepped.specs.Start.{nextUp, startImage};
 ghost use Rattle.start.specs.Filled.{filled};
+
+// How many descriptors are spare at first, all of them; how many caches there are; the top of a cache without blocks.
+const SPARES: u8 = limits::DESCRIPTORS as u8;
+
+const CACHES: usize = limits::TASKS * limits::CLASSES;
+
+const BOTTOM: u16 = limits::UNITS as u16;
 
 // Every byte is zero.
 fn clear(control: &mut [u8])
@@ -23,27 +31,28 @@ fn clear(control: &mut [u8])
 
 // Of n items, rising from item 0 on top, the next of item i as a number plus one: none for the last.
 fn next_up(n: u8, i: u8) -> u8
-    requires { ⌜ (i < n) × (n ≤ 64) ⌝ }
+    requires { ⌜ (i < n) × (n ≤ DESCRIPTORS) ⌝ }
     ensures { λ r. ⌜ r ≡ nextUp n i ⌝ }
 {
     if i + 1 == n { 0 } else { i + 2 }
 }
 
-// The list of spare descriptors, all 64.
+// The list of spare descriptors, all that there are.
 fn chain_descriptors(control: &mut [u8])
     requires { ⌜ Control (now control) ⌝ }
-    ensures { λ r. ⌜ now (control .exit) ≡ filled DescriptorNext (nextUp 64) 64 (now (control .entry)) ⌝ }
+    ensures { λ r. ⌜ now (control .exit) ≡ filled DescriptorNext (nextUp DESCRIPTORS) DESCRIPTORS
+        (now (control .entry)) ⌝ }
 {
-    let mut i: u8 = 64;
+    let mut i: u8 = SPARES;
     while 0 < i {
         i -= 1;
-        lists::set_descriptor_next(control, i as usize, next_up(64, i));
+        lists::set_descriptor_next(control, i as usize, next_up(SPARES, i));
     }
 }
 
 // The list of spare regions, all that the area has.
 fn chain_regions(control: &mut [u8], regions: u8)
-    requires { ⌜ Control (now control) × (regions ≤ 16) ⌝ }
+    requires { ⌜ Control (now control) × (regions ≤ REGIONS) ⌝ }
     ensures { λ r. ⌜ now (control .exit) ≡ filled RegionNext (nextUp regions) regions (now (control .entry)) ⌝ }
 {
     let mut i: u8 = regions;
@@ -53,21 +62,21 @@ fn chain_regions(control: &mut [u8], regions: u8)
     }
 }
 
-// The top of each of the 128 caches: no block.
+// The top of each of the caches: no block.
 fn empty_caches(control: &mut [u8])
     requires { ⌜ Control (now control) ⌝ }
-    ensures { λ r. ⌜ now (control .exit) ≡ filled Top (λ i. 8192) 128 (now (control .entry)) ⌝ }
+    ensures { λ r. ⌜ now (control .exit) ≡ filled Top (λ i. UNITS) (TASKS * CLASSES) (now (control .entry)) ⌝ }
 {
-    let mut i: usize = 128;
+    let mut i: usize = CACHES;
     while 0 < i {
         i -= 1;
-        caches::set_top(control, i, 8192);
+        caches::set_top(control, i, BOTTOM);
     }
 }
 
 // The control memory of a pool that has just been started.
 pub fn image(control: &mut [u8], tasks: u8, regions: u8)
-    requires { ⌜ Control (now control) × (regions ≤ 16) ⌝ }
+    requires { ⌜ Control (now control) × (regions ≤ REGIONS) ⌝ }
     ensures { λ r. ⌜ now (control .exit) ≡ startImage tasks regions ⌝ }
 {
     clear(control);
@@ -75,8 +84,8 @@ pub fn image(control: &mut [u8], tasks: u8, regions: u8)
     started::set_regions(control, regions);
     let first = Head { item: 1, tag: 0 };
     let word = first.word();
-    lists::set_head(control, 16, word);
-    lists::set_head(control, 17, word);
+    lists::set_head(control, limits::SPARE_DESCRIPTORS, word);
+    lists::set_head(control, limits::SPARE_REGIONS, word);
     chain_descriptors(control);
     chain_regions(control, regions);
     empty_caches(control);

@@ -35,4 +35,5 @@ returns-4 c =
 
 pub has-chain-spec : {M : Type 1} → statement M
 has-chain-spec =
-    tie.close (tie.spec (λ c κs. search needs) (λ c. search needs) (λ c. search needs) returns returns-2 returns-3 returns-4)
+    tie.close (tie.spec (λ c κs. search needs) (λ c. search needs) (λ c. search needs) returns returns-2 returns-3
+    returns-4)

@@ -12,8 +12,9 @@ returns c =
 
 returns-2 : tie.Need-returns-2
 returns-2 c =
-    let e = parts (c .before .before .before .before .of .ensures) in
-    anchor-avail (c .before .before .before .before .before .args .word) (omega (arith, e)) (omega (arith, e))
+    let p = c .before .before .before .before .before in
+    let e = parts (p .of .ensures) in
+    anchor-avail (p .before .args .word) (omega (arith, e)) (omega (arith, e))
 
 returns-3 : tie.Need-returns-3
 returns-3 c =
@@ -22,4 +23,4 @@ returns-3 c =
     rw (← anchor-count (p .before .args .word) (omega (arith, e)) (omega (arith, e)), e .count)
 
 pub is-anchor-spec : {M : Type 1} → statement M
-is-anchor-spec = tie.close (tie.spec (λ c κs. search needs) returns returns-2 returns-3)
+is-anchor-spec = tie.close (tie.spec (λ c κs. search needs) returns (λ c. search needs) (λ c. search needs) returns-2 returns-3)

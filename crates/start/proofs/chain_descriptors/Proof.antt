@@ -1,8 +1,8 @@
 -- The spare descriptors are chained from the last down.
--- Assumes nothing.
 use Prim.Native.Nat.{_-_}
 use native.Mathlib.Omega.{arith}
 use borrow.Author.Needs.{needs}
+use Rattle.limits.specs.Limits.{DESCRIPTORS}
 use Rattle.control.specs.Layout.{DescriptorNext}
 use Rattle.stepped.specs.Start.{nextUp}
 use Rattle.start.proofs.Columns.{Filling, filling-begins, filling-goes, filling-ends}
@@ -10,7 +10,7 @@ use Rattle.start.proofs.chain_descriptors.Statement.{statement}
 use Rattle.start.proofs.chain_descriptors.Tie as tie
 
 abbrev Inv-loop : tie.InvT-loop
-Inv-loop control₀ i₀ control i = Filling DescriptorNext (nextUp 64) 64 control₀ i control
+Inv-loop control₀ i₀ control i = Filling DescriptorNext (nextUp DESCRIPTORS) DESCRIPTORS control₀ i control
 
 abbrev μ-loop : tie.MeasureT-loop
 μ-loop control₀ i₀ control i = i
@@ -19,7 +19,8 @@ loop-again : tie.Need-loop-again Inv-loop μ-loop
 loop-again c =
     let turn = c .before .before in
     let at-loop = turn .before .before .before .before in
-    filling-goes (at-loop .loop .inv) (omega arith) (turn .before .next-up .ensures) (turn .set-descriptor-next .ensures)
+    filling-goes (at-loop .loop .inv) (omega arith) (turn .before .next-up .ensures)
+    (turn .set-descriptor-next .ensures)
 
 pub chain-descriptors-spec : {M : Type 1} → statement M
 chain-descriptors-spec =

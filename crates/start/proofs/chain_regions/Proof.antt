@@ -1,5 +1,4 @@
 -- The spare regions are chained from the last down.
--- Assumes nothing.
 use Prim.Native.Nat.{_-_}
 use native.Mathlib.Omega.{arith}
 use borrow.Author.Needs.{needs}

@@ -1,5 +1,4 @@
 -- `clear` fills from the front. The first i bytes are 0, the others are as they were, and so is the length.
--- Assumes nothing.
 use mathlib.Core.Path.{_≡_, refl, ap, subst, _∙_}
 use mathlib.Core.List.{List, _++_}
 use Prim.Native.Nat.{ℕ, _-_, _≤_, zero-le}
@@ -12,7 +11,8 @@ use Rattle.start.proofs.clear.Statement.{statement}
 use Rattle.start.proofs.clear.Tie as tie
 
 abbrev Inv-loop : tie.InvT-loop
-Inv-loop control₀ i₀ control i = (i ≤ length control₀) × (control ≡ replicate i 0 ++ drop i control₀) × (length control ≡ length control₀)
+Inv-loop control₀ i₀ control i =
+    (i ≤ length control₀) × (control ≡ replicate i 0 ++ drop i control₀) × (length control ≡ length control₀)
 
 abbrev μ-loop : tie.MeasureT-loop
 μ-loop control₀ i₀ control i = length control₀ - i
@@ -36,7 +36,8 @@ returns c =
     let at-loop = c .before in
     let b = at-loop .before .args .control .now in
     subst (λ (n : ℕ). at-loop .loop .control ≡ replicate n 0 ++ drop n b)
-    (le-antisymm (at-loop .loop .inv .0) (omega (arith, at-loop .loop .inv .2, c .loop-test .left))) (at-loop .loop .inv .1)
+    (le-antisymm (at-loop .loop .inv .0) (omega (arith, at-loop .loop .inv .2, c .loop-test .left)))
+    (at-loop .loop .inv .1)
     ∙ filled-all (length b) 0 b (omega arith)
 
 pub clear-spec : {M : Type 1} → statement M

@@ -1,16 +1,16 @@
 -- The caches are emptied from the last down.
--- Assumes nothing.
 use mathlib.Core.Path.{refl}
-use Prim.Native.Nat.{_-_}
+use Prim.Native.Nat.{_-_, _*_}
 use native.Mathlib.Omega.{arith}
 use borrow.Author.Needs.{needs}
+use Rattle.limits.specs.Limits.{UNITS, TASKS, CLASSES}
 use Rattle.control.specs.Layout.{Top}
 use Rattle.start.proofs.Columns.{Filling, filling-begins, filling-goes, filling-ends}
 use Rattle.start.proofs.empty_caches.Statement.{statement}
 use Rattle.start.proofs.empty_caches.Tie as tie
 
 abbrev Inv-loop : tie.InvT-loop
-Inv-loop control₀ i₀ control i = Filling Top (λ i. 8192) 128 control₀ i control
+Inv-loop control₀ i₀ control i = Filling Top (λ i. UNITS) (TASKS * CLASSES) control₀ i control
 
 abbrev μ-loop : tie.MeasureT-loop
 μ-loop control₀ i₀ control i = i
@@ -19,7 +19,7 @@ loop-again : tie.Need-loop-again Inv-loop μ-loop
 loop-again c =
     let turn = c .before .before in
     let at-loop = turn .before .before .before in
-    filling-goes {y = 8192} (at-loop .loop .inv) (omega arith) refl (turn .set-top .ensures)
+    filling-goes {y = UNITS} (at-loop .loop .inv) (omega arith) refl (turn .set-top .ensures)
 
 pub empty-caches-spec : {M : Type 1} → statement M
 empty-caches-spec =

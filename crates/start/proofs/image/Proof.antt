@@ -1,7 +1,6 @@
 -- The calls of `image` make the writes of a start, one after the other.
--- Assumes nothing.
 use borrow.Author.Needs.{needs}
-use Rattle.plain.specs.State.{SPARES, REGIONS}
+use Rattle.limits.specs.Limits.{SPARE-DESCRIPTORS, SPARE-REGIONS}
 use Rattle.control.specs.Layout.{Head}
 use Rattle.start.proofs.Columns.{with-value, image-is}
 use Rattle.start.proofs.image.Statement.{statement}
@@ -18,8 +17,10 @@ returns c =
     let started = started2 .before .before .before .before in
     let zeros = started .before .before .before .before in
     let first = head .before .before .word .ensures in
-    image-is _ _ _ (zeros .before .before .before .pre .0) (zeros .clear .ensures) (started .set-tasks .ensures) (started2 .set-regions .ensures)
-    (with-value (Head SPARES) 1 _ first (head .set-head .ensures)) (with-value (Head REGIONS) 1 _ first (head2 .set-head2 .ensures))
+    image-is _ _ _ (zeros .before .before .before .pre .0) (zeros .clear .ensures) (started .set-tasks .ensures)
+    (started2 .set-regions .ensures)
+    (with-value (Head SPARE-DESCRIPTORS) 1 _ first (head .set-head .ensures))
+    (with-value (Head SPARE-REGIONS) 1 _ first (head2 .set-head2 .ensures))
     (descriptors .chain-descriptors .ensures) (regions .chain-regions .ensures) (caches .empty-caches .ensures)
 
 pub image-spec : {M : Type 1} → statement M

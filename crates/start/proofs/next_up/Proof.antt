@@ -1,4 +1,4 @@
--- `next_up` is the definition, by its test. Assumes nothing.
+-- `next_up` is the definition, by its test.
 use Prim.Native.Nat.{_+_}
 use borrow.Author.Needs.{needs}
 use borrow.Author.Tests.{eq-eqb, ne-eqb}
