@@ -1,4 +1,4 @@
--- The beginning of a free, one law for each way out. Assumes nothing.
+-- The beginning of a free, one law for each way out.
 use mathlib.Core.Path.{_≡_, refl, sym, ap, subst, _∙_}
 use mathlib.Core.Logic.{_≢_}
 use mathlib.Core.Bool.{Bool, true, false, cond}
@@ -6,13 +6,16 @@ use mathlib.Core.List.{List, [], _∷_}
 use Prim.Native.Nat.{ℕ, _-_, _/_, _%_, _≤_, _<_}
 use native.Mathlib.Omega.{arith}
 use borrow.Author.Tests.{eq-eqb, ne-eqb, lt-ltb, le-ltb, le-leb, lt-leb}
+use Rattle.limits.specs.Limits.{CLASSES, DESCRIPTORS}
 use Rattle.fields.specs.Columns.{View, _:=_}
 use Rattle.words.specs.Anchor.{EMPTY, anchorOf}
 use Rattle.words.specs.Mark.{isSet, withClear}
 use Rattle.classes.specs.Places.{regionOf, isFirst}
 use Rattle.plain.specs.Moves.{nothing}
-use Rattle.control.specs.Layout.{changed, Anchor, Marks, TaskUnit, TaskPlace, TaskClass, DescriptorRegion, DescriptorClass, Map}
+use Rattle.control.specs.Layout.{changed, Anchor, Marks, TaskUnit, TaskPlace, TaskClass, DescriptorRegion}
+use Rattle.control.specs.Layout.{DescriptorClass, Map}
 use Rattle.control.specs.declared.answer.Answer.the-variants.{Accepted}
+use Rattle.control.specs.Places.{IDLE, F1}
 use Rattle.stepped.specs.Outcome.{Outcome, refuse, bad, accept}
 use Rattle.stepped.specs.Ranges.{isAnchor}
 use Rattle.stepped.specs.Calls.{whenIdle, beginFree, freeEntry, freeBy, freeOpen, freeMarked}
@@ -23,7 +26,7 @@ use Rattle.begins.proofs.Beginning.{idle-is}
 module _ (v : View) (t u c : ℕ) where
   -- the request begins, and the unit's word of marks becomes x
   abbrev begun : ℕ → Outcome
-  begun x = accept nothing (TaskPlace t := 28 ∷ TaskClass t := c ∷ TaskUnit t := u ∷ Marks (u / 64) := x ∷ []) []
+  begun x = accept nothing (TaskPlace t := F1 ∷ TaskClass t := c ∷ TaskUnit t := u ∷ Marks (u / 64) := x ∷ []) []
 
   pub mark-clear : (w : ℕ) → w ≡ v (Marks (u / 64)) → isSet w (u % 64) ≡ false → freeMarked v t u c ≡ refuse 11
   unfolding freeMarked
@@ -33,48 +36,58 @@ module _ (v : View) (t u c : ℕ) where
       → freeMarked v t u c ≡ begun cleared
   unfolding freeMarked
   mark-set w cleared e h k =
-      ap (λ (b : Bool). cond b (begun (withClear (v (Marks (u / 64))) (u % 64))) (refuse 11)) (subst (λ (x : ℕ). isSet x (u % 64) ≡ true) e h)
+      ap (λ (b : Bool). cond b (begun (withClear (v (Marks (u / 64))) (u % 64))) (refuse 11))
+      (subst (λ (x : ℕ). isSet x (u % 64) ≡ true) e h)
       ∙ ap begun (sym (k ∙ ap (λ (x : ℕ). withClear x (u % 64)) e))
 
   -- the four stores of an accepted beginning
   pub stored : (w cleared : ℕ) → w ≡ v (Marks (u / 64)) → isSet w (u % 64) ≡ true → cleared ≡ withClear w (u % 64)
-      → (before : List ℕ) {b₁ b₂ b₃ b₄ : List ℕ} → b₁ ≡ changed (TaskPlace t := 28 ∷ []) before
+      → (before : List ℕ) {b₁ b₂ b₃ b₄ : List ℕ} → b₁ ≡ changed (TaskPlace t := F1 ∷ []) before
       → b₂ ≡ changed (TaskClass t := c ∷ []) b₁
       → b₃ ≡ changed (TaskUnit t := u ∷ []) b₂
       → b₄ ≡ changed (Marks (u / 64) := cleared ∷ []) b₃ → Done (freeMarked v t u c) before b₄ Accepted
   stored w cleared e h k before h₁ h₂ h₃ h₄ =
       done (mark-set w cleared e h k) refl
-      (h₄ ∙ ap (changed (Marks (u / 64) := cleared ∷ [])) (h₃ ∙ ap (changed (TaskUnit t := u ∷ [])) (h₂ ∙ ap (changed (TaskClass t := c ∷ [])) h₁)))
+      (h₄ ∙ ap (changed (Marks (u / 64) := cleared ∷ []))
+      (h₃ ∙ ap (changed (TaskUnit t := u ∷ [])) (h₂ ∙ ap (changed (TaskClass t := c ∷ [])) h₁)))
       refl
 
 module _ (v : View) (t u d : ℕ) where
-  pub no-class : 15 < v (DescriptorClass d) → freeOpen v t u d ≡ bad
+  pub no-class : CLASSES ≤ v (DescriptorClass d) → freeOpen v t u d ≡ bad
   unfolding freeOpen
-  no-class h = rw (le-ltb (v (DescriptorClass d)) 16 (omega arith))
+  no-class h = rw (le-ltb (v (DescriptorClass d)) CLASSES h)
 
-  pub no-first : (c : ℕ) → c ≡ v (DescriptorClass d) → c ≤ 15 → isFirst c u ≡ false → freeOpen v t u d ≡ refuse 10
+  pub no-first : (c : ℕ) → c ≡ v (DescriptorClass d) → c < CLASSES → isFirst c u ≡ false → freeOpen v t u d ≡ refuse 10
   unfolding freeOpen
-  no-first c e h k = rw (← e, lt-ltb c 16 (omega arith), k)
+  no-first c e h k = rw (← e, lt-ltb c CLASSES h, k)
 
-  pub is-first : (c : ℕ) → c ≡ v (DescriptorClass d) → c ≤ 15 → isFirst c u ≡ true → freeOpen v t u d ≡ freeMarked v t u c
+  pub is-first : (c : ℕ) → c ≡ v (DescriptorClass d) → c < CLASSES → isFirst c u ≡ true
+      → freeOpen v t u d ≡ freeMarked v t u c
   unfolding freeOpen
-  is-first c e h k = rw (← e, lt-ltb c 16 (omega arith), k)
+  is-first c e h k = rw (← e, lt-ltb c CLASSES h, k)
 
 module _ (v : View) (regions t u d : ℕ) where
   pub outside : regions ≤ v (DescriptorRegion d) → freeBy v regions t u d ≡ bad
   unfolding freeBy
   outside h = rw (le-ltb (v (DescriptorRegion d)) regions h)
 
-  pub other-region : v (DescriptorRegion d) < regions → v (DescriptorRegion d) ≢ regionOf u → freeBy v regions t u d ≡ refuse 10
+  pub other-region : v (DescriptorRegion d) < regions → v (DescriptorRegion d) ≢ regionOf u
+      → freeBy v regions t u d ≡ refuse 10
   unfolding freeBy
   other-region h e = rw (lt-ltb (v (DescriptorRegion d)) regions h, ne-eqb (v (DescriptorRegion d)) (regionOf u) e)
 
   module _ (h : v (DescriptorRegion d) < regions) (e : v (DescriptorRegion d) ≡ regionOf u) where
     pub no-anchor : (w : ℕ) → w ≡ v (Anchor d) → isAnchor w ≡ false → freeBy v regions t u d ≡ bad
     unfolding freeBy
-    no-anchor w i a = rw (lt-ltb (v (DescriptorRegion d)) regions h, eq-eqb (v (DescriptorRegion d)) (regionOf u) e, subst (λ (x : ℕ). isAnchor x ≡ false) i a)
+    no-anchor w i a =
+        rw (
+          lt-ltb (v (DescriptorRegion d)) regions h,
+          eq-eqb (v (DescriptorRegion d)) (regionOf u) e,
+          subst (λ (x : ℕ). isAnchor x ≡ false) i a,
+        )
 
-    pub is-empty : (w : ℕ) → w ≡ v (Anchor d) → isAnchor w ≡ true → anchorOf w .state ≡ EMPTY → freeBy v regions t u d ≡ refuse 10
+    pub is-empty : (w : ℕ) → w ≡ v (Anchor d) → isAnchor w ≡ true → anchorOf w .state ≡ EMPTY
+        → freeBy v regions t u d ≡ refuse 10
     unfolding freeBy
     is-empty w i a s =
         rw (
@@ -84,7 +97,8 @@ module _ (v : View) (regions t u d : ℕ) where
           eq-eqb (anchorOf (v (Anchor d)) .state) EMPTY (subst (λ (x : ℕ). anchorOf x .state ≡ EMPTY) i s),
         )
 
-    pub is-open : (w : ℕ) → w ≡ v (Anchor d) → isAnchor w ≡ true → anchorOf w .state ≢ EMPTY → freeBy v regions t u d ≡ freeOpen v t u d
+    pub is-open : (w : ℕ) → w ≡ v (Anchor d) → isAnchor w ≡ true → anchorOf w .state ≢ EMPTY
+        → freeBy v regions t u d ≡ freeOpen v t u d
     unfolding freeBy
     is-open w i a s =
         rw (
@@ -99,15 +113,15 @@ module _ (v : View) (regions t u entry : ℕ) where
   unfolding freeEntry
   no-entry e = rw (eq-eqb entry 0 e)
 
-  pub bad-entry : 64 < entry → freeEntry v regions t u entry ≡ bad
+  pub bad-entry : DESCRIPTORS < entry → freeEntry v regions t u entry ≡ bad
   unfolding freeEntry
-  bad-entry h = rw (ne-eqb entry 0 (λ e. omega arith), lt-leb entry 64 h)
+  bad-entry h = rw (ne-eqb entry 0 (λ e. omega arith), lt-leb entry DESCRIPTORS h)
 
-  pub by-entry : entry ≢ 0 → entry ≤ 64 → freeEntry v regions t u entry ≡ freeBy v regions t u (entry - 1)
+  pub by-entry : entry ≢ 0 → entry ≤ DESCRIPTORS → freeEntry v regions t u entry ≡ freeBy v regions t u (entry - 1)
   unfolding freeEntry
-  by-entry e h = rw (ne-eqb entry 0 e, le-leb entry 64 h)
+  by-entry e h = rw (ne-eqb entry 0 e, le-leb entry DESCRIPTORS h)
 
-module _ (v : View) (regions t u : ℕ) (idle : v (TaskPlace t) ≡ 0) where
+module _ (v : View) (regions t u : ℕ) (idle : v (TaskPlace t) ≡ IDLE) where
   pub no-unit : regions ≤ regionOf u → whenIdle v t (beginFree v regions t u) ≡ refuse 10
   unfolding beginFree
   no-unit h = idle-is v t _ idle ∙ rw (le-ltb (regionOf u) regions h)
@@ -115,4 +129,5 @@ module _ (v : View) (regions t u : ℕ) (idle : v (TaskPlace t) ≡ 0) where
   pub in-area : (r entry : ℕ) → r ≡ regionOf u → r < regions → entry ≡ v (Map r)
       → whenIdle v t (beginFree v regions t u) ≡ freeEntry v regions t u entry
   unfolding beginFree
-  in-area r entry e h k = idle-is v t _ idle ∙ rw (lt-ltb (regionOf u) regions (omega arith), k ∙ ap (λ (x : ℕ). v (Map x)) e)
+  in-area r entry e h k =
+      idle-is v t _ idle ∙ rw (lt-ltb (regionOf u) regions (omega arith), k ∙ ap (λ (x : ℕ). v (Map x)) e)

@@ -1,4 +1,4 @@
--- What the tests of a call tell. Assumes nothing.
+-- What the tests of a call tell.
 use mathlib.Core.Path.{_≡_}
 use mathlib.Core.Bool.{cond}
 use Prim.Native.Nat.{ℕ}

@@ -2,18 +2,21 @@
 // descriptor's region and anchor, its class, the mark.
 use classes::place;
 use control::answer::Answer;
+use control::places;
 use words::anchor;
 use words::anchor::Anchor;
 use words::mark;
 ghost use Prim.Native.Nat.{_<_, _≤_};
+ghost use Rattle.limits.specs.Limits.{UNITS, TASKS, REGIONS, DESCRIPTORS};
 ghost use Rattle.control.specs.Layout.{Control, seen};
 ghost use Rattle.stepped.specs.Calls.{whenIdle, beginFree, freeEntry, freeBy, freeOpen, freeMarked};
 ghost use Rattle.stepped.specs.Done.{Done};
 
 // 11 where the unit's mark is clear; else it is cleared, and the request begins. Caller: `open`.
 fn marked(control: &mut [u8], task: usize, unit: usize, class: u8) -> Answer
-    requires { ⌜ Control (now control) × (task < 8) × (unit < 8192) ⌝ }
-    ensures { λ r. ⌜ Done (freeMarked (seen (now (control .entry))) task unit class) (now (control .entry)) (now (control .exit)) r ⌝ }
+    requires { ⌜ Control (now control) × (task < TASKS) × (unit < UNITS) ⌝ }
+    ensures { λ r. ⌜ Done (freeMarked (seen (now (control .entry))) task unit class)
+        (now (control .entry)) (now (control .exit)) r ⌝ }
 {
     let bit = (unit % 64) as u32;
     let word = control::regions::marks(control, unit / 64);
@@ -21,7 +24,7 @@ fn marked(control: &mut [u8], task: usize, unit: usize, class: u8) -> Answer
         return Answer::Refused(11);
     }
     let cleared = mark::clear(word, bit);
-    control::tasks::set_task_place(control, task, 28);
+    control::tasks::set_task_place(control, task, places::F1);
     control::tasks::set_task_class(control, task, class);
     control::notes::set_task_unit(control, task, unit as u16);
     control::regions::set_marks(control, unit / 64, cleared);
@@ -30,11 +33,12 @@ fn marked(control: &mut [u8], task: usize, unit: usize, class: u8) -> Answer
 
 // 10 where the unit is not the first of a block of the descriptor's class. Caller: `by`.
 fn open(control: &mut [u8], task: usize, unit: usize, descriptor: usize) -> Answer
-    requires { ⌜ Control (now control) × (task < 8) × (unit < 8192) × (descriptor < 64) ⌝ }
-    ensures { λ r. ⌜ Done (freeOpen (seen (now (control .entry))) task unit descriptor) (now (control .entry)) (now (control .exit)) r ⌝ }
+    requires { ⌜ Control (now control) × (task < TASKS) × (unit < UNITS) × (descriptor < DESCRIPTORS) ⌝ }
+    ensures { λ r. ⌜ Done (freeOpen (seen (now (control .entry))) task unit descriptor)
+        (now (control .entry)) (now (control .exit)) r ⌝ }
 {
     let class = control::regions::descriptor_class(control, descriptor);
-    if 15 < class {
+    if limits::CLASSES <= (class as usize) {
         return Answer::Refused(14);
     }
     if !place::is_first(class as usize, unit) {
@@ -45,8 +49,9 @@ fn open(control: &mut [u8], task: usize, unit: usize, descriptor: usize) -> Answ
 
 // 10 where the descriptor does not name the unit's region back, or its anchor is EMPTY. Caller: `entry`.
 fn by(control: &mut [u8], regions: usize, task: usize, unit: usize, descriptor: usize) -> Answer
-    requires { ⌜ Control (now control) × (task < 8) × (unit < 8192) × (descriptor < 64) ⌝ }
-    ensures { λ r. ⌜ Done (freeBy (seen (now (control .entry))) regions task unit descriptor) (now (control .entry)) (now (control .exit)) r ⌝ }
+    requires { ⌜ Control (now control) × (task < TASKS) × (unit < UNITS) × (descriptor < DESCRIPTORS) ⌝ }
+    ensures { λ r. ⌜ Done (freeBy (seen (now (control .entry))) regions task unit descriptor)
+        (now (control .entry)) (now (control .exit)) r ⌝ }
 {
     let region = control::regions::descriptor_region(control, descriptor) as usize;
     if regions <= region {
@@ -68,32 +73,35 @@ fn by(control: &mut [u8], regions: usize, task: usize, unit: usize, descriptor: 
 
 // 10 where the map has no entry for the unit's region. Caller: `begin`.
 fn entry(control: &mut [u8], regions: usize, task: usize, unit: usize, entry: u8) -> Answer
-    requires { ⌜ Control (now control) × (task < 8) × (unit < 8192) ⌝ }
-    ensures { λ r. ⌜ Done (freeEntry (seen (now (control .entry))) regions task unit entry) (now (control .entry)) (now (control .exit)) r ⌝ }
+    requires { ⌜ Control (now control) × (task < TASKS) × (unit < UNITS) ⌝ }
+    ensures { λ r. ⌜ Done (freeEntry (seen (now (control .entry))) regions task unit entry)
+        (now (control .entry)) (now (control .exit)) r ⌝ }
 {
     if entry == 0 {
         return Answer::Refused(10);
     }
-    if 64 < entry {
+    if limits::DESCRIPTORS < (entry as usize) {
         return Answer::Refused(14);
     }
     by(control, regions, task, unit, (entry - 1) as usize)
 }
 
-// 6 where the task has a request in hand, 10 where the area has no such unit. The caller is the exported call, after the
-// tests.
+// 6 where the task has a request in hand, 10 where the area has no such unit. The caller is the exported call, after
+// the tests.
 pub fn begin(control: &mut [u8], regions: usize, task: usize, unit: u64) -> Answer
-    requires { ⌜ Control (now control) × (regions ≤ 16) × (task < 8) ⌝ }
-    ensures { λ r. ⌜ Done (whenIdle (seen (now (control .entry))) task (beginFree (seen (now (control .entry))) regions task unit)) (now (control .entry)) (now (control .exit)) r ⌝ }
+    requires { ⌜ Control (now control) × (regions ≤ REGIONS) × (task < TASKS) ⌝ }
+    ensures { λ r. ⌜ Done (whenIdle (seen (now (control .entry))) task
+        (beginFree (seen (now (control .entry))) regions task unit))
+        (now (control .entry)) (now (control .exit)) r ⌝ }
 {
     let place = control::tasks::task_place(control, task);
-    if 33 < place {
+    if places::PLACES <= place {
         return Answer::Refused(14);
     }
-    if place != 0 {
+    if place != places::IDLE {
         return Answer::Refused(6);
     }
-    if 8191 < unit {
+    if (limits::UNITS as u64) <= unit {
         return Answer::Refused(10);
     }
     let first = unit as usize;

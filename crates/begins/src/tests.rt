@@ -9,11 +9,11 @@ ghost use Rattle.begins.specs.Tests.{TestsAre};
 pub fn tests(control: &[u8], area: usize, task: u64) -> u8
     ensures { λ r. ⌜ TestsAre (length (now (control .entry))) area (seen (now (control .entry))) task r ⌝ }
 {
-    if control.len() != 8192 {
+    if control.len() != limits::CONTROL_BYTES {
         return 1;
     }
     let tasks = started::tasks(control);
-    if 8 < tasks {
+    if limits::TASKS < (tasks as usize) {
         return 14;
     }
     if tasks == 0 {
@@ -23,10 +23,10 @@ pub fn tests(control: &[u8], area: usize, task: u64) -> u8
     if regions == 0 {
         return 14;
     }
-    if 16 < regions {
+    if limits::REGIONS < (regions as usize) {
         return 14;
     }
-    if area != 4096 * (regions as usize) {
+    if area != limits::REGION_BYTES * (regions as usize) {
         return 2;
     }
     if (tasks as u64) <= task {

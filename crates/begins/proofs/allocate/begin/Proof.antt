@@ -1,4 +1,4 @@
--- One law for each way out. Assumes nothing.
+-- One law for each way out.
 use mathlib.Core.Path.{refl}
 use native.Mathlib.Omega.{arith}
 use Rattle.stepped.proofs.Doing.{done}
@@ -19,7 +19,8 @@ returns-3 c = done (size-refused _ _ _ (omega arith) _ (cc)) refl (cc) refl
 returns-4 : tie.Need-returns-4
 returns-4 c =
     let stored = c .before .before in
-    served _ _ _ (omega arith) _ _ (stored .before .before .before .before .set-task-place .ensures) (stored .set-task-class .ensures) (cc)
+    served _ _ _ (omega arith) _ _ (stored .before .before .before .before .set-task-place .ensures)
+    (stored .set-task-class .ensures) (cc)
 
 pub begin-spec : {M : Type 1} → statement M
 begin-spec =

@@ -1,4 +1,4 @@
--- One law for each way out. Assumes nothing.
+-- One law for each way out.
 use mathlib.Core.Path.{refl}
 use native.Mathlib.Omega.{arith}
 use Rattle.stepped.proofs.Doing.{done, does}
@@ -23,7 +23,8 @@ returns-4 c = done (no-unit _ _ _ _ (omega arith) (omega arith)) refl (cc) refl
 returns-5 : tie.Need-returns-5
 returns-5 c =
     let read = c .before .before .before .before in
-    does (in-area _ _ _ _ (omega arith) _ _ (read .before .before .before .region-of .ensures) (omega arith) (read .map .ensures))
+    does (in-area _ _ _ _ (omega arith) _ _ (read .before .before .before .region-of .ensures) (omega arith)
+    (read .map .ensures))
     (c .before .before .entry .ensures)
 
 pub begin-spec : {M : Type 1} → statement M

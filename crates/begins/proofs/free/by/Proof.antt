@@ -1,4 +1,4 @@
--- One law for each way out. Assumes nothing.
+-- One law for each way out.
 use mathlib.Core.Path.{refl}
 use native.Mathlib.Omega.{arith}
 use Rattle.ranges.proofs.Passed.{failed, passed}
@@ -16,7 +16,9 @@ returns-2 : tie.Need-returns-2
 returns-2 c = done (other-region _ _ _ _ _ (omega arith) (λ e. omega arith)) refl (cc) refl
 
 returns-3 : tie.Need-returns-3
-returns-3 c = done (no-anchor _ _ _ _ _ (omega arith) (omega arith) _ (c .before .before .anchor .ensures) (failed (c .before .is-anchor .ensures) (c .if3 .taken))) refl (cc) refl
+returns-3 c =
+    done (no-anchor _ _ _ _ _ (omega arith) (omega arith) _ (c .before .before .anchor .ensures)
+    (failed (c .before .is-anchor .ensures) (c .if3 .taken))) refl (cc) refl
 
 returns-4 : tie.Need-returns-4
 returns-4 c =
@@ -24,7 +26,8 @@ returns-4 c =
     let e = parts (found .of .ensures) in
     let tested = found .before in
     done
-    (is-empty _ _ _ _ _ (omega arith) (omega arith) _ (tested .before .before .anchor .ensures) (passed (tested .before .is-anchor .ensures) (tested .if3 .left))
+    (is-empty _ _ _ _ _ (omega arith) (omega arith) _ (tested .before .before .anchor .ensures)
+    (passed (tested .before .is-anchor .ensures) (tested .if3 .left))
     (omega (arith, e)))
     refl (cc) refl
 
@@ -34,7 +37,8 @@ returns-5 c =
     let e = parts (found .of .ensures) in
     let tested = found .before in
     does
-    (is-open _ _ _ _ _ (omega arith) (omega arith) _ (tested .before .before .anchor .ensures) (passed (tested .before .is-anchor .ensures) (tested .if3 .left))
+    (is-open _ _ _ _ _ (omega arith) (omega arith) _ (tested .before .before .anchor .ensures)
+    (passed (tested .before .is-anchor .ensures) (tested .if3 .left))
     (λ z. omega (arith, e)))
     (c .before .before .«open» .ensures)
 

@@ -1,4 +1,4 @@
--- One law for each way out. Assumes nothing.
+-- One law for each way out.
 use mathlib.Core.Path.{refl}
 use Rattle.ranges.proofs.Passed.{failed, passed}
 use Rattle.stepped.proofs.Doing.{done}
@@ -8,7 +8,9 @@ use Rattle.begins.proofs.free.marked.Statement.{statement}
 use Rattle.begins.proofs.free.marked.Tie as tie
 
 returns : tie.Need-returns
-returns c = done (mark-clear _ _ _ _ _ (c .before .before .marks .ensures) (failed (c .before .test .ensures) (c .if1 .taken))) refl (cc) refl
+returns c =
+    done (mark-clear _ _ _ _ _ (c .before .before .marks .ensures) (failed (c .before .test .ensures) (c .if1 .taken)))
+    refl (cc) refl
 
 returns-2 : tie.Need-returns-2
 returns-2 c =
@@ -18,8 +20,10 @@ returns-2 c =
     let place = class .before .before .before .before in
     let cleared = place .before .before in
     let test = cleared .before .before in
-    stored _ _ _ _ _ _ (test .before .marks .ensures) (passed (test .test .ensures) (cleared .before .if1 .left)) (cleared .clear .ensures .value)
-    _ (place .set-task-place .ensures) (class .set-task-class .ensures) (unit .set-task-unit .ensures) (marks .set-marks .ensures)
+    stored _ _ _ _ _ _ (test .before .marks .ensures) (passed (test .test .ensures) (cleared .before .if1 .left))
+    (cleared .clear .ensures .value)
+    _ (place .set-task-place .ensures) (class .set-task-class .ensures) (unit .set-task-unit .ensures)
+    (marks .set-marks .ensures)
 
 pub marked-spec : {M : Type 1} → statement M
 marked-spec =

@@ -1,4 +1,4 @@
--- One law for each way out. Assumes nothing.
+-- One law for each way out.
 use mathlib.Core.Path.{refl}
 use native.Mathlib.Omega.{arith}
 use Rattle.ranges.proofs.Passed.{failed, passed}
@@ -12,13 +12,17 @@ returns : tie.Need-returns
 returns c = done (no-class _ _ _ _ (omega arith)) refl (cc) refl
 
 returns-2 : tie.Need-returns-2
-returns-2 c = done (no-first _ _ _ _ _ (c .before .before .before .descriptor-class .ensures) (omega arith) (failed (c .before .is-first .ensures) (c .if2 .taken))) refl (cc) refl
+returns-2 c =
+    let at-descriptor-class = c .before .before .before in
+    done (no-first _ _ _ _ _ (at-descriptor-class .descriptor-class .ensures) (omega arith)
+    (failed (c .before .is-first .ensures) (c .if2 .taken))) refl (cc) refl
 
 returns-3 : tie.Need-returns-3
 returns-3 c =
     let tested = c .before .before .before .before in
     does
-    (is-first _ _ _ _ _ (tested .before .before .before .descriptor-class .ensures) (omega arith) (passed (tested .before .is-first .ensures) (tested .if2 .left)))
+    (is-first _ _ _ _ _ (tested .before .before .before .descriptor-class .ensures) (omega arith)
+    (passed (tested .before .is-first .ensures) (tested .if2 .left)))
     (c .before .before .marked .ensures)
 
 pub open-spec : {M : Type 1} → statement M
@@ -26,6 +30,7 @@ open-spec =
     tie.close
     (tie.spec
     (λ c κs. search needs)
+    (λ c. search needs)
     (λ c. search needs)
     returns
     (λ c. search needs)
