@@ -1,4 +1,4 @@
--- Steps 5 and 6 of a free have the outcome of the place that they go on to. Assumes nothing.
+-- Steps 5 and 6 of a free have the outcome of the place that they go on to.
 use Prim.Native.Nat.{ℕ, _≤_, _<_}
 use mathlib.Core.Path.{_≡_, refl}
 use mathlib.Core.Logic.{_≢_}

@@ -1,4 +1,4 @@
--- What is known of a move once its reason is. Assumes nothing.
+-- What is known of a move once its reason is.
 use Prim.Native.Nat.{ℕ, _<_}
 use mathlib.Core.Path.{_≡_, subst}
 use Rattle.control.specs.declared.moves.Pop.{Pop}

@@ -1,5 +1,5 @@
--- Where a free goes on: "Cache not empty: 2. Else 1.", and before that "If it was FULL: push the descriptor on the partial list".
--- Assumes nothing.
+-- Where a free goes on: "Cache not empty: 2. Else 1.", and before that "If it was FULL: push the descriptor on the
+-- partial list".
 use Prim.Native.Nat.{ℕ}
 use mathlib.Core.Bool.{cond}
 use mathlib.Core.List.{List, [], _∷_}
@@ -10,6 +10,7 @@ use Rattle.classes.specs.Classes.{perRegion}
 use Rattle.plain.specs.Moves.{Decided}
 use Rattle.control.specs.Layout.{CacheCount, GroupCount, TaskPlace}
 use Rattle.control.specs.declared.moves.Push.the-variants as Push
+use Rattle.control.specs.Places.{F1, F2}
 use Rattle.stepped.specs.Outcome.{Outcome, bad, accept}
 use Rattle.stepped.specs.Lists.{pushPlace}
 use Rattle.steps_lists.specs.declared.follow.Follow.{Follow}
@@ -27,7 +28,7 @@ fifth v t c was = cond (eqb was FULL) Offer (sixth v t c)
 
 -- the outcome of a step that goes on so, after the writes ws of the move e
 abbrev pub following : Follow → ℕ → Decided → List Write → Outcome
-following One t e ws = accept e (TaskPlace t := 28 ∷ ws) []
-following Two t e ws = accept e (TaskPlace t := 29 ∷ GroupCount t := 0 ∷ ws) []
+following One t e ws = accept e (TaskPlace t := F1 ∷ ws) []
+following Two t e ws = accept e (TaskPlace t := F2 ∷ GroupCount t := 0 ∷ ws) []
 following Offer t e ws = accept e (TaskPlace t := pushPlace Push.Offer ∷ ws) []
 following Bad t e ws = bad

@@ -1,5 +1,4 @@
 -- Where a pop leads, by its reason.
--- Assumes nothing.
 use Prim.Native.Nat.{ℕ}
 use mathlib.Core.List.{List, [], _∷_}
 use Rattle.fields.specs.Columns.{Field, Write, _:=_}
@@ -9,12 +8,13 @@ use Rattle.control.specs.declared.answer.Answer.the-variants.{Accepted, NoDescr
 use Rattle.control.specs.declared.moves.Pop.{Pop}
 use Rattle.control.specs.declared.moves.Pop.the-variants.{Partial, Spare, Region}
 use Rattle.control.specs.declared.moves.Push.the-variants.{Back}
+use Rattle.control.specs.Places.{IDLE, A3-READ, A7}
 use Rattle.stepped.specs.Lists.{popPlace, popList, pushPlace}
 
 -- allocate, step 2 "Empty: go to 5", step 5 "Empty: end with 12", step 6 "Empty: push the descriptor back"
 abbrev pub emptyPlace : Pop → ℕ
 emptyPlace Partial = popPlace Spare
-emptyPlace Spare = 0
+emptyPlace Spare = IDLE
 emptyPlace Region = pushPlace Back
 
 abbrev pub emptyAnswer : Pop → Answer
@@ -24,9 +24,9 @@ emptyAnswer Region = Accepted
 
 -- a won pop leads from step 2 to 3, from step 5 to 6, from step 6 to 7
 abbrev pub poppedPlace : Pop → ℕ
-poppedPlace Partial = 23
+poppedPlace Partial = A3-READ
 poppedPlace Spare = popPlace Region
-poppedPlace Region = 26
+poppedPlace Region = A7
 
 -- where the popped item is noted: what the task t has in hand
 abbrev pub heldField : Pop → ℕ → Field

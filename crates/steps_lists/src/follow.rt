@@ -1,7 +1,8 @@
-// Where a free goes on: steps 5 and 6, which a won exchange takes along. The callers are the step that exchanges an anchor
-// and the steps that win a free's push.
+// Where a free goes on: steps 5 and 6, which a won exchange takes along. The callers are the step that exchanges an
+// anchor and the steps that win a free's push.
 ghost use mathlib.Core.Path.{_≡_};
 ghost use Prim.Native.Nat.{_<_};
+ghost use Rattle.limits.specs.Limits.{TASKS, CLASSES};
 ghost use Rattle.control.specs.Layout.{Control, seen};
 ghost use Rattle.steps_lists.specs.Following.{sixth, fifth};
 
@@ -18,7 +19,7 @@ pub enum Follow {
 
 // Step 6: the cache tells whether another group is due.
 pub fn six(control: &[u8], task: usize, class: usize) -> Follow
-    requires { ⌜ Control (now control) × (task < 8) × (class < 16) ⌝ }
+    requires { ⌜ Control (now control) × (task < TASKS) × (class < CLASSES) ⌝ }
     ensures { λ r. ⌜ r ≡ sixth (seen (now (control .entry))) task class ⌝ }
 {
     let count = control::caches::cache_count(control, task, class) as usize;
@@ -33,7 +34,7 @@ pub fn six(control: &[u8], task: usize, class: usize) -> Follow
 
 // Step 5, for an anchor that was found in this state; else step 6.
 pub fn five(control: &[u8], task: usize, class: usize, state: u32) -> Follow
-    requires { ⌜ Control (now control) × (task < 8) × (class < 16) ⌝ }
+    requires { ⌜ Control (now control) × (task < TASKS) × (class < CLASSES) ⌝ }
     ensures { λ r. ⌜ r ≡ fifth (seen (now (control .entry))) task class state ⌝ }
 {
     if state == words::anchor::FULL {

@@ -1,5 +1,5 @@
-// The items of the lists, descriptors and regions: their nexts, and those that a task has in hand. The callers are the steps
-// of the list moves, which have tested the item against the number of items, at most sixteen regions among them.
+// The items of the lists, descriptors and regions: their nexts, and those that a task has in hand. The callers are the
+// steps of the list moves, which have tested the item against the number of items, at most sixteen regions among them.
 use control::lists;
 use control::moves::Pop;
 use control::moves::Push;
@@ -7,6 +7,7 @@ use control::tasks;
 ghost use mathlib.Core.Path.{_≡_};
 ghost use mathlib.Core.List.{[], _∷_};
 ghost use Prim.Native.Nat.{_<_};
+ghost use Rattle.limits.specs.Limits.{TASKS, REGIONS};
 ghost use Rattle.fields.specs.Columns.{_:=_};
 ghost use Rattle.control.specs.Layout.{Control, seen, changed};
 ghost use Rattle.stepped.specs.Lists.{popItems, popNextField, pushItems, pushNextField, itemField};
@@ -14,7 +15,7 @@ ghost use Rattle.steps_lists.specs.Reasons.{heldField};
 
 // The next of an item that is to be popped.
 pub fn next(control: &[u8], pop: Pop, item: usize) -> u8
-    requires { ⌜ Control (now control) × (item < popItems pop 16) ⌝ }
+    requires { ⌜ Control (now control) × (item < popItems pop REGIONS) ⌝ }
     ensures { λ r. ⌜ r ≡ seen (now (control .entry)) (popNextField pop item) ⌝ }
 {
     match pop {
@@ -26,7 +27,7 @@ pub fn next(control: &[u8], pop: Pop, item: usize) -> u8
 
 // A popped item is noted in the task's hand.
 pub fn hold(control: &mut [u8], task: usize, pop: Pop, item: u8)
-    requires { ⌜ Control (now control) × (task < 8) ⌝ }
+    requires { ⌜ Control (now control) × (task < TASKS) ⌝ }
     ensures { λ r. ⌜ now (control .exit) ≡ changed (heldField pop task := item ∷ []) (now (control .entry)) ⌝ }
 {
     match pop {
@@ -38,7 +39,7 @@ pub fn hold(control: &mut [u8], task: usize, pop: Pop, item: u8)
 
 // The item that is to be pushed.
 pub fn held(control: &[u8], task: usize, push: Push) -> u8
-    requires { ⌜ Control (now control) × (task < 8) ⌝ }
+    requires { ⌜ Control (now control) × (task < TASKS) ⌝ }
     ensures { λ r. ⌜ r ≡ seen (now (control .entry)) (itemField push task) ⌝ }
 {
     match push {
@@ -51,7 +52,7 @@ pub fn held(control: &[u8], task: usize, push: Push) -> u8
 
 // The next of an item that is to be pushed.
 pub fn set_next(control: &mut [u8], push: Push, item: usize, next: u8)
-    requires { ⌜ Control (now control) × (item < pushItems push 16) ⌝ }
+    requires { ⌜ Control (now control) × (item < pushItems push REGIONS) ⌝ }
     ensures { λ r. ⌜ now (control .exit) ≡ changed (pushNextField push item := next ∷ []) (now (control .entry)) ⌝ }
 {
     match push {

@@ -3,64 +3,58 @@
 use control::answer::Answer;
 use control::moves::Pop;
 use control::moves::Push;
+use control::places;
 ghost use mathlib.Core.Path.{_≡_};
 ghost use Prim.Native.Nat.{_<_, _≤_};
+ghost use Rattle.limits.specs.Limits.{REGIONS, CLASSES, DESCRIPTORS, LISTS};
+ghost use Rattle.control.specs.Places.{POP-REGION, PUSH-OFFER};
 ghost use Rattle.stepped.specs.Lists.{popList, popItems, popPlace, pushList, pushItems, pushPlace};
 ghost use Rattle.steps_lists.specs.Reasons.{emptyPlace, emptyAnswer, poppedPlace};
 
-// The list of the spare descriptors, after those of the sixteen classes.
-const SPARES: usize = 16;
-
-// The list of the spare regions.
-const REGIONS: usize = 17;
-
-// How many descriptors there are.
-const DESCRIPTORS: usize = 64;
-
 // The list that is popped.
 pub fn pop_list(pop: Pop, class: usize) -> usize
-    requires { ⌜ class < 16 ⌝ }
-    ensures { λ r. ⌜ (r ≡ popList pop class) × (r < 18) ⌝ }
+    requires { ⌜ class < CLASSES ⌝ }
+    ensures { λ r. ⌜ (r ≡ popList pop class) × (r < LISTS) ⌝ }
 {
     match pop {
         Pop::Partial => class,
-        Pop::Spare => SPARES,
-        Pop::Region => REGIONS,
+        Pop::Spare => limits::SPARE_DESCRIPTORS,
+        Pop::Region => limits::SPARE_REGIONS,
     }
 }
 
-// How many items there are; no more than with sixteen regions.
+// How many items there are; no more than with the most regions.
 pub fn pop_items(pop: Pop, regions: usize) -> usize
-    requires { ⌜ regions ≤ 16 ⌝ }
-    ensures { λ r. ⌜ (r ≡ popItems pop regions) × (r ≤ popItems pop 16) × (r ≤ 64) ⌝ }
+    requires { ⌜ regions ≤ REGIONS ⌝ }
+    ensures { λ r. ⌜ (r ≡ popItems pop regions) × (r ≤ popItems pop REGIONS) × (r ≤ DESCRIPTORS) ⌝ }
 {
     match pop {
-        Pop::Partial => DESCRIPTORS,
-        Pop::Spare => DESCRIPTORS,
+        Pop::Partial => limits::DESCRIPTORS,
+        Pop::Spare => limits::DESCRIPTORS,
         Pop::Region => regions,
     }
 }
 
 // The place of the head read; the other two steps follow it.
 pub fn pop_place(pop: Pop) -> u8
-    ensures { λ r. ⌜ (r ≡ popPlace pop) × (r ≤ 8) ⌝ }
+    ensures { λ r. ⌜ (r ≡ popPlace pop) × (r ≤ POP-REGION) ⌝ }
 {
     match pop {
-        Pop::Partial => 2,
-        Pop::Spare => 5,
-        Pop::Region => 8,
+        Pop::Partial => places::POP_PARTIAL,
+        Pop::Spare => places::POP_SPARE,
+        Pop::Region => places::POP_REGION,
     }
 }
 
-// Where an empty list leads: no partial descriptor, a spare one is popped; no spare descriptor, the request ends; no spare
-// region, the descriptor is pushed back.
+// Where an empty list leads: no partial descriptor, a spare one is popped; no spare descriptor, the request ends; no
+// spare region, the descriptor is pushed back.
 pub fn empty_place(pop: Pop) -> u8
     ensures { λ r. ⌜ r ≡ emptyPlace pop ⌝ }
 {
     match pop {
-        Pop::Partial => 5,
-        Pop::Spare => 0,
-        Pop::Region => 14,
+        Pop::Partial => places::POP_SPARE,
+        Pop::Spare => places::IDLE,
+        Pop::Region => places::PUSH_BACK,
     }
 }
 
@@ -80,46 +74,46 @@ pub fn popped_place(pop: Pop) -> u8
     ensures { λ r. ⌜ r ≡ poppedPlace pop ⌝ }
 {
     match pop {
-        Pop::Partial => 23,
-        Pop::Spare => 8,
-        Pop::Region => 26,
+        Pop::Partial => places::A3_READ,
+        Pop::Spare => places::POP_REGION,
+        Pop::Region => places::A7,
     }
 }
 
 // The list that is pushed on.
 pub fn push_list(push: Push, class: usize) -> usize
-    requires { ⌜ class < 16 ⌝ }
-    ensures { λ r. ⌜ (r ≡ pushList push class) × (r < 18) ⌝ }
+    requires { ⌜ class < CLASSES ⌝ }
+    ensures { λ r. ⌜ (r ≡ pushList push class) × (r < LISTS) ⌝ }
 {
     match push {
-        Push::Retire => SPARES,
-        Push::Back => SPARES,
-        Push::Release => REGIONS,
+        Push::Retire => limits::SPARE_DESCRIPTORS,
+        Push::Back => limits::SPARE_DESCRIPTORS,
+        Push::Release => limits::SPARE_REGIONS,
         Push::Offer => class,
     }
 }
 
-// How many items there are; no more than with sixteen regions.
+// How many items there are; no more than with the most regions.
 pub fn push_items(push: Push, regions: usize) -> usize
-    requires { ⌜ regions ≤ 16 ⌝ }
-    ensures { λ r. ⌜ (r ≡ pushItems push regions) × (r ≤ pushItems push 16) × (r ≤ 64) ⌝ }
+    requires { ⌜ regions ≤ REGIONS ⌝ }
+    ensures { λ r. ⌜ (r ≡ pushItems push regions) × (r ≤ pushItems push REGIONS) × (r ≤ DESCRIPTORS) ⌝ }
 {
     match push {
-        Push::Retire => DESCRIPTORS,
-        Push::Back => DESCRIPTORS,
+        Push::Retire => limits::DESCRIPTORS,
+        Push::Back => limits::DESCRIPTORS,
         Push::Release => regions,
-        Push::Offer => DESCRIPTORS,
+        Push::Offer => limits::DESCRIPTORS,
     }
 }
 
 // The place of the head read; the other two steps follow it.
 pub fn push_place(push: Push) -> u8
-    ensures { λ r. ⌜ (r ≡ pushPlace push) × (r ≤ 20) ⌝ }
+    ensures { λ r. ⌜ (r ≡ pushPlace push) × (r ≤ PUSH-OFFER) ⌝ }
 {
     match push {
-        Push::Retire => 11,
-        Push::Back => 14,
-        Push::Release => 17,
-        Push::Offer => 20,
+        Push::Retire => places::PUSH_RETIRE,
+        Push::Back => places::PUSH_BACK,
+        Push::Release => places::PUSH_RELEASE,
+        Push::Offer => places::PUSH_OFFER,
     }
 }

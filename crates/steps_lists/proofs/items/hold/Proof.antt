@@ -16,6 +16,7 @@ hold-spec =
     (λ c. search needs)
     (λ c. rw (c .before .before .before .before .enum-told .given .1) (c .before .before .set-task-descriptor .ensures))
     (λ c. search needs)
-    (λ c. rw (c .before .before .before .before .enum-told2 .given .1) (c .before .before .set-task-descriptor2 .ensures))
+    (λ c. rw (c .before .before .before .before .enum-told2 .given .1)
+    (c .before .before .set-task-descriptor2 .ensures))
     (λ c. search needs)
     (λ c. rw (c .before .before .before .before .enum-told3 .given .1) (c .before .before .set-task-region .ensures)))

@@ -1,5 +1,6 @@
 -- In each case the field is the one that is read.
 use borrow.Author.Needs.{needs}
+use Rattle.limits.specs.Limits.{REGIONS}
 use Rattle.steps_lists.proofs.Reasons.{pop-below}
 use Rattle.steps_lists.proofs.items.next.Statement.{statement}
 use Rattle.steps_lists.proofs.items.next.Tie as tie
@@ -9,11 +10,20 @@ next-spec =
     tie.close
     (tie.spec
     (λ c. search needs)
-    (λ c κs. (c .before .before .before .pre .0, pop-below 16 (c .enum-told .given .1) (c .before .before .before .pre .1)))
+    (λ c κs. (
+      c .before .before .before .pre .0,
+      pop-below REGIONS (c .enum-told .given .1) (c .before .before .before .pre .1),
+    ))
     (λ c. search needs)
-    (λ c κs. (c .before .before .before .pre .0, pop-below 16 (c .enum-told2 .given .1) (c .before .before .before .pre .1)))
+    (λ c κs. (
+      c .before .before .before .pre .0,
+      pop-below REGIONS (c .enum-told2 .given .1) (c .before .before .before .pre .1),
+    ))
     (λ c. search needs)
-    (λ c κs. (c .before .before .before .pre .0, pop-below 16 (c .enum-told3 .given .1) (c .before .before .before .pre .1)))
+    (λ c κs. (
+      c .before .before .before .pre .0,
+      pop-below REGIONS (c .enum-told3 .given .1) (c .before .before .before .pre .1),
+    ))
     (λ c. rw (c .before .enum-told .given .1) (c .descriptor-next .ensures))
     (λ c. rw (c .before .enum-told2 .given .1) (c .descriptor-next2 .ensures))
     (λ c. rw (c .before .enum-told3 .given .1) (c .region-next .ensures)))

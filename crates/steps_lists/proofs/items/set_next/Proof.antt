@@ -1,5 +1,6 @@
 -- In each case the field is the one that is written, and the item is below the number of its kind.
 use borrow.Author.Needs.{needs}
+use Rattle.limits.specs.Limits.{REGIONS}
 use Rattle.steps_lists.proofs.Reasons.{push-below}
 use Rattle.steps_lists.proofs.items.set_next.Statement.{statement}
 use Rattle.steps_lists.proofs.items.set_next.Tie as tie
@@ -9,18 +10,32 @@ set-next-spec =
     tie.close
     (tie.spec
     (λ c. search needs)
-    (λ c κs. (search needs, push-below 16 (c .before .enum-told .given .1) (c .before .before .before .before .pre .1)))
+    (λ c κs. (
+      search needs,
+      push-below REGIONS (c .before .enum-told .given .1) (c .before .before .before .before .pre .1),
+    ))
     (λ c. search needs)
-    (λ c κs. (search needs, push-below 16 (c .before .enum-told2 .given .1) (c .before .before .before .before .pre .1)))
+    (λ c κs. (
+      search needs,
+      push-below REGIONS (c .before .enum-told2 .given .1) (c .before .before .before .before .pre .1),
+    ))
     (λ c. search needs)
-    (λ c κs. (search needs, push-below 16 (c .before .enum-told3 .given .1) (c .before .before .before .before .pre .1)))
+    (λ c κs. (
+      search needs,
+      push-below REGIONS (c .before .enum-told3 .given .1) (c .before .before .before .before .pre .1),
+    ))
     (λ c. search needs)
-    (λ c κs. (search needs, push-below 16 (c .before .enum-told4 .given .1) (c .before .before .before .before .pre .1)))
+    (λ c κs. (
+      search needs,
+      push-below REGIONS (c .before .enum-told4 .given .1) (c .before .before .before .before .pre .1),
+    ))
     (λ c. search needs)
     (λ c. rw (c .before .before .before .before .enum-told .given .1) (c .before .before .set-descriptor-next .ensures))
     (λ c. search needs)
-    (λ c. rw (c .before .before .before .before .enum-told2 .given .1) (c .before .before .set-descriptor-next2 .ensures))
+    (λ c. rw (c .before .before .before .before .enum-told2 .given .1)
+    (c .before .before .set-descriptor-next2 .ensures))
     (λ c. search needs)
     (λ c. rw (c .before .before .before .before .enum-told3 .given .1) (c .before .before .set-region-next .ensures))
     (λ c. search needs)
-    (λ c. rw (c .before .before .before .before .enum-told4 .given .1) (c .before .before .set-descriptor-next3 .ensures)))
+    (λ c. rw (c .before .before .before .before .enum-told4 .given .1)
+    (c .before .before .set-descriptor-next3 .ensures)))
