@@ -1,4 +1,4 @@
--- The outcome of each step of a pop on each of its ways, from the facts that lead there. Assumes nothing.
+-- The outcome of each step of a pop on each of its ways, from the facts that lead there.
 use Prim.Native.Nat.{ℕ, _+_, _-_, _≤_, _<_}
 use mathlib.Core.Path.{_≡_, refl}
 use mathlib.Core.Logic.{_≢_}
@@ -13,7 +13,8 @@ use Rattle.control.specs.declared.answer.Answer.the-variants.{Accepted}
 use Rattle.control.specs.declared.moves.Pop.{Pop}
 use Rattle.control.specs.declared.moves.Pop.the-variants.{Partial, Spare, Region}
 use Rattle.stepped.specs.Outcome.{bad, accept, close}
-use Rattle.stepped.specs.Lists.{popPlace, popList, popItems, popNextField, whenEmpty, whenPopped, popRead, popNextOf, popNext, popExchange}
+use Rattle.stepped.specs.Lists.{popPlace, popList, popItems, popNextField, whenEmpty, whenPopped, popRead, popNextOf}
+use Rattle.stepped.specs.Lists.{popNext, popExchange}
 use Rattle.stepped.specs.Done.{Done}
 use Rattle.stepped.proofs.Doing.{done, does}
 use Rattle.steps_lists.specs.Reasons.{emptyPlace, emptyAnswer, poppedPlace, heldField, taken}
@@ -61,7 +62,8 @@ module _ (v : View) (regions t c : ℕ) where
     next-bad x h = rw (lt-leb _ _ h)
 
     -- a is the place of the head read, y the next that is read
-    pub next-noted : (x : ℕ) {a y : ℕ} → a ≡ popPlace p → y ≡ v (popNextField p x) → v (popNextField p x) ≤ popItems p regions
+    pub next-noted : (x : ℕ) {a y : ℕ} → a ≡ popPlace p → y ≡ v (popNextField p x)
+        → v (popNextField p x) ≤ popItems p regions
         → popNextOf v regions t c p x ≡ accept nothing (TaskPlace t := (a + 2) ∷ TaskNext t := y ∷ []) []
     unfolding popNextOf
     next-noted x d e h = rw (d, e, le-leb _ _ h)
@@ -104,7 +106,8 @@ module _ (v : View) (regions t c : ℕ) where
 
           module _ (m : itemOf (v (Head (popList p c))) ≤ popItems p regions) where
             -- a is the place of the head read
-            pub exchange-lost : {a : ℕ} → a ≡ popPlace p → v (Head (popList p c)) ≢ v (TaskHead t) → popExchange v regions t c p
+            pub exchange-lost : {a : ℕ} → a ≡ popPlace p → v (Head (popList p c)) ≢ v (TaskHead t)
+                → popExchange v regions t c p
                 ≡ accept (lost (popList p c)) (TaskPlace t := a ∷ []) []
             unfolding popExchange
             exchange-lost d n = rw (d, le-leb _ _ h, le-leb _ _ k, le-leb _ _ l, le-leb _ _ m, ne-eqb _ _ n)
@@ -116,8 +119,11 @@ module _ (v : View) (regions t c : ℕ) where
             exchange-takes x word d f e =
                 rw (le-leb _ _ h, le-leb _ _ k, le-leb _ _ l, le-leb _ _ m, eq-eqb _ _ e, ← d, ← f) (popped-by p _ _ _)
 
-            -- x and `word` are what the code takes and writes; w is the noted head that it reads, i the item on it, y the next
-            pub exchange-won : (x word : ℕ) {w i y : ℕ} {before after : List ℕ} → after ≡ changed (taken t c p x word) before
+            -- x and `word` are what the code takes and writes; w is the noted head that it reads, i the item on it, y
+            -- the next
+            pub exchange-won : (x word : ℕ) {w i y : ℕ} {before after : List ℕ}
+                → after ≡ changed (taken t c p x word) before
                 → w ≡ v (TaskHead t) → i ≡ itemOf w → x ≡ i - 1 → y ≡ v (TaskNext t) → word ≡ advancedWord w y
                 → v (Head (popList p c)) ≡ v (TaskHead t) → Done (popExchange v regions t c p) before after Accepted
-            exchange-won x word s n i d j f e = done (exchange-takes x word (rw (← n, ← i) d) (rw (← n, ← j) f) e) refl s refl
+            exchange-won x word s n i d j f e =
+                done (exchange-takes x word (rw (← n, ← i) d) (rw (← n, ← j) f) e) refl s refl

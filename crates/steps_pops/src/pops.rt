@@ -1,5 +1,5 @@
-// The steps of a pop: read the head, read the item's next, exchange. The caller is the step of a call that has tested its
-// memories and its task; the place tells the reason.
+// The steps of a pop: read the head, read the item's next, exchange. The caller is the step of a call that has tested
+// its memories and its task; the place tells the reason.
 use control::answer::Answer;
 use control::lists;
 use control::moves::Pop;
@@ -10,6 +10,7 @@ use steps_lists::items;
 use steps_lists::reason;
 ghost use mathlib.Core.Path.{_≡_};
 ghost use Prim.Native.Nat.{ℕ, _<_, _≤_};
+ghost use Rattle.limits.specs.Limits.{TASKS, REGIONS, CLASSES};
 ghost use Rattle.control.specs.Layout.{Control, seen, changed, Head};
 ghost use Rattle.stepped.specs.Done.{Given, Done};
 ghost use Rattle.stepped.specs.Lists.{popList, popItems, popRead, popNextOf, popNext, popExchange};
@@ -17,7 +18,7 @@ ghost use Rattle.steps_lists.specs.Reasons.{taken};
 
 // The head word of the list that is popped.
 fn head(control: &[u8], class: usize, pop: Pop) -> u64
-    requires { ⌜ Control (now control) × (class < 16) ⌝ }
+    requires { ⌜ Control (now control) × (class < CLASSES) ⌝ }
     ensures { λ r. ⌜ r ≡ seen (now (control .entry)) (Head (popList pop class)) ⌝ }
 {
     lists::head(control, reason::pop_list(pop, class))
@@ -26,7 +27,8 @@ fn head(control: &[u8], class: usize, pop: Pop) -> u64
 // Notes the head, or finds the list empty.
 pub fn read(control: &mut [u8], regions: usize, task: usize, class: usize, pop: Pop) -> Answer
     requires { ⌜ Given (now control) regions task class ⌝ }
-    ensures { λ r. ⌜ Done (popRead (seen (now (control .entry))) regions task class pop) (now (control .entry)) (now (control .exit)) r ⌝ }
+    ensures { λ r. ⌜ Done (popRead (seen (now (control .entry))) regions task class pop)
+        (now (control .entry)) (now (control .exit)) r ⌝ }
 {
     let word = head(control, class, pop);
     let item = heads::item_of(word);
@@ -44,8 +46,9 @@ pub fn read(control: &mut [u8], regions: usize, task: usize, class: usize, pop: 
 
 // Notes the next of the noted head's item.
 fn next_of(control: &mut [u8], regions: usize, task: usize, pop: Pop, item: usize) -> Answer
-    requires { ⌜ Control (now control) × (regions ≤ 16) × (task < 8) × (item < popItems pop 16) ⌝ }
-    ensures { λ r. ⌜ ((class : ℕ) → Done (popNextOf (seen (now (control .entry))) regions task class pop item) (now (control .entry)) (now (control .exit)) r) ⌝ }
+    requires { ⌜ Control (now control) × (regions ≤ REGIONS) × (task < TASKS) × (item < popItems pop REGIONS) ⌝ }
+    ensures { λ r. ⌜ ((class : ℕ) → Done (popNextOf (seen (now (control .entry))) regions task class pop item)
+        (now (control .entry)) (now (control .exit)) r) ⌝ }
 {
     let next = items::next(control, pop, item);
     if reason::pop_items(pop, regions) < next as usize {
@@ -58,8 +61,9 @@ fn next_of(control: &mut [u8], regions: usize, task: usize, pop: Pop, item: usiz
 
 // Reads the next of the item on top of the noted head. The class of the request does not matter.
 pub fn next(control: &mut [u8], regions: usize, task: usize, pop: Pop) -> Answer
-    requires { ⌜ Control (now control) × (regions ≤ 16) × (task < 8) ⌝ }
-    ensures { λ r. ⌜ ((class : ℕ) → Done (popNext (seen (now (control .entry))) regions task class pop) (now (control .entry)) (now (control .exit)) r) ⌝ }
+    requires { ⌜ Control (now control) × (regions ≤ REGIONS) × (task < TASKS) ⌝ }
+    ensures { λ r. ⌜ ((class : ℕ) → Done (popNext (seen (now (control .entry))) regions task class pop)
+        (now (control .entry)) (now (control .exit)) r) ⌝ }
 {
     let item = heads::item_of(notes::task_head(control, task));
     if item < 1 {
@@ -73,7 +77,7 @@ pub fn next(control: &mut [u8], regions: usize, task: usize, pop: Pop) -> Answer
 
 // The writes of a won exchange: the task goes on with the item in hand, and the list has the head `word`.
 fn take(control: &mut [u8], task: usize, class: usize, pop: Pop, item: u8, word: u64)
-    requires { ⌜ Control (now control) × (task < 8) × (class < 16) ⌝ }
+    requires { ⌜ Control (now control) × (task < TASKS) × (class < CLASSES) ⌝ }
     ensures { λ r. ⌜ now (control .exit) ≡ changed (taken task class pop item word) (now (control .entry)) ⌝ }
 {
     tasks::set_task_place(control, task, reason::popped_place(pop));
@@ -84,7 +88,8 @@ fn take(control: &mut [u8], task: usize, class: usize, pop: Pop, item: u8, word:
 // Exchanges the head for the item's next: won where the head is the noted one, tag and all.
 pub fn exchange(control: &mut [u8], regions: usize, task: usize, class: usize, pop: Pop) -> Answer
     requires { ⌜ Given (now control) regions task class ⌝ }
-    ensures { λ r. ⌜ Done (popExchange (seen (now (control .entry))) regions task class pop) (now (control .entry)) (now (control .exit)) r ⌝ }
+    ensures { λ r. ⌜ Done (popExchange (seen (now (control .entry))) regions task class pop)
+        (now (control .entry)) (now (control .exit)) r ⌝ }
 {
     let most = reason::pop_items(pop, regions);
     let noted = notes::task_head(control, task);

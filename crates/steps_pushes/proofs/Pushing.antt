@@ -1,10 +1,11 @@
--- The outcome of each step of a push on each of its ways, from the facts that lead there. Assumes nothing.
+-- The outcome of each step of a push on each of its ways, from the facts that lead there.
 use Prim.Native.Nat.{ℕ, _+_, _≤_, _<_}
 use mathlib.Core.Path.{_≡_}
 use mathlib.Core.Logic.{_≢_}
 use mathlib.Core.List.{List, [], _∷_}
 use borrow.Author.Tests.{lt-ltb, le-ltb, le-leb, lt-leb, eq-eqb, ne-eqb}
 use Rattle.fields.specs.Columns.{View, Write, _:=_}
+use Rattle.words.specs.Anchor.{FULL}
 use Rattle.words.specs.Head.{itemOf, advancedWord}
 use Rattle.plain.specs.Moves.{Decided, nothing, pushed, lost}
 use Rattle.control.specs.Layout.{Head, TaskHead, TaskPlace, TaskState}
@@ -12,7 +13,8 @@ use Rattle.control.specs.declared.answer.Answer.{Answer}
 use Rattle.control.specs.declared.moves.Push.{Push}
 use Rattle.control.specs.declared.moves.Push.the-variants.{Release, Offer}
 use Rattle.stepped.specs.Outcome.{bad, accept}
-use Rattle.stepped.specs.Lists.{pushPlace, pushList, pushItems, pushNextField, itemField, whenPushed, pushRead, pushNext, pushExchange}
+use Rattle.stepped.specs.Lists.{pushPlace, pushList, pushItems, pushNextField, itemField, whenPushed, pushRead}
+use Rattle.stepped.specs.Lists.{pushNext, pushExchange}
 use Rattle.stepped.specs.Done.{Done}
 use Rattle.stepped.proofs.Doing.{does}
 use Rattle.steps_lists.specs.declared.follow.Follow.{Follow}
@@ -22,12 +24,13 @@ use Rattle.steps_lists.proofs.Following.{f5-at, f6-at}
 -- ---- where a free's won push leads
 
 module _ (v : View) (regions t c : ℕ) (e : Decided) (ws : List Write) where
-  pub released-bad : 2 < v (TaskState t) → whenPushed v regions t c Release e ws ≡ bad
+  pub released-bad : FULL < v (TaskState t) → whenPushed v regions t c Release e ws ≡ bad
   released-bad h = rw (lt-leb _ _ h)
 
   -- r is where the code goes on, s the state that it reads
   pub released : (r : Follow) {s : ℕ} {before after : List ℕ} {a : Answer} → Done (following r t e ws) before after a
-      → v (TaskState t) ≤ 2 → s ≡ v (TaskState t) → r ≡ fifth v t c s → Done (whenPushed v regions t c Release e ws) before after a
+      → v (TaskState t) ≤ FULL → s ≡ v (TaskState t) → r ≡ fifth v t c s
+      → Done (whenPushed v regions t c Release e ws) before after a
   released r d h m k = rw (le-leb _ _ h, ← m) (does (f5-at v regions t c e ws _ r k) d)
 
   pub offered : (r : Follow) {before after : List ℕ} {a : Answer} → Done (following r t e ws) before after a
@@ -42,7 +45,8 @@ module _ (v : View) (regions t c : ℕ) (p : Push) where
   read-bad h = rw (lt-leb _ _ h)
 
   -- a is the place of the head read, w the head that is read
-  pub read-noted : {a w : ℕ} → a ≡ pushPlace p → w ≡ v (Head (pushList p c)) → itemOf (v (Head (pushList p c))) ≤ pushItems p regions
+  pub read-noted : {a w : ℕ} → a ≡ pushPlace p → w ≡ v (Head (pushList p c))
+      → itemOf (v (Head (pushList p c))) ≤ pushItems p regions
       → pushRead v regions t c p ≡ accept nothing (TaskPlace t := (a + 1) ∷ TaskHead t := w ∷ []) []
   unfolding pushRead
   read-noted d e h = rw (d, e, le-leb _ _ h)
@@ -83,7 +87,8 @@ module _ (v : View) (regions t c : ℕ) (p : Push) where
 
       module _ (m : itemOf (v (Head (pushList p c))) ≤ pushItems p regions) where
         -- a is the place of the head read
-        pub exchange-lost : {a : ℕ} → a ≡ pushPlace p → v (Head (pushList p c)) ≢ v (TaskHead t) → pushExchange v regions t c p
+        pub exchange-lost : {a : ℕ} → a ≡ pushPlace p → v (Head (pushList p c)) ≢ v (TaskHead t)
+            → pushExchange v regions t c p
             ≡ accept (lost (pushList p c)) (TaskPlace t := a ∷ []) []
         unfolding pushExchange
         exchange-lost d n = rw (d, lt-ltb _ _ h, le-leb _ _ k, le-leb _ _ m, ne-eqb _ _ n)
@@ -96,7 +101,8 @@ module _ (v : View) (regions t c : ℕ) (p : Push) where
 
         -- ℓ and `word` are where the code writes and what, w and x the noted head and the item that it reads
         pub exchange-won : (ℓ word : ℕ) {w x : ℕ} {before after : List ℕ} {r : Answer}
-            → Done (whenPushed v regions t c p (pushed (pushList p c) (v (itemField p t))) (Head ℓ := word ∷ [])) before after r
+            → Done (whenPushed v regions t c p (pushed (pushList p c) (v (itemField p t))) (Head ℓ := word ∷ [])) before
+            after r
             → ℓ ≡ pushList p c → w ≡ v (TaskHead t) → x ≡ v (itemField p t) → word ≡ advancedWord w (x + 1)
             → v (Head (pushList p c)) ≡ v (TaskHead t) → Done (pushExchange v regions t c p) before after r
         exchange-won ℓ word done d i j f e = does (exchange-leads ℓ word d (rw (← i, ← j) f) e) done

@@ -1,9 +1,10 @@
-// The steps of a push: read the head, write the item's next, exchange. The caller is the step of a call that has tested its
-// memories and its task; the place tells the reason.
+// The steps of a push: read the head, write the item's next, exchange. The caller is the step of a call that has tested
+// its memories and its task; the place tells the reason.
 use control::answer::Answer;
 use control::lists;
 use control::moves::Push;
 use control::notes;
+use control::places;
 use control::tasks;
 use steps_lists::follow;
 use steps_lists::follow::Follow;
@@ -13,6 +14,7 @@ use steps_lists::reason;
 ghost use mathlib.Core.Path.{_≡_};
 ghost use mathlib.Core.List.{[], _∷_};
 ghost use Prim.Native.Nat.{ℕ, _<_, _≤_};
+ghost use Rattle.limits.specs.Limits.{TASKS, REGIONS, CLASSES, LISTS};
 ghost use Rattle.fields.specs.Columns.{_:=_};
 ghost use Rattle.plain.specs.Moves.{Decided};
 ghost use Rattle.control.specs.Layout.{Control, seen, Head};
@@ -22,7 +24,7 @@ ghost use Rattle.steps_lists.specs.Following.{following};
 
 // The head word of the list that is pushed on.
 fn head(control: &[u8], class: usize, push: Push) -> u64
-    requires { ⌜ Control (now control) × (class < 16) ⌝ }
+    requires { ⌜ Control (now control) × (class < CLASSES) ⌝ }
     ensures { λ r. ⌜ r ≡ seen (now (control .entry)) (Head (pushList push class)) ⌝ }
 {
     lists::head(control, reason::push_list(push, class))
@@ -31,7 +33,8 @@ fn head(control: &[u8], class: usize, push: Push) -> u64
 // Notes the head.
 pub fn read(control: &mut [u8], regions: usize, task: usize, class: usize, push: Push) -> Answer
     requires { ⌜ Given (now control) regions task class ⌝ }
-    ensures { λ r. ⌜ Done (pushRead (seen (now (control .entry))) regions task class push) (now (control .entry)) (now (control .exit)) r ⌝ }
+    ensures { λ r. ⌜ Done (pushRead (seen (now (control .entry))) regions task class push)
+        (now (control .entry)) (now (control .exit)) r ⌝ }
 {
     let word = head(control, class, push);
     if reason::push_items(push, regions) < heads::item_of(word) {
@@ -44,8 +47,9 @@ pub fn read(control: &mut [u8], regions: usize, task: usize, class: usize, push:
 
 // Writes the item's next: the item on top of the noted head. The class of the request does not matter.
 pub fn next(control: &mut [u8], regions: usize, task: usize, push: Push) -> Answer
-    requires { ⌜ Control (now control) × (regions ≤ 16) × (task < 8) ⌝ }
-    ensures { λ r. ⌜ ((class : ℕ) → Done (pushNext (seen (now (control .entry))) regions task class push) (now (control .entry)) (now (control .exit)) r) ⌝ }
+    requires { ⌜ Control (now control) × (regions ≤ REGIONS) × (task < TASKS) ⌝ }
+    ensures { λ r. ⌜ ((class : ℕ) → Done (pushNext (seen (now (control .entry))) regions task class push)
+        (now (control .entry)) (now (control .exit)) r) ⌝ }
 {
     let most = reason::push_items(push, regions);
     let item = items::held(control, task, push) as usize;
@@ -63,23 +67,24 @@ pub fn next(control: &mut [u8], regions: usize, task: usize, push: Push) -> Answ
 
 // The writes of a won push of a free, by where the free goes on. A count outside its range is refused before any write.
 fn go_on(control: &mut [u8], task: usize, follow: Follow, list: usize, word: u64) -> Answer
-    requires { ⌜ Control (now control) × (task < 8) × (list < 18) ⌝ }
-    ensures { λ r. ⌜ ((e : Decided) → Done (following follow task e (Head list := word ∷ [])) (now (control .entry)) (now (control .exit)) r) ⌝ }
+    requires { ⌜ Control (now control) × (task < TASKS) × (list < LISTS) ⌝ }
+    ensures { λ r. ⌜ ((e : Decided) → Done (following follow task e (Head list := word ∷ []))
+        (now (control .entry)) (now (control .exit)) r) ⌝ }
 {
     match follow {
         Follow::One => {
-            tasks::set_task_place(control, task, 28);
+            tasks::set_task_place(control, task, places::F1);
             lists::set_head(control, list, word);
             Answer::Accepted
         }
         Follow::Two => {
-            tasks::set_task_place(control, task, 29);
+            tasks::set_task_place(control, task, places::F2);
             notes::set_group_count(control, task, 0);
             lists::set_head(control, list, word);
             Answer::Accepted
         }
         Follow::Offer => {
-            tasks::set_task_place(control, task, 20);
+            tasks::set_task_place(control, task, places::PUSH_OFFER);
             lists::set_head(control, list, word);
             Answer::Accepted
         }
@@ -89,23 +94,25 @@ fn go_on(control: &mut [u8], task: usize, follow: Follow, list: usize, word: u64
 
 // The writes of a won push, and where it leads; `word` is the list's new head.
 fn won(control: &mut [u8], task: usize, class: usize, push: Push, list: usize, word: u64) -> Answer
-    requires { ⌜ Control (now control) × (task < 8) × (class < 16) × (list < 18) ⌝ }
-    ensures { λ r. ⌜ ((regions : ℕ) (e : Decided) → Done (whenPushed (seen (now (control .entry))) regions task class push e (Head list := word ∷ [])) (now (control .entry)) (now (control .exit)) r) ⌝ }
+    requires { ⌜ Control (now control) × (task < TASKS) × (class < CLASSES) × (list < LISTS) ⌝ }
+    ensures { λ r. ⌜ ((regions : ℕ) (e : Decided)
+        → Done (whenPushed (seen (now (control .entry))) regions task class push e (Head list := word ∷ []))
+        (now (control .entry)) (now (control .exit)) r) ⌝ }
 {
     match push {
         Push::Retire => {
-            tasks::set_task_place(control, task, 2);
+            tasks::set_task_place(control, task, places::POP_PARTIAL);
             lists::set_head(control, list, word);
             Answer::Accepted
         }
         Push::Back => {
-            tasks::set_task_place(control, task, 0);
+            tasks::set_task_place(control, task, places::IDLE);
             lists::set_head(control, list, word);
             Answer::NoRegion
         }
         Push::Release => {
             let state = tasks::task_state(control, task);
-            if 2 < state {
+            if words::anchor::FULL < (state as u32) {
                 return Answer::Refused(14);
             }
             let follow = follow::five(control, task, class, state as u32);
@@ -121,7 +128,8 @@ fn won(control: &mut [u8], task: usize, class: usize, push: Push, list: usize, w
 // Exchanges the head for the item: won where the head is the noted one, tag and all.
 pub fn exchange(control: &mut [u8], regions: usize, task: usize, class: usize, push: Push) -> Answer
     requires { ⌜ Given (now control) regions task class ⌝ }
-    ensures { λ r. ⌜ Done (pushExchange (seen (now (control .entry))) regions task class push) (now (control .entry)) (now (control .exit)) r ⌝ }
+    ensures { λ r. ⌜ Done (pushExchange (seen (now (control .entry))) regions task class push)
+        (now (control .entry)) (now (control .exit)) r ⌝ }
 {
     let most = reason::push_items(push, regions);
     let item = items::held(control, task, push) as usize;

@@ -3,7 +3,8 @@ use borrow.Author.Needs.{needs}
 use native.Mathlib.Omega.{arith}
 use mathlib.Core.Path.{refl}
 use Rattle.stepped.proofs.Doing.{done}
-use Rattle.steps_pops.proofs.Popping.{noted-none, noted-large, after-large, head-large, exchange-lost, exchange-won}
+use Rattle.steps_pops.proofs.Popping.{noted-none, noted-large, after-large, head-large, exchange-lost}
+use Rattle.steps_pops.proofs.Popping.{exchange-won}
 use Rattle.steps_pops.proofs.pops.exchange.Statement.{statement}
 use Rattle.steps_pops.proofs.pops.exchange.Tie as tie
 
@@ -22,12 +23,18 @@ returns-4 c = done (head-large _ _ _ _ _ (omega arith) (omega arith) (omega arit
 returns-5 : tie.Need-returns-5
 returns-5 c =
     done
-    (exchange-lost _ _ _ _ _ (omega arith) (omega arith) (omega arith) (omega arith) (c .before .before .before .pop-place .ensures .0) (λ e. omega arith))
+    (exchange-lost _ _ _ _ _ (omega arith) (omega arith) (omega arith) (omega arith)
+    (c .before .before .before .pop-place .ensures .0) (λ e. omega arith))
     refl (c .before .before .set-task-place .ensures) refl
 
 returns-6 : tie.Need-returns-6
 returns-6 c =
-    exchange-won _ _ _ _ _ (omega arith) (omega arith) (omega arith) (omega arith) _ _ (c .before .before .take .ensures) (c .before .before .before .before .before .before .before .before .before .before .before .before .before .before .before .before .task-head .ensures) (c .before .before .before .before .before .before .before .before .before .before .before .before .before .before .before .item-of .ensures) refl (c .before .before .before .before .before .before .before .before .before .before .before .task-next .ensures) (c .before .before .before .advanced .ensures) (omega arith)
+    exchange-won _ _ _ _ _ (omega arith) (omega arith) (omega arith) (omega arith) _ _
+    (c .before .before .take .ensures) (c .before .before .before .before .before .before .before .before .before
+    .before .before .before .before .before .before .before .task-head .ensures)
+    (c .before .before .before .before .before .before .before .before .before .before .before .before .before
+    .before .before .item-of .ensures) refl (c .before .before .before .before .before .before .before .before
+    .before .before .before .task-next .ensures) (c .before .before .before .advanced .ensures) (omega arith)
 
 pub exchange-spec : {M : Type 1} → statement M
 exchange-spec =

@@ -4,4 +4,6 @@ use Rattle.steps_pops.proofs.pops.head.Statement.{statement}
 use Rattle.steps_pops.proofs.pops.head.Tie as tie
 
 pub head-spec : {M : Type 1} → statement M
-head-spec = tie.close (tie.spec (λ c κs. search needs) (λ c κs. search needs) (λ c. rw (c .before .pop-list .ensures .0) at (c .head .ensures)))
+head-spec =
+    tie.close (tie.spec (λ c κs. search needs) (λ c κs. search needs)
+    (λ c. rw (c .before .pop-list .ensures .0) at (c .head .ensures)))

@@ -11,8 +11,13 @@ returns : tie.Need-returns
 returns c = λ class. done (next-bad _ _ _ class _ _ (omega arith)) refl refl refl
 
 returns-2 : tie.Need-returns-2
-returns-2 c = λ class.
-    done (next-noted _ _ _ class _ _ (c .before .before .before .before .before .before .before .pop-place .ensures .0) (c .before .before .before .before .before .before .before .before .before .before .before .next .ensures) (omega arith)) refl (rw (c .before .before .before .before .before .before .set-task-place .ensures) at (c .before .before .set-task-next .ensures)) refl
+returns-2 c =
+    let at-set-task-place = c .before .before .before .before .before .before in
+    let at-next = at-set-task-place .before .before .before .before .before in
+    λ class.
+    done (next-noted _ _ _ class _ _ (at-set-task-place .before .pop-place .ensures .0) (at-next .next .ensures)
+    (omega arith)) refl (rw (at-set-task-place .set-task-place .ensures) at (c .before .before .set-task-next .ensures))
+    refl
 
 pub next-of-spec : {M : Type 1} → statement M
 next-of-spec =

@@ -8,14 +8,21 @@ use Rattle.steps_pops.proofs.pops.read.Statement.{statement}
 use Rattle.steps_pops.proofs.pops.read.Tie as tie
 
 returns : tie.Need-returns
-returns c = done (read-empty _ _ _ _ _ (c .before .before .before .before .empty-place .ensures) (omega arith)) (c .empty-answer .ensures) (c .before .before .before .set-task-place .ensures) refl
+returns c =
+    let at-empty-place = c .before .before .before .before in
+    done (read-empty _ _ _ _ _ (at-empty-place .empty-place .ensures) (omega arith)) (c .empty-answer .ensures)
+    (c .before .before .before .set-task-place .ensures) refl
 
 returns-2 : tie.Need-returns-2
 returns-2 c = done (read-bad _ _ _ _ _ (λ e. omega arith) (omega arith)) refl refl refl
 
 returns-3 : tie.Need-returns-3
 returns-3 c =
-    done (read-noted _ _ _ _ _ (c .before .before .before .before .before .before .before .pop-place .ensures .0) (c .before .before .before .before .before .before .before .before .before .before .before .before .before .head .ensures) (λ e. omega arith) (omega arith)) refl (rw (c .before .before .before .before .before .before .set-task-place2 .ensures) at (c .before .before .set-task-head .ensures)) refl
+    let at-set-task-place = c .before .before .before .before .before .before in
+    let at-head = at-set-task-place .before .before .before .before .before .before .before in
+    done (read-noted _ _ _ _ _ (at-set-task-place .before .pop-place .ensures .0) (at-head .head .ensures)
+    (λ e. omega arith) (omega arith)) refl (rw (at-set-task-place .set-task-place2 .ensures) at
+    (c .before .before .set-task-head .ensures)) refl
 
 pub read-spec : {M : Type 1} → statement M
 read-spec =

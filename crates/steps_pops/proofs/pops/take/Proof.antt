@@ -10,7 +10,8 @@ returns c =
     let c7 = c3 .before .before .before .before in
     let c11 = c7 .before .before .before .before in
     let c12 = c11 .before in
-    rw (c12 .popped-place .ensures) at (rw (c3 .pop-list .ensures .0) at (rw (c11 .set-task-place .ensures) at (rw (c7 .hold .ensures) at (c2 .set-head .ensures))))
+    rw (c12 .popped-place .ensures) at (rw (c3 .pop-list .ensures .0) at
+    (rw (c11 .set-task-place .ensures) at (rw (c7 .hold .ensures) at (c2 .set-head .ensures))))
 
 pub take-spec : {M : Type 1} → statement M
 take-spec =

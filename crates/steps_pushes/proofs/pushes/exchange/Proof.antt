@@ -1,5 +1,5 @@
--- The code's tests are those of the definition; past them its stores are the writes of the outcome, or another function does
--- the whole outcome.
+-- The code's tests are those of the definition; past them its stores are the writes of the outcome, or another function
+-- does the whole outcome.
 use borrow.Author.Needs.{needs}
 use native.Mathlib.Omega.{arith}
 use mathlib.Core.Path.{refl}
@@ -19,11 +19,17 @@ returns-3 c = done (head-large _ _ _ _ _ (omega arith) (omega arith) (omega arit
 
 returns-4 : tie.Need-returns-4
 returns-4 c =
-    done (exchange-lost _ _ _ _ _ (omega arith) (omega arith) (omega arith) (c .before .before .before .push-place .ensures .0) (λ e. omega arith)) refl (c .before .before .set-task-place .ensures) refl
+    done (exchange-lost _ _ _ _ _ (omega arith) (omega arith) (omega arith)
+    (c .before .before .before .push-place .ensures .0) (λ e. omega arith)) refl
+    (c .before .before .set-task-place .ensures) refl
 
 returns-5 : tie.Need-returns-5
 returns-5 c =
-    exchange-won _ _ _ _ _ (omega arith) (omega arith) (omega arith) _ _ (c .before .before .won .ensures _ _) (c .before .before .before .before .push-list .ensures .0) (c .before .before .before .before .before .before .before .before .before .before .before .before .before .task-head .ensures) (c .before .before .before .before .before .before .before .before .before .before .before .before .before .before .before .before .held .ensures) (c .before .before .before .before .before .advanced .ensures) (omega arith)
+    let at-push-list = c .before .before .before .before in
+    let at-task-head = at-push-list .before .before .before .before .before .before .before .before .before in
+    exchange-won _ _ _ _ _ (omega arith) (omega arith) (omega arith) _ _ (c .before .before .won .ensures _ _)
+    (at-push-list .push-list .ensures .0) (at-task-head .task-head .ensures)
+    (at-task-head .before .before .before .held .ensures) (at-push-list .before .advanced .ensures) (omega arith)
 
 pub exchange-spec : {M : Type 1} → statement M
 exchange-spec =

@@ -5,7 +5,15 @@ use Rattle.steps_pushes.proofs.pushes.go_on.Statement.{statement}
 use Rattle.steps_pushes.proofs.pushes.go_on.Tie as tie
 
 returns : tie.Need-returns
-returns c = λ e. rw (c .before .before .before .before .before .before .before .before .enum-told .given .1) (record { answer = refl; control = rw (c .before .before .before .before .before .before .set-task-place .ensures) at (c .before .before .set-head .ensures); links = refl })
+returns c =
+    let at-set-task-place = c .before .before .before .before .before .before in
+    λ e. rw (at-set-task-place .before .before .enum-told .given .1)
+    (record {
+      answer = refl;
+      control = rw (at-set-task-place .set-task-place .ensures) at
+          (c .before .before .set-head .ensures);
+      links = refl;
+    })
 
 returns-2 : tie.Need-returns-2
 returns-2 c =
@@ -13,10 +21,23 @@ returns-2 c =
     let c6 = c2 .before .before .before .before in
     let c10 = c6 .before .before .before .before in
     let c12 = c10 .before .before in
-    λ e. rw (c12 .enum-told2 .given .1) (record { answer = refl; control = rw (c10 .set-task-place2 .ensures) at (rw (c6 .set-group-count .ensures) at (c2 .set-head2 .ensures)); links = refl })
+    λ e. rw (c12 .enum-told2 .given .1) (record {
+      answer = refl;
+      control = rw (c10 .set-task-place2 .ensures) at
+          (rw (c6 .set-group-count .ensures) at (c2 .set-head2 .ensures));
+      links = refl;
+    })
 
 returns-3 : tie.Need-returns-3
-returns-3 c = λ e. rw (c .before .before .before .before .before .before .before .before .enum-told3 .given .1) (record { answer = refl; control = rw (c .before .before .before .before .before .before .set-task-place3 .ensures) at (c .before .before .set-head3 .ensures); links = refl })
+returns-3 c =
+    let at-set-task-place = c .before .before .before .before .before .before in
+    λ e. rw (at-set-task-place .before .before .enum-told3 .given .1)
+    (record {
+      answer = refl;
+      control = rw (at-set-task-place .set-task-place3 .ensures) at
+          (c .before .before .set-head3 .ensures);
+      links = refl;
+    })
 
 returns-4 : tie.Need-returns-4
 returns-4 c = λ e. rw (c .enum-told4 .given .1) (record { answer = refl; control = refl; links = refl })

@@ -14,10 +14,15 @@ returns-2 : tie.Need-returns-2
 returns-2 c = λ class. done (below-large _ _ _ class _ (omega arith) (omega arith)) refl refl refl
 
 returns-3 : tie.Need-returns-3
-returns-3 c = λ class.
+returns-3 c =
+    let at-set-task-place = c .before .before .before .before .before .before in
+    let at-task-head = at-set-task-place .before .before .before .before .before in
+    λ class.
     done
-    (next-written _ _ _ class _ (omega arith) (c .before .before .before .before .before .before .before .push-place .ensures .0) (c .before .before .before .before .before .before .before .before .before .before .before .before .before .before .held .ensures) (c .before .before .before .before .before .before .before .before .before .before .before .task-head .ensures) (c .before .before .before .before .before .before .before .before .before .before .item-of .ensures) (omega arith))
-    refl (rw (c .before .before .before .before .before .before .set-task-place .ensures) at (c .before .before .set-next .ensures)) refl
+    (next-written _ _ _ class _ (omega arith) (at-set-task-place .before .push-place .ensures .0)
+    (at-task-head .before .before .before .held .ensures) (at-task-head .task-head .ensures)
+    (at-set-task-place .before .before .before .before .item-of .ensures) (omega arith))
+    refl (rw (at-set-task-place .set-task-place .ensures) at (c .before .before .set-next .ensures)) refl
 
 pub next-spec : {M : Type 1} → statement M
 next-spec =

@@ -12,7 +12,11 @@ returns c = done (read-bad _ _ _ _ _ (omega arith)) refl refl refl
 
 returns-2 : tie.Need-returns-2
 returns-2 c =
-    done (read-noted _ _ _ _ _ (c .before .before .before .before .before .before .before .push-place .ensures .0) (c .before .before .before .before .before .before .before .before .before .before .before .before .head .ensures) (omega arith)) refl (rw (c .before .before .before .before .before .before .set-task-place .ensures) at (c .before .before .set-task-head .ensures)) refl
+    let at-set-task-place = c .before .before .before .before .before .before in
+    let at-head = at-set-task-place .before .before .before .before .before .before in
+    done (read-noted _ _ _ _ _ (at-set-task-place .before .push-place .ensures .0) (at-head .head .ensures)
+    (omega arith)) refl (rw (at-set-task-place .set-task-place .ensures) at (c .before .before .set-task-head .ensures))
+    refl
 
 pub read-spec : {M : Type 1} → statement M
 read-spec =

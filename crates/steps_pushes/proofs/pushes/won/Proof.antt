@@ -10,19 +10,47 @@ use Rattle.steps_pushes.proofs.pushes.won.Statement.{statement}
 use Rattle.steps_pushes.proofs.pushes.won.Tie as tie
 
 returns : tie.Need-returns
-returns c = λ regions e. rw (c .before .before .before .enum-told3 .given .1) (done (released-bad (seen (now (c .before .before .before .before .before .before .args .control))) regions _ _ e _ (omega arith)) refl refl refl)
+returns c =
+    let at-entry = c .before .before .before .before .before .before in
+    λ regions e. rw (c .before .before .before .enum-told3 .given .1)
+    (done (released-bad (seen (now (at-entry .args .control))) regions _ _ e _ (omega arith)) refl refl refl)
 
 returns-2 : tie.Need-returns-2
-returns-2 c = λ regions e. rw (c .before .before .before .before .before .before .before .before .enum-told .given .1) (record { answer = refl; control = rw (c .before .before .before .before .before .before .set-task-place .ensures) at (c .before .before .set-head .ensures); links = refl })
+returns-2 c =
+    let at-set-task-place = c .before .before .before .before .before .before in
+    λ regions e. rw (at-set-task-place .before .before .enum-told .given .1)
+    (record {
+      answer = refl;
+      control = rw (at-set-task-place .set-task-place .ensures) at
+          (c .before .before .set-head .ensures);
+      links = refl;
+    })
 
 returns-3 : tie.Need-returns-3
-returns-3 c = λ regions e. rw (c .before .before .before .before .before .before .before .before .enum-told2 .given .1) (record { answer = refl; control = rw (c .before .before .before .before .before .before .set-task-place2 .ensures) at (c .before .before .set-head2 .ensures); links = refl })
+returns-3 c =
+    let at-set-task-place = c .before .before .before .before .before .before in
+    λ regions e. rw (at-set-task-place .before .before .enum-told2 .given .1)
+    (record {
+      answer = refl;
+      control = rw (at-set-task-place .set-task-place2 .ensures) at
+          (c .before .before .set-head2 .ensures);
+      links = refl;
+    })
 
 returns-4 : tie.Need-returns-4
-returns-4 c = λ regions e. rw (c .before .before .before .before .before .before .before .before .before .enum-told3 .given .1) (released (seen (now (c .before .before .before .before .before .before .before .before .before .before .before .before .args .control))) regions _ _ e _ (c .before .before .before .before .five .result) (c .before .before .go-on .ensures e) (omega arith) (c .before .before .before .before .before .before .before .task-state .ensures) (c .before .before .before .before .five .ensures))
+returns-4 c =
+    let at-five = c .before .before .before .before in
+    let at-match = at-five .before .before .before .before .before in
+    λ regions e. rw (at-match .enum-told3 .given .1)
+    (released (seen (now (at-match .before .before .before .args .control))) regions _ _ e _ (at-five .five .result)
+    (c .before .before .go-on .ensures e) (omega arith) (at-five .before .before .before .task-state .ensures)
+    (at-five .five .ensures))
 
 returns-5 : tie.Need-returns-5
-returns-5 c = λ regions e. rw (c .before .before .before .before .before .before .enum-told4 .given .1) (offered _ regions _ _ e _ (c .before .before .before .before .six .result) (c .before .before .go-on2 .ensures e) (c .before .before .before .before .six .ensures))
+returns-5 c =
+    let at-six = c .before .before .before .before in
+    λ regions e. rw (at-six .before .before .enum-told4 .given .1)
+    (offered _ regions _ _ e _ (at-six .six .result) (c .before .before .go-on2 .ensures e) (at-six .six .ensures))
 
 pub won-spec : {M : Type 1} → statement M
 won-spec =
