@@ -21,8 +21,7 @@ returns-2 c =
     λ regions e. rw (at-set-task-place .before .before .enum-told .given .1)
     (record {
       answer = refl;
-      control = rw (at-set-task-place .set-task-place .ensures) at
-          (c .before .before .set-head .ensures);
+      control = rw (at-set-task-place .set-task-place .ensures) at (c .before .before .set-head .ensures);
       links = refl;
     })
 
@@ -32,8 +31,7 @@ returns-3 c =
     λ regions e. rw (at-set-task-place .before .before .enum-told2 .given .1)
     (record {
       answer = refl;
-      control = rw (at-set-task-place .set-task-place2 .ensures) at
-          (c .before .before .set-head2 .ensures);
+      control = rw (at-set-task-place .set-task-place2 .ensures) at (c .before .before .set-head2 .ensures);
       links = refl;
     })
 
@@ -64,6 +62,7 @@ won-spec =
     (λ c κs. search needs)
     (λ c. search needs)
     (λ c κs. search needs)
+    (λ c. search needs)
     (λ c. search needs)
     returns
     (λ c. search needs)
