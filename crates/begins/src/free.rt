@@ -90,8 +90,8 @@ fn entry(control: &mut [u8], regions: usize, task: usize, unit: usize, entry: u8
 // the tests.
 pub fn begin(control: &mut [u8], regions: usize, task: usize, unit: u64) -> Answer
     requires { ⌜ Control (now control) × (regions ≤ REGIONS) × (task < TASKS) ⌝ }
-    ensures { λ r. ⌜ Done (whenIdle (seen (now (control .entry))) task
-        (beginFree (seen (now (control .entry))) regions task unit))
+    ensures { λ r. ⌜ Done
+        (whenIdle (seen (now (control .entry))) task (beginFree (seen (now (control .entry))) regions task unit))
         (now (control .entry)) (now (control .exit)) r ⌝ }
 {
     let place = control::tasks::task_place(control, task);

@@ -1,4 +1,4 @@
--- What the tests of a step say of the numbers that it then uses. Assumes nothing.
+-- What the tests of a step say of the numbers that it then uses.
 use mathlib.Core.Path.{_≡_}
 use mathlib.Core.Bool.{Bool, true, false, not}
 use mathlib.Core.List.{List}
@@ -6,6 +6,7 @@ use mathlib.Core.Logic.{inl, inr}
 use Prim.Native.Nat.{ℕ, _+_, _*_, _≤_, _<_}
 use native.Mathlib.Omega.{arith}
 use lib.ListN.{length}
+use Rattle.limits.specs.Limits.{UNIT-BYTES, UNITS}
 use Rattle.words.specs.Anchor.{anchorOf}
 use Rattle.words.specs.declared.anchor.Anchor.{Anchor}
 use Rattle.stepped.specs.Done.{Given, Lent}
@@ -15,11 +16,12 @@ use Rattle.ranges.proofs.Passed.{passed, block-passed, top-passed, anchor-passe
 
 -- a block's link lies in the area
 pub block-link : (regions c u : ℕ) {m a : List ℕ} {t : ℕ} → Lent m a regions t c → isBlock regions c u ≡ true
-    → 8 * u + 8 ≤ length a
+    → UNIT-BYTES * u + UNIT-BYTES ≤ length a
 block-link regions c u l e = omega (arith, block-passed regions c u e, l .area)
 
 -- its unit has a mark
-pub block-unit : (regions c u : ℕ) {m a : List ℕ} {t : ℕ} → Lent m a regions t c → isBlock regions c u ≡ true → u < 8192
+pub block-unit : (regions c u : ℕ) {m a : List ℕ} {t : ℕ} → Lent m a regions t c → isBlock regions c u ≡ true
+    → u < UNITS
 block-unit regions c u l e = omega (arith, block-passed regions c u e, l .given)
 
 -- a cache's top fits two bytes

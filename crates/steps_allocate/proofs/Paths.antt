@@ -1,17 +1,20 @@
--- The outcome of each step on each of its ways, from the tests that lead there. Assumes nothing.
+-- The outcome of each step on each of its ways, from the tests that lead there.
 use mathlib.Core.Path.{_≡_}
 use mathlib.Core.Bool.{true, false}
 use mathlib.Core.List.{List, [], _∷_}
 use Prim.Native.Nat.{ℕ, _-_, _/_, _%_, _≤_, _<_}
 use borrow.Author.Tests.{lt-ltb, le-ltb, le-leb, lt-leb, eq-eqb, ne-eqb}
+use Rattle.limits.specs.Limits.{DESCRIPTORS}
 use Rattle.fields.specs.Columns.{View, _:=_}
 use Rattle.words.specs.Anchor.{anchorOf}
 use Rattle.words.specs.Mark.{withSet}
 use Rattle.classes.specs.Classes.{perRegion}
 use Rattle.plain.specs.Moves.{nothing, anchor-empty, took, anchor-lost}
-use Rattle.control.specs.Layout.{Anchor, Marks, TaskAnchor, CacheTop, CacheCount, TaskIndex, TaskLeft, TaskPlace, TaskDescriptor, TaskRegion, DescriptorRegion}
+use Rattle.control.specs.Layout.{Anchor, Marks, TaskAnchor, CacheTop, CacheCount, TaskIndex, TaskLeft, TaskPlace}
+use Rattle.control.specs.Layout.{TaskDescriptor, TaskRegion, DescriptorRegion}
 use Rattle.control.specs.declared.answer.Answer.the-variants.{Allocated}
 use Rattle.control.specs.declared.answer.Answer.{Answer}
+use Rattle.control.specs.Places.{IDLE, POP-PARTIAL, PUSH-RETIRE, A3-READ, A3-EXCHANGE, A4}
 use Rattle.stepped.specs.Done.{Done, DoneIn}
 use Rattle.stepped.proofs.Doing.{does, does-in}
 use Rattle.stepped.specs.Outcome.{Outcome, bad, accept, close}
@@ -43,7 +46,7 @@ module _ (v : View) (link : ℕ → ℕ) (regions t c : ℕ) where
       pub a1Take-taken : isTop regions c (k - 1) x ≡ true
           → a1Take v link regions t c k u
           ≡ close (Allocated u) nothing
-          (TaskPlace t := 0
+          (TaskPlace t := IDLE
           ∷ CacheTop t c := x
           ∷ CacheCount t c := (k - 1)
           ∷ Marks (u / 64) := withSet (v (Marks (u / 64))) (u % 64)
@@ -52,7 +55,7 @@ module _ (v : View) (link : ℕ → ℕ) (regions t c : ℕ) where
       unfolding a1Take
       a1Take-taken h = rw (← e, b, h)
 
-  pub a1-empty : v (CacheCount t c) ≡ 0 → a1 v link regions t c ≡ accept nothing (TaskPlace t := 2 ∷ []) []
+  pub a1-empty : v (CacheCount t c) ≡ 0 → a1 v link regions t c ≡ accept nothing (TaskPlace t := POP-PARTIAL ∷ []) []
   unfolding a1
   a1-empty h = rw (eq-eqb _ _ h)
 
@@ -74,7 +77,7 @@ module _ (v : View) (link : ℕ → ℕ) (regions t c : ℕ) where
 
     module _ (a : isAnchor (v (Anchor d)) ≡ true) where
       pub a3ReadOf-empty : isEmpty (v (Anchor d)) ≡ true
-          → a3ReadOf v link regions t c d ≡ accept (anchor-empty d) (TaskPlace t := 11 ∷ []) []
+          → a3ReadOf v link regions t c d ≡ accept (anchor-empty d) (TaskPlace t := PUSH-RETIRE ∷ []) []
       unfolding a3ReadOf
       a3ReadOf-empty h = rw (a, h)
 
@@ -84,15 +87,17 @@ module _ (v : View) (link : ℕ → ℕ) (regions t c : ℕ) where
         a3ReadOf-chain h = rw (a, s, h)
 
         pub a3ReadOf-noted : hasChain (perRegion c) (v (Anchor d)) ≡ true
-            → a3ReadOf v link regions t c d ≡ accept nothing (TaskPlace t := 24 ∷ TaskAnchor t := v (Anchor d) ∷ []) []
+            → a3ReadOf v link regions t c d
+            ≡ accept nothing (TaskPlace t := A3-EXCHANGE ∷ TaskAnchor t := v (Anchor d) ∷ []) []
         unfolding a3ReadOf
         a3ReadOf-noted h = rw (a, s, h)
 
-  pub a3Read-none : 64 ≤ v (TaskDescriptor t) → a3Read v link regions t c ≡ bad
+  pub a3Read-none : DESCRIPTORS ≤ v (TaskDescriptor t) → a3Read v link regions t c ≡ bad
   unfolding a3Read
   a3Read-none h = rw (le-ltb _ _ h)
 
-  pub a3Read-some : {d : ℕ} → d ≡ v (TaskDescriptor t) → d < 64 → a3Read v link regions t c ≡ a3ReadOf v link regions t c d
+  pub a3Read-some : {d : ℕ} → d ≡ v (TaskDescriptor t) → d < DESCRIPTORS
+      → a3Read v link regions t c ≡ a3ReadOf v link regions t c d
   unfolding a3Read
   a3Read-some e h = rw (← e, lt-ltb _ _ h)
 
@@ -103,7 +108,7 @@ module _ (v : View) (link : ℕ → ℕ) (regions t c : ℕ) where
 
     module _ (a : isAnchor (v (Anchor d)) ≡ true) where
       pub a3ExchangeOf-lost : (v (Anchor d) ≡ word → ⊥)
-          → a3ExchangeOf v link regions t c d word ≡ accept (anchor-lost d) (TaskPlace t := 23 ∷ []) []
+          → a3ExchangeOf v link regions t c d word ≡ accept (anchor-lost d) (TaskPlace t := A3-READ ∷ []) []
       unfolding a3ExchangeOf
       a3ExchangeOf-lost h = rw (a, ne-eqb _ _ h)
 
@@ -115,20 +120,21 @@ module _ (v : View) (link : ℕ → ℕ) (regions t c : ℕ) where
       pub a3ExchangeOf-won : {r f i k : ℕ} → r ≡ v (DescriptorRegion d) → f ≡ fullWord c → i ≡ anchorOf word .avail
           → k ≡ anchorOf word .count → v (Anchor d) ≡ word → r < regions
           → a3ExchangeOf v link regions t c d word
-          ≡ accept (took d) (TaskPlace t := 25 ∷ Anchor d := f ∷ TaskRegion t := r ∷ TaskIndex t := i ∷ TaskLeft t := k ∷ []) []
+          ≡ accept (took d) (TaskPlace t := A4 ∷ Anchor d := f ∷ TaskRegion t := r ∷ TaskIndex t := i ∷ TaskLeft t := k
+          ∷ []) []
       unfolding a3ExchangeOf
       a3ExchangeOf-won e f i k w h = rw (a, eq-eqb _ _ w, ← e, lt-ltb _ _ h, f, i, k)
 
-  pub a3Exchange-none : 64 ≤ v (TaskDescriptor t) → a3Exchange v link regions t c ≡ bad
+  pub a3Exchange-none : DESCRIPTORS ≤ v (TaskDescriptor t) → a3Exchange v link regions t c ≡ bad
   unfolding a3Exchange
   a3Exchange-none h = rw (le-ltb _ _ h)
 
-  pub a3Exchange-chain : v (TaskDescriptor t) < 64 → hasChain (perRegion c) (v (TaskAnchor t)) ≡ false
+  pub a3Exchange-chain : v (TaskDescriptor t) < DESCRIPTORS → hasChain (perRegion c) (v (TaskAnchor t)) ≡ false
       → a3Exchange v link regions t c ≡ bad
   unfolding a3Exchange
   a3Exchange-chain h k = rw (lt-ltb _ _ h, k)
 
-  pub a3Exchange-some : {d word : ℕ} → d ≡ v (TaskDescriptor t) → word ≡ v (TaskAnchor t) → d < 64
+  pub a3Exchange-some : {d word : ℕ} → d ≡ v (TaskDescriptor t) → word ≡ v (TaskAnchor t) → d < DESCRIPTORS
       → hasChain (perRegion c) (v (TaskAnchor t)) ≡ true
       → a3Exchange v link regions t c ≡ a3ExchangeOf v link regions t c d word
   unfolding a3Exchange

@@ -1,5 +1,4 @@
 -- The anchors that the steps of an allocation tell apart and write.
--- Assumes nothing.
 use Prim.Native.Nat.{ℕ}
 use mathlib.Core.Bool.{Bool}
 use lib.Dec.{eqb}

@@ -1,8 +1,9 @@
-// Step 3: "Read the anchor. EMPTY: push the descriptor on the spare list, then 2. Else exchange it for (FULL, n, 0); lost: read
-// again."
+// Step 3: "Read the anchor. EMPTY: push the descriptor on the spare list, then 2. Else exchange it for (FULL, n, 0);
+// lost: read again."
 use classes::table;
 use control::answer::Answer;
 use control::notes;
+use control::places;
 use control::regions;
 use control::tasks;
 use words::anchor;
@@ -11,10 +12,13 @@ ghost use mathlib.Core.Path.{_≡_};
 ghost use mathlib.Core.List.{[], _∷_};
 ghost use mathlib.Core.Bool.{true};
 ghost use Prim.Native.Nat.{ℕ, _<_};
+ghost use Rattle.limits.specs.Limits.{TASKS, CLASSES, DESCRIPTORS};
 ghost use Rattle.fields.specs.Columns.{_:=_};
 ghost use Rattle.words.specs.Anchor.{anchorOf};
 ghost use Rattle.plain.specs.Moves.{took};
-ghost use Rattle.control.specs.Layout.{Control, seen, Anchor as AnchorField, TaskIndex, TaskLeft, TaskPlace, TaskRegion};
+ghost use Rattle.control.specs.Layout.{Control, seen, Anchor as AnchorField, TaskIndex, TaskLeft, TaskPlace};
+ghost use Rattle.control.specs.Layout.{TaskRegion};
+ghost use Rattle.control.specs.Places.{A4};
 ghost use Rattle.steps_allocate.specs.Anchors.{isEmpty, fullWord};
 ghost use Rattle.stepped.specs.Ranges.{isAnchor};
 ghost use Rattle.stepped.specs.Outcome.{accept};
@@ -31,41 +35,44 @@ fn is_empty(word: u64) -> bool
 
 // The read of the anchor of a descriptor. Caller: `read`, which has tested the descriptor.
 fn read_of(control: &mut [u8], task: usize, class: usize, descriptor: usize) -> Answer
-    requires { ⌜ Control (now control) × (task < 8) × (class < 16) × (descriptor < 64) ⌝ }
-    ensures { λ r. ⌜ ((regions : ℕ) (link : ℕ → ℕ) → Done (a3ReadOf (seen (now (control .entry))) link regions task class descriptor) (now (control .entry)) (now (control .exit)) r) ⌝ }
+    requires { ⌜ Control (now control) × (task < TASKS) × (class < CLASSES) × (descriptor < DESCRIPTORS) ⌝ }
+    ensures { λ r. ⌜ ((regions : ℕ) (link : ℕ → ℕ)
+        → Done (a3ReadOf (seen (now (control .entry))) link regions task class descriptor)
+        (now (control .entry)) (now (control .exit)) r) ⌝ }
 {
     let word = regions::anchor(control, descriptor);
     if !ranges::is_anchor(word) {
         return Answer::Refused(14);
     }
     if is_empty(word) {
-        tasks::set_task_place(control, task, 11);
+        tasks::set_task_place(control, task, places::PUSH_RETIRE);
         return Answer::Accepted;
     }
     if !ranges::has_chain(table::per_region(class), word) {
         return Answer::Refused(14);
     }
-    tasks::set_task_place(control, task, 24);
+    tasks::set_task_place(control, task, places::A3_EXCHANGE);
     notes::set_task_anchor(control, task, word);
     Answer::Accepted
 }
 
-// The step that reads the anchor. Caller: the step of a task whose place is 23.
+// The step that reads the anchor. Caller: the step of a task at that place.
 pub fn read(control: &mut [u8], task: usize, class: usize) -> Answer
-    requires { ⌜ Control (now control) × (task < 8) × (class < 16) ⌝ }
-    ensures { λ r. ⌜ ((regions : ℕ) (link : ℕ → ℕ) → Done (a3Read (seen (now (control .entry))) link regions task class) (now (control .entry)) (now (control .exit)) r) ⌝ }
+    requires { ⌜ Control (now control) × (task < TASKS) × (class < CLASSES) ⌝ }
+    ensures { λ r. ⌜ ((regions : ℕ) (link : ℕ → ℕ) → Done (a3Read (seen (now (control .entry))) link regions task class)
+        (now (control .entry)) (now (control .exit)) r) ⌝ }
 {
     let descriptor = tasks::task_descriptor(control, task) as usize;
-    if 64 <= descriptor {
+    if limits::DESCRIPTORS <= descriptor {
         return Answer::Refused(14);
     }
     read_of(control, task, class, descriptor)
 }
 
-// The word of (FULL, n, 0), n being that of the class. Callers: the steps that take a chain and open a region, whose request is
-// of the class.
+// The word of (FULL, n, 0), n being that of the class. Callers: the steps that take a chain and open a region, whose
+// request is of the class.
 pub fn full_word(class: usize) -> u64
-    requires { ⌜ class < 16 ⌝ }
+    requires { ⌜ class < CLASSES ⌝ }
     ensures { λ r. ⌜ r ≡ fullWord class ⌝ }
 {
     Anchor::full(table::per_region(class) as u32).word()
@@ -89,8 +96,8 @@ fn count_of(word: u64) -> u16
     anchor.count as u16
 }
 
-// Writes what a won exchange leaves: the anchor's new word `full`, and for the task the region of the chain, the index of its first
-// block and how many it has. Caller: `exchange_of`.
+// Writes what a won exchange leaves: the anchor's new word `full`, and for the task the region of the chain, the index
+// of its first block and how many it has. Caller: `exchange_of`.
 fn hold_chain(
     control: &mut [u8],
     task: usize,
@@ -100,10 +107,13 @@ fn hold_chain(
     first: u16,
     count: u16,
 ) -> Answer
-    requires { ⌜ Control (now control) × (task < 8) × (descriptor < 64) ⌝ }
-    ensures { λ r. ⌜ Done (accept (took descriptor) (TaskPlace task := 25 ∷ AnchorField descriptor := full ∷ TaskRegion task := region ∷ TaskIndex task := first ∷ TaskLeft task := count ∷ []) []) (now (control .entry)) (now (control .exit)) r ⌝ }
+    requires { ⌜ Control (now control) × (task < TASKS) × (descriptor < DESCRIPTORS) ⌝ }
+    ensures { λ r. ⌜ Done (accept (took descriptor)
+        (TaskPlace task := A4 ∷ AnchorField descriptor := full ∷ TaskRegion task := region ∷ TaskIndex task := first
+        ∷ TaskLeft task := count ∷ []) [])
+        (now (control .entry)) (now (control .exit)) r ⌝ }
 {
-    tasks::set_task_place(control, task, 25);
+    tasks::set_task_place(control, task, places::A4);
     regions::set_anchor(control, descriptor, full);
     tasks::set_task_region(control, task, region);
     notes::set_task_index(control, task, first);
@@ -111,7 +121,8 @@ fn hold_chain(
     Answer::Accepted
 }
 
-// The exchange of the anchor of a descriptor, where `word` was noted. Caller: `exchange`, which has tested the descriptor.
+// The exchange of the anchor of a descriptor, where `word` was noted. Caller: `exchange`, which has tested the
+// descriptor.
 fn exchange_of(
     control: &mut [u8],
     regions: usize,
@@ -120,15 +131,17 @@ fn exchange_of(
     descriptor: usize,
     word: u64,
 ) -> Answer
-    requires { ⌜ Given (now control) regions task class × (descriptor < 64) ⌝ }
-    ensures { λ r. ⌜ ((link : ℕ → ℕ) → Done (a3ExchangeOf (seen (now (control .entry))) link regions task class descriptor word) (now (control .entry)) (now (control .exit)) r) ⌝ }
+    requires { ⌜ Given (now control) regions task class × (descriptor < DESCRIPTORS) ⌝ }
+    ensures { λ r. ⌜ ((link : ℕ → ℕ)
+        → Done (a3ExchangeOf (seen (now (control .entry))) link regions task class descriptor word)
+        (now (control .entry)) (now (control .exit)) r) ⌝ }
 {
     let found = regions::anchor(control, descriptor);
     if !ranges::is_anchor(found) {
         return Answer::Refused(14);
     }
     if found != word {
-        tasks::set_task_place(control, task, 23);
+        tasks::set_task_place(control, task, places::A3_READ);
         return Answer::Accepted;
     }
     let region = regions::descriptor_region(control, descriptor);
@@ -147,13 +160,14 @@ fn exchange_of(
     )
 }
 
-// The step that exchanges the anchor. Caller: the step of a task whose place is 24.
+// The step that exchanges the anchor. Caller: the step of a task at that place.
 pub fn exchange(control: &mut [u8], regions: usize, task: usize, class: usize) -> Answer
     requires { ⌜ Given (now control) regions task class ⌝ }
-    ensures { λ r. ⌜ ((link : ℕ → ℕ) → Done (a3Exchange (seen (now (control .entry))) link regions task class) (now (control .entry)) (now (control .exit)) r) ⌝ }
+    ensures { λ r. ⌜ ((link : ℕ → ℕ) → Done (a3Exchange (seen (now (control .entry))) link regions task class)
+        (now (control .entry)) (now (control .exit)) r) ⌝ }
 {
     let descriptor = tasks::task_descriptor(control, task) as usize;
-    if 64 <= descriptor {
+    if limits::DESCRIPTORS <= descriptor {
         return Answer::Refused(14);
     }
     let word = notes::task_anchor(control, task);

@@ -2,38 +2,44 @@
 use classes::table;
 use control::answer::Answer;
 use control::caches;
+use control::places;
 use control::regions;
 use control::tasks;
 use words::mark;
 ghost use mathlib.Core.Path.{_≡_};
 ghost use mathlib.Core.List.{[], _∷_};
 ghost use Prim.Native.Nat.{_/_, _%_, _≤_, _<_};
+ghost use Rattle.limits.specs.Limits.{UNITS, TASKS, CLASSES};
 ghost use Rattle.fields.specs.Columns.{_:=_};
 ghost use Rattle.links.specs.Link.{link};
 ghost use Rattle.words.specs.Mark.{withSet};
 ghost use Rattle.plain.specs.Moves.{nothing};
 ghost use Rattle.control.specs.Layout.{Control, seen, Marks, CacheTop, CacheCount, TaskPlace};
+ghost use Rattle.control.specs.Places.{IDLE};
 ghost use Rattle.stepped.specs.Outcome.{close};
 ghost use Rattle.stepped.specs.Done.{Lent, Done};
 ghost use Rattle.stepped.specs.Allocate.{a1, a1Take};
 
 // The marks of the 64 units among which a unit is, with its own mark set. Caller: `finish`.
 fn marked(control: &[u8], unit: usize) -> u64
-    requires { ⌜ Control (now control) × (unit < 8192) ⌝ }
+    requires { ⌜ Control (now control) × (unit < UNITS) ⌝ }
     ensures { λ r. ⌜ r ≡ withSet (seen (now (control .entry)) (Marks (unit / 64))) (unit % 64) ⌝ }
 {
     mark::set(regions::marks(control, unit / 64), (unit % 64) as u32)
 }
 
-// Finishes the allocation with the block at `unit`, the top of a cache in which `left` blocks are left, the topmost at `below`.
-// Caller: `take_top`, which has tested the units.
+// Finishes the allocation with the block at `unit`, the top of a cache in which `left` blocks are left, the topmost at
+// `below`. Caller: `take_top`, which has tested the units.
 fn finish(control: &mut [u8], task: usize, class: usize, unit: u16, left: u16, below: u16) -> Answer
-    requires { ⌜ Control (now control) × (task < 8) × (class < 16) × (unit < 8192) ⌝ }
-    ensures { λ r. ⌜ Done (close (Answer.Allocated unit) nothing (TaskPlace task := 0 ∷ CacheTop task class := below ∷ CacheCount task class := left ∷ Marks (unit / 64) := withSet (seen (now (control .entry)) (Marks (unit / 64))) (unit % 64) ∷ []) []) (now (control .entry)) (now (control .exit)) r ⌝ }
+    requires { ⌜ Control (now control) × (task < TASKS) × (class < CLASSES) × (unit < UNITS) ⌝ }
+    ensures { λ r. ⌜ Done (close (Answer.Allocated unit) nothing
+        (TaskPlace task := IDLE ∷ CacheTop task class := below ∷ CacheCount task class := left
+        ∷ Marks (unit / 64) := withSet (seen (now (control .entry)) (Marks (unit / 64))) (unit % 64) ∷ []) [])
+        (now (control .entry)) (now (control .exit)) r ⌝ }
 {
     let at = unit as usize;
     let marks = marked(control, at);
-    tasks::set_task_place(control, task, 0);
+    tasks::set_task_place(control, task, places::IDLE);
     caches::set_cache_top(control, task, class, below);
     caches::set_cache_count(control, task, class, left);
     regions::set_marks(control, at / 64, marks);
@@ -51,7 +57,9 @@ fn take_top(
     unit: u16,
 ) -> Answer
     requires { ⌜ Lent (now control) (now area) regions task class × (1 ≤ count) ⌝ }
-    ensures { λ r. ⌜ Done (a1Take (seen (now (control .entry))) (link (now (area .entry))) regions task class count unit) (now (control .entry)) (now (control .exit)) r ⌝ }
+    ensures { λ r. ⌜ Done
+        (a1Take (seen (now (control .entry))) (link (now (area .entry))) regions task class count unit)
+        (now (control .entry)) (now (control .exit)) r ⌝ }
 {
     let at = unit as usize;
     if !ranges::is_block(regions, class, at) {
@@ -65,14 +73,15 @@ fn take_top(
     finish(control, task, class, unit, left, below as u16)
 }
 
-// The step. Caller: the step of a task whose place is 1.
+// The step. Caller: the step of a task at that place.
 pub fn take(control: &mut [u8], area: &[u8], regions: usize, task: usize, class: usize) -> Answer
     requires { ⌜ Lent (now control) (now area) regions task class ⌝ }
-    ensures { λ r. ⌜ Done (a1 (seen (now (control .entry))) (link (now (area .entry))) regions task class) (now (control .entry)) (now (control .exit)) r ⌝ }
+    ensures { λ r. ⌜ Done (a1 (seen (now (control .entry))) (link (now (area .entry))) regions task class)
+        (now (control .entry)) (now (control .exit)) r ⌝ }
 {
     let count = caches::cache_count(control, task, class);
     if count == 0 {
-        tasks::set_task_place(control, task, 2);
+        tasks::set_task_place(control, task, places::POP_PARTIAL);
         return Answer::Accepted;
     }
     if table::per_region(class) < count as usize {

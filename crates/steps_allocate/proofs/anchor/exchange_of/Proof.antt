@@ -5,7 +5,8 @@ use mathlib.Core.Path.{refl}
 use Rattle.stepped.specs.Ranges.{isAnchor}
 use Rattle.ranges.proofs.Passed.{failed-at, passed-at}
 use Rattle.stepped.proofs.Doing.{done}
-use Rattle.steps_allocate.proofs.Paths.{by, a3ExchangeOf-none, a3ExchangeOf-lost, a3ExchangeOf-region, a3ExchangeOf-won}
+use Rattle.steps_allocate.proofs.Paths.{by, a3ExchangeOf-none, a3ExchangeOf-lost, a3ExchangeOf-region}
+use Rattle.steps_allocate.proofs.Paths.{a3ExchangeOf-won}
 use Rattle.steps_allocate.proofs.anchor.exchange_of.Statement.{statement}
 use Rattle.steps_allocate.proofs.anchor.exchange_of.Tie as tie
 
@@ -13,7 +14,9 @@ returns : tie.Need-returns
 returns c link = done (a3ExchangeOf-none _ _ _ _ _ _ _ (search (failed-at isAnchor))) refl refl refl
 
 returns-2 : tie.Need-returns-2
-returns-2 c link = done (a3ExchangeOf-lost _ _ _ _ _ _ _ (search (passed-at isAnchor)) (omega arith)) refl (c .before .before .set-task-place .ensures) refl
+returns-2 c link =
+    done (a3ExchangeOf-lost _ _ _ _ _ _ _ (search (passed-at isAnchor)) (omega arith)) refl
+    (c .before .before .set-task-place .ensures) refl
 
 returns-3 : tie.Need-returns-3
 returns-3 c link =
@@ -28,7 +31,8 @@ count-of-requires c κs = search (passed-at isAnchor)
 returns-4 : tie.Need-returns-4
 returns-4 c link =
     by (c .before .before .hold-chain .ensures)
-    (a3ExchangeOf-won _ _ _ _ _ _ _ (search (passed-at isAnchor)) (search needs) (search needs) (search needs) (search needs)
+    (a3ExchangeOf-won _ _ _ _ _ _ _ (search (passed-at isAnchor)) (search needs) (search needs) (search needs)
+    (search needs)
     (omega arith) (omega arith))
 
 pub exchange-of-spec : {M : Type 1} → statement M

@@ -13,7 +13,8 @@ cast-full c = record { fits = omega (arith, perRegion-high (c .before .args .cla
 
 word-requires : tie.Need-word-requires
 word-requires c κs =
-    rw (c .full .ensures) (full-fits (c .before .per-region .result) (omega (arith, perRegion-high (c .before .before .args .class))))
+    rw (c .full .ensures) (full-fits (c .before .per-region .result)
+    (omega (arith, perRegion-high (c .before .before .args .class))))
 
 returns : tie.Need-returns
 returns c = rw (← c .before .before .per-region .ensures) (c .word .ensures ∙ ap anchorWord (c .before .full .ensures))

@@ -11,7 +11,13 @@ returns c =
     let c10 = c6 .before .before .before .before in
     let c14 = c10 .before .before .before .before in
     let c18 = c14 .before .before .before .before in
-    record { answer = refl; control = (rw (c18 .set-task-place .ensures) at (rw (c14 .set-anchor .ensures) at (rw (c10 .set-task-region .ensures) at (rw (c6 .set-task-index .ensures) at (c2 .set-task-left .ensures))))); links = refl }
+    record {
+      answer = refl;
+      control = (rw (c18 .set-task-place .ensures) at
+          (rw (c14 .set-anchor .ensures) at (rw (c10 .set-task-region .ensures) at
+          (rw (c6 .set-task-index .ensures) at (c2 .set-task-left .ensures)))));
+      links = refl;
+    }
 
 pub hold-chain-spec : {M : Type 1} → statement M
 hold-chain-spec =

@@ -14,7 +14,8 @@ returns c regions link = done (a3ReadOf-none _ _ _ _ _ _ (search (failed-at isAn
 
 returns-2 : tie.Need-returns-2
 returns-2 c regions link =
-    done (a3ReadOf-empty _ _ _ _ _ _ (search (passed-at isAnchor)) (search (shown-at isEmpty))) refl (c .before .before .set-task-place .ensures) refl
+    done (a3ReadOf-empty _ _ _ _ _ _ (search (passed-at isAnchor)) (search (shown-at isEmpty))) refl
+    (c .before .before .set-task-place .ensures) refl
 
 returns-3 : tie.Need-returns-3
 returns-3 c regions link =
@@ -24,7 +25,10 @@ returns-3 c regions link =
 returns-4 : tie.Need-returns-4
 returns-4 c regions link =
     done (a3ReadOf-noted _ _ _ _ _ _ (search (passed-at isAnchor)) (search (shown-at isEmpty))
-    (search (passed-for hasChain))) refl (rw (c .before .before .before .before .before .before .before .before .before .before .before .before .before .before .before .anchor .ensures) at (rw (c .before .before .before .before .before .before .set-task-place2 .ensures) at (c .before .before .set-task-anchor .ensures))) refl
+    (search (passed-for hasChain))) refl (rw (c .before .before .before .before .before .before .before .before .before
+    .before .before .before .before .before .before .anchor .ensures) at
+    (rw (c .before .before .before .before .before .before .set-task-place2 .ensures) at
+    (c .before .before .set-task-anchor .ensures))) refl
 
 pub read-of-spec : {M : Type 1} → statement M
 read-of-spec =

@@ -11,7 +11,13 @@ returns c =
     let c10 = c6 .before .before .before .before in
     let c14 = c10 .before .before .before .before in
     let c16 = c14 .before .before in
-    record { answer = refl; control = (rw (c16 .marked .ensures) at (rw (c14 .set-task-place .ensures) at (rw (c10 .set-cache-top .ensures) at (rw (c6 .set-cache-count .ensures) at (c2 .set-marks .ensures))))); links = refl }
+    record {
+      answer = refl;
+      control = (rw (c16 .marked .ensures) at
+          (rw (c14 .set-task-place .ensures) at (rw (c10 .set-cache-top .ensures) at
+          (rw (c6 .set-cache-count .ensures) at (c2 .set-marks .ensures)))));
+      links = refl;
+    }
 
 pub finish-spec : {M : Type 1} → statement M
 finish-spec =

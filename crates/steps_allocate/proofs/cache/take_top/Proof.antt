@@ -15,7 +15,8 @@ read-requires : tie.Need-read-requires
 read-requires c κs = search (needs, block-link, passed)
 
 returns-2 : tie.Need-returns-2
-returns-2 c = done (a1Take-below _ _ _ _ _ _ _ (c .before .before .read .ensures) (search passed) (search failed)) refl refl refl
+returns-2 c =
+    done (a1Take-below _ _ _ _ _ _ _ (c .before .before .read .ensures) (search passed) (search failed)) refl refl refl
 
 cast-finish : tie.Need-cast-finish
 cast-finish c = search (needs, top-fits)
