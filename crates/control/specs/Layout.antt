@@ -1,153 +1,250 @@
--- The layout of the control memory, 8,192 bytes. Each column has its first byte, its width and how many numbers it has;
--- docs/LAYOUT.md gives each field's range and says what the gaps are kept for. The columns are numbered from 0, in the order of
--- the names below: Head, Anchor, Marks and so on.
--- Assumes nothing.
-use Prim.Native.Nat.{ℕ, _+_, _*_}
+-- The layout of the control memory. Each column is defined once, with its first byte, its width and how many numbers it
+-- has, and below it the field that stands in it; `layout` lists the columns in their order. A further column is its
+-- definition and a line of the list. docs/LAYOUT.md gives each field's range and says what the gaps are kept for.
+use Prim.Native.Nat.{ℕ, _+_, _*_, _/_}
 use mathlib.Core.Path.{_≡_}
 use mathlib.Core.List.{List, [], _∷_}
 use lib.ListN.{length}
+use Rattle.limits.specs.Limits.{CONTROL-BYTES, UNITS, TASKS, REGIONS, DESCRIPTORS, LISTS}
 use Rattle.fields.specs.Columns.{Column, Field, View, Write, view, written}
 
 abbrev column : ℕ → ℕ → ℕ → Column
 column start width count = record { start = start; width = width; count = count }
 
-abbrev field : ℕ → ℕ → Field
-field column index = record { column = column; index = index }
+abbrev field : Column → ℕ → Field
+field k index = record { column = k .start; index = index }
 
-abbrev pub layout : List Column
-layout =
-    column 0 8 18
-    ∷ column 256 8 64
-    ∷ column 768 8 128
-    ∷ column 4864 8 8
-    ∷ column 4928 8 8
-    ∷ column 4992 2 128
-    ∷ column 5248 2 128
-    ∷ column 5504 2 8
-    ∷ column 5520 2 8
-    ∷ column 5536 2 8
-    ∷ column 5552 2 8
-    ∷ column 5568 2 8
-    ∷ column 5584 2 8
-    ∷ column 5632 1 8
-    ∷ column 5640 1 8
-    ∷ column 5648 1 8
-    ∷ column 5656 1 8
-    ∷ column 5664 1 8
-    ∷ column 5672 1 8
-    ∷ column 5696 1 64
-    ∷ column 5760 1 16
-    ∷ column 5776 1 64
-    ∷ column 5840 1 64
-    ∷ column 5904 1 16
-    ∷ column 5944 1 1
-    ∷ column 5945 1 1
-    ∷ []
+-- how many words the marks of all units take, 64 in each
+abbrev pub MARK-WORDS : ℕ
+MARK-WORDS = UNITS / 64
 
--- the head word of a list: 0 to 15 the partial descriptors of each class, 16 the spare descriptors, 17 the spare regions
+-- the caches stand task by task, with so many places for the classes of a task
+abbrev pub STRIDE : ℕ
+STRIDE = 16
+
+abbrev pub CACHES : ℕ
+CACHES = STRIDE * TASKS
+
+-- the head word of a list: first those of the partial descriptors of each class, then the spare descriptors, then the
+-- spare regions
+abbrev pub heads : Column
+heads = column 0 8 LISTS
+
 abbrev pub Head : ℕ → Field
-Head = field 0
+Head = field heads
 
 -- a descriptor's anchor
+abbrev pub anchors : Column
+anchors = column 256 8 DESCRIPTORS
+
 abbrev pub Anchor : ℕ → Field
-Anchor = field 1
+Anchor = field anchors
 
 -- 64 marks, of the units 64 × k to 64 × k + 63
+abbrev pub markWords : Column
+markWords = column 768 8 MARK-WORDS
+
 abbrev pub Marks : ℕ → Field
-Marks = field 2
+Marks = field markWords
 
 -- the head word that a task noted
+abbrev pub taskHeads : Column
+taskHeads = column 4864 8 TASKS
+
 abbrev pub TaskHead : ℕ → Field
-TaskHead = field 3
+TaskHead = field taskHeads
 
 -- the anchor that a task noted
-abbrev pub TaskAnchor : ℕ → Field
-TaskAnchor = field 4
+abbrev pub taskAnchors : Column
+taskAnchors = column 4928 8 TASKS
 
--- of the 128 caches, the sixteen of task 0 first: the top block, its unit, 8,192 for none; and how many blocks it has
+abbrev pub TaskAnchor : ℕ → Field
+TaskAnchor = field taskAnchors
+
+-- the top block of a cache: its unit, 8,192 for none
+abbrev pub tops : Column
+tops = column 4992 2 CACHES
+
 abbrev pub Top : ℕ → Field
-Top = field 5
+Top = field tops
+
+-- how many blocks a cache has
+abbrev pub counts : Column
+counts = column 5248 2 CACHES
 
 abbrev pub Count : ℕ → Field
-Count = field 6
+Count = field counts
 
 -- those of the task t for the class c
 abbrev pub CacheTop : ℕ → ℕ → Field
-CacheTop t c = Top (16 * t + c)
+CacheTop t c = Top (STRIDE * t + c)
 
 abbrev pub CacheCount : ℕ → ℕ → Field
-CacheCount t c = Count (16 * t + c)
+CacheCount t c = Count (STRIDE * t + c)
 
 -- the unit of the block that a task frees
+abbrev pub taskUnits : Column
+taskUnits = column 5504 2 TASKS
+
 abbrev pub TaskUnit : ℕ → Field
-TaskUnit = field 7
+TaskUnit = field taskUnits
 
 -- the index of the block that a task moves or carves next
+abbrev pub taskIndexes : Column
+taskIndexes = column 5520 2 TASKS
+
 abbrev pub TaskIndex : ℕ → Field
-TaskIndex = field 8
+TaskIndex = field taskIndexes
 
 -- how many blocks of a taken chain are left to move
-abbrev pub TaskLeft : ℕ → Field
-TaskLeft = field 9
+abbrev pub taskLefts : Column
+taskLefts = column 5536 2 TASKS
 
--- the indexes of the first and the last block of a task's group, and how many it has
+abbrev pub TaskLeft : ℕ → Field
+TaskLeft = field taskLefts
+
+-- the index of the first block of a task's group
+abbrev pub groupFirsts : Column
+groupFirsts = column 5552 2 TASKS
+
 abbrev pub GroupFirst : ℕ → Field
-GroupFirst = field 10
+GroupFirst = field groupFirsts
+
+-- the index of its last block
+abbrev pub groupLasts : Column
+groupLasts = column 5568 2 TASKS
 
 abbrev pub GroupLast : ℕ → Field
-GroupLast = field 11
+GroupLast = field groupLasts
+
+-- how many blocks it has
+abbrev pub groupCounts : Column
+groupCounts = column 5584 2 TASKS
 
 abbrev pub GroupCount : ℕ → Field
-GroupCount = field 12
+GroupCount = field groupCounts
 
--- a task's place in the step list: 0 is idle, 1 to 33 are numbered in docs/LAYOUT.md, and `steps` of the stepped pool is their list
+-- a task's place in the step list: one of Places, and `steps` of the stepped pool is their list
+abbrev pub taskPlaces : Column
+taskPlaces = column 5632 1 TASKS
+
 abbrev pub TaskPlace : ℕ → Field
-TaskPlace = field 13
+TaskPlace = field taskPlaces
 
 -- the class of a task's request
+abbrev pub taskClasses : Column
+taskClasses = column 5640 1 TASKS
+
 abbrev pub TaskClass : ℕ → Field
-TaskClass = field 14
+TaskClass = field taskClasses
 
 -- the item's next that a pop noted: a number plus one, 0 for none
-abbrev pub TaskNext : ℕ → Field
-TaskNext = field 15
+abbrev pub taskNexts : Column
+taskNexts = column 5648 1 TASKS
 
--- the descriptor and the region that a task has in hand; in a free, the group's
+abbrev pub TaskNext : ℕ → Field
+TaskNext = field taskNexts
+
+-- the descriptor that a task has in hand; in a free, the group's
+abbrev pub taskDescriptors : Column
+taskDescriptors = column 5656 1 TASKS
+
 abbrev pub TaskDescriptor : ℕ → Field
-TaskDescriptor = field 16
+TaskDescriptor = field taskDescriptors
+
+-- the region that a task has in hand; in a free, the group's
+abbrev pub taskRegions : Column
+taskRegions = column 5664 1 TASKS
 
 abbrev pub TaskRegion : ℕ → Field
-TaskRegion = field 17
+TaskRegion = field taskRegions
 
 -- the state in which a free found the anchor that it exchanged
+abbrev pub taskStates : Column
+taskStates = column 5672 1 TASKS
+
 abbrev pub TaskState : ℕ → Field
-TaskState = field 18
+TaskState = field taskStates
 
 -- the next of a descriptor on its list: a number plus one, 0 for none
+abbrev pub descriptorNexts : Column
+descriptorNexts = column 5696 1 DESCRIPTORS
+
 abbrev pub DescriptorNext : ℕ → Field
-DescriptorNext = field 19
+DescriptorNext = field descriptorNexts
 
 -- the next of a spare region: a number plus one, 0 for none
-abbrev pub RegionNext : ℕ → Field
-RegionNext = field 20
+abbrev pub regionNexts : Column
+regionNexts = column 5760 1 REGIONS
 
--- a descriptor's region and class
+abbrev pub RegionNext : ℕ → Field
+RegionNext = field regionNexts
+
+-- a descriptor's region
+abbrev pub descriptorRegions : Column
+descriptorRegions = column 5776 1 DESCRIPTORS
+
 abbrev pub DescriptorRegion : ℕ → Field
-DescriptorRegion = field 21
+DescriptorRegion = field descriptorRegions
+
+-- a descriptor's class
+abbrev pub descriptorClasses : Column
+descriptorClasses = column 5840 1 DESCRIPTORS
 
 abbrev pub DescriptorClass : ℕ → Field
-DescriptorClass = field 22
+DescriptorClass = field descriptorClasses
 
 -- "A map entry for each region names its descriptor, or none": its number plus one, 0 for none
-abbrev pub Map : ℕ → Field
-Map = field 23
+abbrev pub mapEntries : Column
+mapEntries = column 5904 1 REGIONS
 
--- the started number of tasks, 0 while the pool is not started, and of regions
+abbrev pub Map : ℕ → Field
+Map = field mapEntries
+
+-- the started number of tasks, 0 while the pool is not started
+abbrev pub startedTasks : Column
+startedTasks = column 5944 1 1
+
 abbrev pub Tasks : Field
-Tasks = field 24 0
+Tasks = field startedTasks 0
+
+-- the started number of regions
+abbrev pub startedRegions : Column
+startedRegions = column 5945 1 1
 
 abbrev pub Regions : Field
-Regions = field 25 0
+Regions = field startedRegions 0
+
+-- the columns, in the order of their bytes
+abbrev pub layout : List Column
+layout =
+    heads
+    ∷ anchors
+    ∷ markWords
+    ∷ taskHeads
+    ∷ taskAnchors
+    ∷ tops
+    ∷ counts
+    ∷ taskUnits
+    ∷ taskIndexes
+    ∷ taskLefts
+    ∷ groupFirsts
+    ∷ groupLasts
+    ∷ groupCounts
+    ∷ taskPlaces
+    ∷ taskClasses
+    ∷ taskNexts
+    ∷ taskDescriptors
+    ∷ taskRegions
+    ∷ taskStates
+    ∷ descriptorNexts
+    ∷ regionNexts
+    ∷ descriptorRegions
+    ∷ descriptorClasses
+    ∷ mapEntries
+    ∷ startedTasks
+    ∷ startedRegions
+    ∷ []
 
 -- what stands in each field of a control memory
 abbrev pub seen : List ℕ → View
@@ -159,4 +256,4 @@ changed = written layout
 
 -- a control memory: every call tests its length first
 abbrev pub Control : List ℕ → Type 0
-Control b = length b ≡ 8192
+Control b = length b ≡ CONTROL-BYTES

@@ -1,5 +1,5 @@
 -- A layout whose columns are in order: two fields stand apart, so a write on the bytes is an assignment on the view.
--- Proved once for every table. Assumes nothing.
+-- Proved once for every table.
 use mathlib.Core.Path.{_≡_, refl, _∙_, sym, ap}
 use mathlib.Core.List.{List, [], _∷_}
 use mathlib.Core.Bool.{Bool, true, false, _&&_}
@@ -35,66 +35,89 @@ and-right true b h = h
 and-right false true h = refl
 and-right false false h = h
 
+-- the byte past the last of the column that starts at s
+abbrev endOf : List Column → ℕ → ℕ
+endOf table s = s + columnOf table s .count * columnOf table s .width
+
 module _ (size : ℕ) where
   -- the first column of a table in order, and the rest of it
   first : (k : Column) (ks : List Column) (from : ℕ) → inOrder size from (k ∷ ks) ≡ true → from ≤ k .start
   first k ks from o = leb-true _ _ (and-left (leb from (k .start)) (inOrder size (pastOf k) ks) o)
 
-  rest : (k : Column) (ks : List Column) (from : ℕ) → inOrder size from (k ∷ ks) ≡ true → inOrder size (pastOf k) ks ≡ true
+  rest : (k : Column) (ks : List Column) (from : ℕ) → inOrder size from (k ∷ ks) ≡ true
+      → inOrder size (pastOf k) ks ≡ true
   rest k ks from o = and-right (leb from (k .start)) (inOrder size (pastOf k) ks) o
 
   -- every column of a table in order starts at or past `from`
-  starts : (table : List Column) (from d : ℕ) → inOrder size from table ≡ true → d < length table → from ≤ columnOf table d .start
-  starts [] from d o l = omega arith
-  starts (k ∷ ks) from zero o l = first k ks from o
-  starts (k ∷ ks) from (suc d) o l = omega (arith, first k ks from o, starts ks (pastOf k) d (rest k ks from o) (omega arith))
+  starts : (table : List Column) (from s : ℕ) → inOrder size from table ≡ true → 0 < columnOf table s .count → from ≤ s
+  starts [] from s o h = omega arith
+  starts (k ∷ ks) from s o h = elim (ℕ-discrete (k .start) s) [
+    | yes e ↦ omega (arith, first k ks from o)
+    | no n ↦ omega (arith, first k ks from o, starts ks (pastOf k) s (rest k ks from o) (rw (ne-eqb _ _ n) at h))
+  ]
 
   -- of two columns the later starts at or past the end of the earlier
-  later : (table : List Column) (from c d : ℕ) → inOrder size from table ≡ true → c < d → d < length table → pastOf (columnOf table c) ≤ columnOf table d .start
-  later [] from c d o h l = omega arith
-  later (k ∷ ks) from zero zero o h l = omega arith
-  later (k ∷ ks) from zero (suc d) o h l = starts ks (pastOf k) d (rest k ks from o) (omega arith)
-  later (k ∷ ks) from (suc c) zero o h l = omega arith
-  later (k ∷ ks) from (suc c) (suc d) o h l = later ks (pastOf k) c d (rest k ks from o) (omega arith) (omega arith)
+  later : (table : List Column) (from s t : ℕ) → inOrder size from table ≡ true → s < t
+      → 0 < columnOf table s .count → 0 < columnOf table t .count → endOf table s ≤ t
+  later [] from s t o l hs ht = omega arith
+  later (k ∷ ks) from s t o l hs ht =
+      let r = rest k ks from o in
+      elim (ℕ-discrete (k .start) s) [
+        | yes e ↦ rw (eq-eqb _ _ e) (omega (arith, starts ks (pastOf k) t r (rw (ne-eqb (k .start) t (omega arith)) at ht)))
+        | no n ↦ elim (ℕ-discrete (k .start) t) [
+            | yes i ↦ absurd (omega (arith, starts ks (pastOf k) s r (rw (ne-eqb _ _ n) at hs)))
+            | no m ↦ rw (ne-eqb _ _ n) (later ks (pastOf k) s t r l (rw (ne-eqb _ _ n) at hs) (rw (ne-eqb _ _ m) at ht))
+          ]
+      ]
 
   -- every column ends within the size
   from-le : (table : List Column) (from : ℕ) → inOrder size from table ≡ true → from ≤ size
   from-le [] from o = leb-true _ _ o
   from-le (k ∷ ks) from o = omega (arith, first k ks from o, from-le ks (pastOf k) (rest k ks from o))
 
-  ends : (table : List Column) (from c : ℕ) → inOrder size from table ≡ true → c < length table → pastOf (columnOf table c) ≤ size
-  ends [] from c o l = omega arith
-  ends (k ∷ ks) from zero o l = from-le ks (pastOf k) (rest k ks from o)
-  ends (k ∷ ks) from (suc c) o l = ends ks (pastOf k) c (rest k ks from o) (omega arith)
+  ends : (table : List Column) (from s : ℕ) → inOrder size from table ≡ true → 0 < columnOf table s .count
+      → endOf table s ≤ size
+  ends [] from s o h = omega arith
+  ends (k ∷ ks) from s o h = elim (ℕ-discrete (k .start) s) [
+    | yes e ↦ rw (eq-eqb _ _ e) (omega (arith, from-le ks (pastOf k) (rest k ks from o)))
+    | no n ↦ rw (ne-eqb _ _ n) (ends ks (pastOf k) s (rest k ks from o) (rw (ne-eqb _ _ n) at h))
+  ]
 
 module _ (size : ℕ) (table : List Column) (o : inOrder size 0 table ≡ true) where
   -- a field lies in its column
-  within : (f : Field) → Has table f → at table f + width table f ≤ pastOf (columnOf table (f .column))
+  within : (f : Field) → Has table f → at table f + width table f ≤ endOf table (f .column)
   within f h =
       let k = columnOf table (f .column) in
       omega (arith, step-le (f .index) (k .count) (k .width) (h .index), times-is (k .count) (k .width))
+
+  -- a column that has a field has numbers
+  some : (f : Field) → Has table f → 0 < columnOf table (f .column) .count
+  some f h = omega (arith, h .index)
 
   -- two different fields of the table do not overlap
   pub apart : (f g : Field) → Has table f → Has table g → (f .column ≡ g .column → f .index ≡ g .index → ⊥)
       → at table g < at table f + width table f → at table g + width table g ≤ at table f
   apart f g hf hg n l = by-column (ℕ-discrete (f .column) (g .column)) (decLt (f .column) (g .column))
     where
-      in-row : f .column ≡ g .column → Dec (f .index ≡ g .index) → Dec (f .index < g .index) → at table g + width table g ≤ at table f
+      in-row : f .column ≡ g .column → Dec (f .index ≡ g .index) → Dec (f .index < g .index)
+          → at table g + width table g ≤ at table f
       in-row e (yes p) d = absurd (n e p)
       in-row e (no p) d =
           let w = width table f in
-          let es = ap (λ (c : ℕ). columnOf table c .start) e in
-          let ew = ap (λ (c : ℕ). columnOf table c .width) e in
-          let et = ap (λ (c : ℕ). times (g .index) (columnOf table c .width)) e in
+          let ew = ap (λ (s : ℕ). columnOf table s .width) e in
+          let et = ap (λ (s : ℕ). times (g .index) (columnOf table s .width)) e in
           elim d as (λ (x : Dec (f .index < g .index)). at table g + width table g ≤ at table f) [
             | yes q ↦ absurd (omega (arith, step-le (f .index) (g .index) w q))
             | no q ↦ omega (arith, step-le (g .index) (f .index) w (omega arith))
           ]
 
-      by-column : Dec (f .column ≡ g .column) → Dec (f .column < g .column) → at table g + width table g ≤ at table f
+      by-column : Dec (f .column ≡ g .column) → Dec (f .column < g .column)
+          → at table g + width table g ≤ at table f
       by-column (yes e) d = in-row e (ℕ-discrete (f .index) (g .index)) (decLt (f .index) (g .index))
-      by-column (no p) (yes q) = absurd (omega (arith, within f hf, later size table 0 (f .column) (g .column) o q (hg .column)))
-      by-column (no p) (no q) = omega (arith, within g hg, later size table 0 (g .column) (f .column) o (omega arith) (hf .column))
+      by-column (no p) (yes q) =
+          absurd (omega (arith, within f hf, later size table 0 (f .column) (g .column) o q (some f hf) (some g hg)))
+      by-column (no p) (no q) =
+          omega (arith, within g hg, later size table 0 (g .column) (f .column) o (omega arith) (some g hg) (some f hf))
 
   -- a write leaves every other field
   pub view-other : (b : List ℕ) (f g : Field) (x : ℕ) → Has table f → Has table g → (f .column ≡ g .column → f .index ≡ g .index → ⊥)
@@ -103,7 +126,9 @@ module _ (size : ℕ) (table : List Column) (o : inOrder size 0 table ≡ true) 
 
   -- a field holds what was written to it
   pub view-same : (b : List ℕ) (f : Field) (x : ℕ) → length b ≡ size → Has table f → x < 256 ^ width table f → view table (write table (f := x) b) f ≡ x
-  view-same b f x e hf k = getLE-same b (at table f) (width table f) x (omega (arith, within f hf, ends size table 0 (f .column) o (hf .column))) k
+  view-same b f x e hf k =
+      getLE-same b (at table f) (width table f) x
+      (omega (arith, within f hf, ends size table 0 (f .column) o (some f hf))) k
 
   -- the view of a write is the view with the field assigned
   pub view-write : (b : List ℕ) (f g : Field) (x : ℕ) → length b ≡ size → Has table f → Has table g → x < 256 ^ width table f

@@ -2,7 +2,6 @@
 use Prim.Native.Nat.{ℕ, zero, suc, _+_, _*_, _^_, _<_}
 use mathlib.Core.Bool.{Bool, cond, _&&_}
 use mathlib.Core.List.{List, [], _∷_}
-use lib.ListN.{length, getD}
 use lib.Dec.{leb, eqb}
 use Rattle.fields.specs.Little.{getLE, setLE}
 
@@ -27,7 +26,7 @@ abbrev pub inOrder : ℕ → ℕ → List Column → Bool
 inOrder size from [] = leb from size
 inOrder size from (k ∷ ks) = leb from (k .start) && inOrder size (pastOf k) ks
 
--- a field: one number of a column
+-- a field: one number of a column, which is named by its first byte
 pub record Field : Type 0 where
   pub column : ℕ
   pub index : ℕ
@@ -50,21 +49,22 @@ abbrev pub assigned : List Write → View → View
 assigned [] v = v
 assigned (w ∷ ws) v = assigned ws (assign w v)
 
+-- the column of a table that starts at the byte s; where none does, one without numbers
+abbrev pub columnOf : List Column → ℕ → Column
+columnOf [] s = record { start = s; width = 0; count = 0 }
+columnOf (k ∷ ks) s = cond (eqb (k .start) s) k (columnOf ks s)
+
 module _ (table : List Column) where
-  abbrev pub columnOf : ℕ → Column
-  columnOf c = getD table c (record { start = 0; width = 0; count = 0 })
+  abbrev pub width : Field → ℕ
+  width f = columnOf table (f .column) .width
 
   -- a field's first byte
   abbrev pub at : Field → ℕ
-  at f = columnOf (f .column) .start + times (f .index) (columnOf (f .column) .width)
-
-  abbrev pub width : Field → ℕ
-  width f = columnOf (f .column) .width
+  at f = f .column + times (f .index) (width f)
 
   -- the table has the field
   pub record Has (f : Field) : Type 0 where
-    pub column : f .column < length table
-    pub index : f .index < columnOf (f .column) .count
+    pub index : f .index < columnOf table (f .column) .count
 
   -- the view of a memory
   abbrev pub view : List ℕ → View
