@@ -10,8 +10,8 @@ use borrow.Author.Tests.{eq-eqb, ne-eqb}
 use lib.Dec.{eqb}
 use lib.ListN.{getD, replicate}
 use Rattle.fields.specs.Little.{getLE}
-use Rattle.fields.specs.Columns.{Field, View, Write, _:=_, assign, assigned, Has, Sound}
-use Rattle.control.specs.Layout.{layout}
+use Rattle.fields.specs.Columns.{Column, Field, View, Write, _:=_, assign, assigned, width, Has, Sound}
+use Rattle.control.specs.Layout.{layout, field}
 use Rattle.stepped.specs.Start.{fill}
 
 -- ---- zeros
@@ -38,35 +38,37 @@ pub assigned-same : (ws : List Write) (v u : View) (g : Field) → v g ≡ u g �
 assigned-same [] v u g e = e
 assigned-same ((f := x) ∷ ws) v u g e = assigned-same ws (assign (f := x) v) (assign (f := x) u) g (rw e)
 
-abbrev at : ℕ → ℕ → Field
-at c i = record { column = c; index = i }
-
 -- the fields past the first n of a column that are filled are left
-pub past-fill : (c : ℕ) (x : ℕ → ℕ) (n : ℕ) (v : View) (j : ℕ) → n ≤ j → assigned (fill (at c) x n) v (at c j) ≡ v (at c j)
-past-fill c x zero v j l = refl
-past-fill c x (suc n) v j l =
-    past-fill c x n (assign (at c n := x n) v) j (omega arith) ∙ rw (eq-eqb c c refl, ne-eqb n j (omega arith))
+pub past-fill : (k : Column) (x : ℕ → ℕ) (n : ℕ) (v : View) (j : ℕ) → n ≤ j
+    → assigned (fill (field k) x n) v (field k j) ≡ v (field k j)
+past-fill k x zero v j l = refl
+past-fill k x (suc n) v j l =
+    past-fill k x n (assign (field k n := x n) v) j (omega arith)
+    ∙ rw (eq-eqb (k .start) (k .start) refl, ne-eqb n j (omega arith))
 
 -- and those are filled
-pub filled : (c : ℕ) (x : ℕ → ℕ) (n : ℕ) (v : View) (j : ℕ) → j < n → assigned (fill (at c) x n) v (at c j) ≡ x j
-filled c x zero v j l = absurd (omega arith)
-filled c x (suc n) v j l = elim (ℕ-discrete n j) [
-  | yes e ↦ past-fill c x n (assign (at c n := x n) v) j (omega arith)
-      ∙ rw (eq-eqb c c refl, eq-eqb n j e) (ap x e)
-  | no e ↦ filled c x n (assign (at c n := x n) v) j (omega arith)
+pub filled : (k : Column) (x : ℕ → ℕ) (n : ℕ) (v : View) (j : ℕ) → j < n
+    → assigned (fill (field k) x n) v (field k j) ≡ x j
+filled k x zero v j l = absurd (omega arith)
+filled k x (suc n) v j l = elim (ℕ-discrete n j) [
+  | yes e ↦ past-fill k x n (assign (field k n := x n) v) j (omega arith)
+      ∙ rw (eq-eqb (k .start) (k .start) refl, eq-eqb n j e) (ap x e)
+  | no e ↦ filled k x n (assign (field k n := x n) v) j (omega arith)
 ]
 
 -- the other columns are left
-pub other-fill : (c : ℕ) (x : ℕ → ℕ) (n : ℕ) (v : View) (e j : ℕ) → eqb c e ≡ false → assigned (fill (at c) x n) v (at e j) ≡ v (at e j)
-other-fill c x zero v e j h = refl
-other-fill c x (suc n) v e j h = other-fill c x n (assign (at c n := x n) v) e j h ∙ rw h
+pub other-fill : (k : Column) (x : ℕ → ℕ) (n : ℕ) (v : View) (e : Column) (j : ℕ) → eqb (k .start) (e .start) ≡ false
+    → assigned (fill (field k) x n) v (field e j) ≡ v (field e j)
+other-fill k x zero v e j h = refl
+other-fill k x (suc n) v e j h = other-fill k x n (assign (field k n := x n) v) e j h ∙ rw h
 
 -- a filled column fits, if each value does
-pub fill-sound : (c : ℕ) (x : ℕ → ℕ) (n k width : ℕ) → ((i x : ℕ) → i < k → x < width → Has layout (at c i) × (x < 256 ^ Rattle.fields.specs.Columns.width layout (at c i)))
-    → ((i : ℕ) → i < n → x i < width) → n ≤ k → Sound layout (fill (at c) x n)
-fill-sound c x zero k width h f l = tt
-fill-sound c x (suc n) k width h f l =
-    (h n (x n) (omega arith) (f n (omega arith)), fill-sound c x n k width h (λ i j. f i (omega arith)) (omega arith))
+pub fill-sound : (k : Column) (x : ℕ → ℕ) (n most bound : ℕ)
+    → ((i x : ℕ) → i < most → x < bound → Has layout (field k i) × (x < 256 ^ width layout (field k i)))
+    → ((i : ℕ) → i < n → x i < bound) → n ≤ most → Sound layout (fill (field k) x n)
+fill-sound k x zero most bound h f l = tt
+fill-sound k x (suc n) most bound h f l =
+    (h n (x n) (omega arith) (f n (omega arith)), fill-sound k x n most bound h (λ i j. f i (omega arith)) (omega arith))
 
 -- writes that fit, after writes that fit
 pub append-sound : (ws us : List Write) → Sound layout ws → Sound layout us → Sound layout (ws ++ us)

@@ -12,13 +12,14 @@ use lib.ListN.{length}
 use Rattle.rows.specs.Branch.{if}
 use Rattle.rows.specs.Linked.{Linked, ends, links}
 use Rattle.rows.proofs.Branch.{if-yes}
-use Rattle.fields.specs.Columns.{Field, View, _:=_, assigned}
+use Rattle.fields.specs.Columns.{Column, Field, View, _:=_, assigned}
 use Rattle.words.specs.Head.{itemOf, tagOf}
 use Rattle.words.specs.Mark.{bitAt}
 use Rattle.plain.specs.State.{SPARES, REGIONS}
 use Rattle.plain.specs.Steps.{top}
 use Rattle.plain.specs.Calls.{rising, startMem}
-use Rattle.control.specs.Layout.{Head, Tasks, Regions, DescriptorNext, RegionNext, Top}
+use Rattle.control.specs.Layout.{field, Head, Tasks, Regions, DescriptorNext, RegionNext, Top}
+use Rattle.control.specs.Layout
 use Rattle.stepped.specs.Start.{fill, nextUp, startWrites}
 use Rattle.agreement.specs.Memory.{memoryOf}
 use Rattle.agreement.specs.Relation.{Related, r-idle}
@@ -27,9 +28,6 @@ use Rattle.agreement.proofs.Images.{assigned-append, filled, other-fill
 -- the view of a memory of zeros
 abbrev pub zeroed : View
 zeroed g = 0
-
-abbrev at : ℕ → ℕ → Field
-at c i = record { column = c; index = i }
 
 module _ (tasks regions : ℕ) where
   -- the fields after a start, in the order of the writes
@@ -53,32 +51,36 @@ module _ (tasks regions : ℕ) where
       ∙ assigned-append (fill RegionNext (nextUp regions) regions) (fill Top (λ i. 8192) 128) second g
 
   -- a column that is not filled
-  unfilled : (e j : ℕ) → eqb 5 e ≡ false → eqb 20 e ≡ false → eqb 19 e ≡ false → startView (at e j) ≡ first (at e j)
+  unfilled : (e : Column) (j : ℕ) → eqb (Layout.tops .start) (e .start) ≡ false
+      → eqb (Layout.regionNexts .start) (e .start) ≡ false → eqb (Layout.descriptorNexts .start) (e .start) ≡ false
+      → startView (field e j) ≡ first (field e j)
   unfilled e j p q r =
-      other-fill 5 (λ i. 8192) 128 third e j p ∙ other-fill 20 (nextUp regions) regions second e j q
-      ∙ other-fill 19 (nextUp 64) 64 first e j r
+      other-fill Layout.tops (λ i. 8192) 128 third e j p ∙ other-fill Layout.regionNexts (nextUp regions) regions second e j q
+      ∙ other-fill Layout.descriptorNexts (nextUp 64) 64 first e j r
 
   -- ---- the columns
 
   pub at-tasks : startView Tasks ≡ tasks
-  at-tasks = unfilled 24 0 refl refl refl
+  at-tasks = unfilled Layout.startedTasks 0 refl refl refl
 
   pub at-regions : startView Regions ≡ regions
-  at-regions = unfilled 25 0 refl refl refl
+  at-regions = unfilled Layout.startedRegions 0 refl refl refl
 
   at-head : (ℓ : ℕ) → startView (Head ℓ) ≡ cond (eqb 17 ℓ) 1 (cond (eqb 16 ℓ) 1 0)
-  at-head ℓ = unfilled 0 ℓ refl refl refl
+  at-head ℓ = unfilled Layout.heads ℓ refl refl refl
 
   at-next : (d : ℕ) → d < 64 → startView (DescriptorNext d) ≡ nextUp 64 d
   at-next d l =
-      other-fill 5 (λ i. 8192) 128 third 19 d refl ∙ other-fill 20 (nextUp regions) regions second 19 d refl
-      ∙ filled 19 (nextUp 64) 64 first d l
+      other-fill Layout.tops (λ i. 8192) 128 third Layout.descriptorNexts d refl
+      ∙ other-fill Layout.regionNexts (nextUp regions) regions second Layout.descriptorNexts d refl
+      ∙ filled Layout.descriptorNexts (nextUp 64) 64 first d l
 
   at-region-next : (r : ℕ) → r < regions → startView (RegionNext r) ≡ nextUp regions r
-  at-region-next r l = other-fill 5 (λ i. 8192) 128 third 20 r refl ∙ filled 20 (nextUp regions) regions second r l
+  at-region-next r l =
+      other-fill Layout.tops (λ i. 8192) 128 third Layout.regionNexts r refl ∙ filled Layout.regionNexts (nextUp regions) regions second r l
 
   at-top : (i : ℕ) → i < 128 → startView (Top i) ≡ 8192
-  at-top i l = filled 5 (λ i. 8192) 128 third i l
+  at-top i l = filled Layout.tops (λ i. 8192) 128 third i l
 
 -- ---- the lists
 
@@ -144,27 +146,27 @@ module _ (tasks regions : ℕ) (few : 1 ≤ regions) where
       };
       descriptors = record {
         each = λ d l. record {
-          state = ap (λ (x : ℕ). x % 4) (unfilled tasks regions 1 d refl refl refl);
-          region = unfilled tasks regions 21 d refl refl refl;
-          class = unfilled tasks regions 22 d refl refl refl;
+          state = ap (λ (x : ℕ). x % 4) (unfilled tasks regions Layout.anchors d refl refl refl);
+          region = unfilled tasks regions Layout.descriptorRegions d refl refl refl;
+          class = unfilled tasks regions Layout.descriptorClasses d refl refl refl;
           chain = tt;
         };
-        avails = λ d l. rw (unfilled tasks regions 1 d refl refl refl) (omega arith);
-        chainCounts = λ d l. rw (unfilled tasks regions 1 d refl refl refl) (omega arith);
-        regionNumbers = λ d l. rw (unfilled tasks regions 21 d refl refl refl) few;
-        classNumbers = λ d l. rw (unfilled tasks regions 22 d refl refl refl) (omega arith);
+        avails = λ d l. rw (unfilled tasks regions Layout.anchors d refl refl refl) (omega arith);
+        chainCounts = λ d l. rw (unfilled tasks regions Layout.anchors d refl refl refl) (omega arith);
+        regionNumbers = λ d l. rw (unfilled tasks regions Layout.descriptorRegions d refl refl refl) few;
+        classNumbers = λ d l. rw (unfilled tasks regions Layout.descriptorClasses d refl refl refl) (omega arith);
       };
       entries = record {
-        maps = λ r l. unfilled tasks regions 23 r refl refl refl;
-        marks = λ u l. ap (λ (x : ℕ). bitAt x (u % 64)) (unfilled tasks regions 2 (u / 64) refl refl refl) ∙ no-bit (u % 64);
+        maps = λ r l. unfilled tasks regions Layout.mapEntries r refl refl refl;
+        marks = λ u l. ap (λ (x : ℕ). bitAt x (u % 64)) (unfilled tasks regions Layout.markWords (u / 64) refl refl refl) ∙ no-bit (u % 64);
       };
       length = e;
     };
     slots = λ t l. record {
-      fits = rw (unfilled tasks regions 14 t refl refl refl) (omega arith);
-      place = r-idle (unfilled tasks regions 13 t refl refl refl);
+      fits = rw (unfilled tasks regions Layout.taskClasses t refl refl refl) (omega arith);
+      place = r-idle (unfilled tasks regions Layout.taskPlaces t refl refl refl);
       tops = λ c i. ends (if-yes (decLt c 16) _ _ i ∙ at-top tasks regions (16 * t + c) (omega arith));
-      counts = λ c i. if-yes (decLt c 16) _ _ i ∙ unfilled tasks regions 6 (16 * t + c) refl refl refl;
+      counts = λ c i. if-yes (decLt c 16) _ _ i ∙ unfilled tasks regions Layout.counts (16 * t + c) refl refl refl;
     };
   }
     where

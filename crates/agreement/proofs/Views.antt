@@ -7,7 +7,7 @@ use native.Mathlib.Decide.{decLt}
 use lib.ListN.{length}
 use Rattle.rows.specs.Branch.{if}
 use Rattle.rows.proofs.Linked.{linked-frame}
-use Rattle.fields.specs.Columns.{Field, View, Has}
+use Rattle.fields.specs.Columns.{Column, Field, View, Has}
 use Rattle.words.specs.Head.{headOf}
 use Rattle.words.specs.Anchor.{anchorOf}
 use Rattle.words.specs.declared.anchor.Anchor.{Anchor}
@@ -17,7 +17,7 @@ use Rattle.plain.specs.Invariant.{Invariant}
 use Rattle.plain.proofs.Places.{taskOf}
 use Rattle.plain.proofs.Turn.{Turn}
 use Rattle.control.specs.Layout
-use Rattle.control.specs.Layout.{layout}
+use Rattle.control.specs.Layout.{layout, field}
 use Rattle.agreement.specs.Memory.{Slot, byClass, slotOf, memoryOf}
 use Rattle.agreement.specs.Relation.{DescriptorRelated, SlotRelated, Core, Related}
 use Rattle.agreement.proofs.Frames.{Kept, kept-slot}
@@ -25,12 +25,11 @@ use Rattle.agreement.proofs.Tops.{listed, listed-region, descriptor-in-
 
 module _ {v v′ : View} (same : (g : Field) → Has layout g → v′ g ≡ v g) where
   -- a column of the caches
-  caches-same : (c t : ℕ) → t < 8 → ((i : ℕ) → i < 128 → Has layout (record { column = c; index = i }))
-      → byClass (λ (i : ℕ). v′ (record { column = c; index = i })) t ≡ byClass (λ (i : ℕ). v (record { column = c; index = i })) t
-  caches-same c t l has = fun-ext (λ e. go e (decLt e 16))
+  caches-same : (k : Column) (t : ℕ) → t < 8 → ((i : ℕ) → i < 128 → Has layout (field k i))
+      → byClass (λ (i : ℕ). v′ (field k i)) t ≡ byClass (λ (i : ℕ). v (field k i)) t
+  caches-same k t l has = fun-ext (λ e. go e (decLt e 16))
     where
-      go : (e : ℕ) (p : Dec (e < 16))
-          → if p (v′ (record { column = c; index = 16 * t + e })) 0 ≡ if p (v (record { column = c; index = 16 * t + e })) 0
+      go : (e : ℕ) (p : Dec (e < 16)) → if p (v′ (field k (16 * t + e))) 0 ≡ if p (v (field k (16 * t + e))) 0
       go e (yes p) = same _ (has (16 * t + e) (omega arith))
       go e (no p) = refl
 
@@ -58,8 +57,8 @@ module _ {v v′ : View} (same : (g : Field) → Has layout g → v′ g ≡ v g
       count = same (Layout.GroupCount t) (omega arith) i;
     };
     caches = record {
-      top = caches-same 5 t l (λ j h. omega arith) i;
-      count = caches-same 6 t l (λ j h. omega arith) i;
+      top = caches-same Layout.tops t l (λ j h. omega arith) i;
+      count = caches-same Layout.counts t l (λ j h. omega arith) i;
     };
   }
 

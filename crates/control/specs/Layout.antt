@@ -11,7 +11,8 @@ use Rattle.fields.specs.Columns.{Column, Field, View, Write, view, written}
 abbrev column : ℕ → ℕ → ℕ → Column
 column start width count = record { start = start; width = width; count = count }
 
-abbrev field : Column → ℕ → Field
+-- the number of a column at an index
+abbrev pub field : Column → ℕ → Field
 field k index = record { column = k .start; index = index }
 
 -- how many words the marks of all units take, 64 in each
