@@ -65,9 +65,9 @@ module _ (size : ℕ) where
       elim (ℕ-discrete (k .start) s) [
         | yes e ↦ rw (eq-eqb _ _ e) (omega (arith, starts ks (pastOf k) t r (rw (ne-eqb (k .start) t (omega arith)) at ht)))
         | no n ↦ elim (ℕ-discrete (k .start) t) [
-            | yes i ↦ absurd (omega (arith, starts ks (pastOf k) s r (rw (ne-eqb _ _ n) at hs)))
-            | no m ↦ rw (ne-eqb _ _ n) (later ks (pastOf k) s t r l (rw (ne-eqb _ _ n) at hs) (rw (ne-eqb _ _ m) at ht))
-          ]
+          | yes i ↦ absurd (omega (arith, starts ks (pastOf k) s r (rw (ne-eqb _ _ n) at hs)))
+          | no m ↦ rw (ne-eqb _ _ n) (later ks (pastOf k) s t r l (rw (ne-eqb _ _ n) at hs) (rw (ne-eqb _ _ m) at ht))
+        ]
       ]
 
   -- every column ends within the size
