@@ -19,7 +19,7 @@ use Rattle.plain.specs.Calls as Plain
 use Rattle.plain.specs.Invariant.{Good}
 use Rattle.plain.proofs.Starts.{start-inv}
 use Rattle.control.specs.Layout.{layout, Tasks, Regions, seen, DescriptorNext, RegionNext, Top}
-use Rattle.control.specs.Layout.{descriptorNexts, regionNexts, tops}
+use Rattle.control.specs.Layout.{descriptorNexts, regionNexts, cacheTops}
 use Rattle.control.proofs.Fields.{seen-changed}
 use Rattle.stepped.specs.Outcome.{effect, refuse}
 use Rattle.stepped.specs.Ranges.{oneTo}
@@ -49,7 +49,7 @@ module _ (tasks regions : ℕ) (few : tasks ≤ 8) (small : regions ≤ 16) wher
               (fill-sound descriptorNexts (nextUp 64) 64 64 256 (λ i x l k. omega arith) (λ i l. omega (arith, next-max 64 i l)) (omega arith))
               (append-sound (fill RegionNext (nextUp regions) regions) (fill Top (λ i. 8192) 128)
               (fill-sound regionNexts (nextUp regions) regions 16 256 (λ i x l k. omega arith) (λ i l. omega (arith, next-max regions i l)) small)
-              (fill-sound tops (λ i. 8192) 128 128 65536 (λ i x l k. omega arith) (λ i l. omega arith) (omega arith))),
+              (fill-sound cacheTops (λ i. 8192) 128 128 65536 (λ i x l k. omega arith) (λ i l. omega arith) (omega arith))),
         ),
       ),
     ),

@@ -51,11 +51,11 @@ module _ (tasks regions : ℕ) where
       ∙ assigned-append (fill RegionNext (nextUp regions) regions) (fill Top (λ i. 8192) 128) second g
 
   -- a column that is not filled
-  unfilled : (e : Column) (j : ℕ) → eqb (Layout.tops .start) (e .start) ≡ false
+  unfilled : (e : Column) (j : ℕ) → eqb (Layout.cacheTops .start) (e .start) ≡ false
       → eqb (Layout.regionNexts .start) (e .start) ≡ false → eqb (Layout.descriptorNexts .start) (e .start) ≡ false
       → startView (field e j) ≡ first (field e j)
   unfilled e j p q r =
-      other-fill Layout.tops (λ i. 8192) 128 third e j p ∙ other-fill Layout.regionNexts (nextUp regions) regions second e j q
+      other-fill Layout.cacheTops (λ i. 8192) 128 third e j p ∙ other-fill Layout.regionNexts (nextUp regions) regions second e j q
       ∙ other-fill Layout.descriptorNexts (nextUp 64) 64 first e j r
 
   -- ---- the columns
@@ -71,16 +71,16 @@ module _ (tasks regions : ℕ) where
 
   at-next : (d : ℕ) → d < 64 → startView (DescriptorNext d) ≡ nextUp 64 d
   at-next d l =
-      other-fill Layout.tops (λ i. 8192) 128 third Layout.descriptorNexts d refl
+      other-fill Layout.cacheTops (λ i. 8192) 128 third Layout.descriptorNexts d refl
       ∙ other-fill Layout.regionNexts (nextUp regions) regions second Layout.descriptorNexts d refl
       ∙ filled Layout.descriptorNexts (nextUp 64) 64 first d l
 
   at-region-next : (r : ℕ) → r < regions → startView (RegionNext r) ≡ nextUp regions r
   at-region-next r l =
-      other-fill Layout.tops (λ i. 8192) 128 third Layout.regionNexts r refl ∙ filled Layout.regionNexts (nextUp regions) regions second r l
+      other-fill Layout.cacheTops (λ i. 8192) 128 third Layout.regionNexts r refl ∙ filled Layout.regionNexts (nextUp regions) regions second r l
 
   at-top : (i : ℕ) → i < 128 → startView (Top i) ≡ 8192
-  at-top i l = filled Layout.tops (λ i. 8192) 128 third i l
+  at-top i l = filled Layout.cacheTops (λ i. 8192) 128 third i l
 
 -- ---- the lists
 
@@ -158,7 +158,7 @@ module _ (tasks regions : ℕ) (few : 1 ≤ regions) where
       };
       entries = record {
         maps = λ r l. unfilled tasks regions Layout.mapEntries r refl refl refl;
-        marks = λ u l. ap (λ (x : ℕ). bitAt x (u % 64)) (unfilled tasks regions Layout.markWords (u / 64) refl refl refl) ∙ no-bit (u % 64);
+        marks = λ u l. ap (λ (x : ℕ). bitAt x (u % 64)) (unfilled tasks regions Layout.unitMarks (u / 64) refl refl refl) ∙ no-bit (u % 64);
       };
       length = e;
     };
@@ -166,7 +166,7 @@ module _ (tasks regions : ℕ) (few : 1 ≤ regions) where
       fits = rw (unfilled tasks regions Layout.taskClasses t refl refl refl) (omega arith);
       place = r-idle (unfilled tasks regions Layout.taskPlaces t refl refl refl);
       tops = λ c i. ends (if-yes (decLt c 16) _ _ i ∙ at-top tasks regions (16 * t + c) (omega arith));
-      counts = λ c i. if-yes (decLt c 16) _ _ i ∙ unfilled tasks regions Layout.counts (16 * t + c) refl refl refl;
+      counts = λ c i. if-yes (decLt c 16) _ _ i ∙ unfilled tasks regions Layout.cacheCounts (16 * t + c) refl refl refl;
     };
   }
     where

@@ -57,8 +57,8 @@ module _ {v v′ : View} (same : (g : Field) → Has layout g → v′ g ≡ v g
       count = same (Layout.GroupCount t) (omega arith) i;
     };
     caches = record {
-      top = caches-same Layout.tops t l (λ j h. omega arith) i;
-      count = caches-same Layout.counts t l (λ j h. omega arith) i;
+      top = caches-same Layout.cacheTops t l (λ j h. omega arith) i;
+      count = caches-same Layout.cacheCounts t l (λ j h. omega arith) i;
     };
   }
 

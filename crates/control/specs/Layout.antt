@@ -42,11 +42,11 @@ abbrev pub Anchor : ℕ → Field
 Anchor = field anchors
 
 -- 64 marks, of the units 64 × k to 64 × k + 63
-abbrev pub markWords : Column
-markWords = column 768 8 MARK-WORDS
+abbrev pub unitMarks : Column
+unitMarks = column 768 8 MARK-WORDS
 
 abbrev pub Marks : ℕ → Field
-Marks = field markWords
+Marks = field unitMarks
 
 -- the head word that a task noted
 abbrev pub taskHeads : Column
@@ -63,18 +63,18 @@ abbrev pub TaskAnchor : ℕ → Field
 TaskAnchor = field taskAnchors
 
 -- the top block of a cache: its unit, 8,192 for none
-abbrev pub tops : Column
-tops = column 4992 2 CACHES
+abbrev pub cacheTops : Column
+cacheTops = column 4992 2 CACHES
 
 abbrev pub Top : ℕ → Field
-Top = field tops
+Top = field cacheTops
 
 -- how many blocks a cache has
-abbrev pub counts : Column
-counts = column 5248 2 CACHES
+abbrev pub cacheCounts : Column
+cacheCounts = column 5248 2 CACHES
 
 abbrev pub Count : ℕ → Field
-Count = field counts
+Count = field cacheCounts
 
 -- those of the task t for the class c
 abbrev pub CacheTop : ℕ → ℕ → Field
@@ -221,11 +221,11 @@ abbrev pub layout : List Column
 layout =
     heads
     ∷ anchors
-    ∷ markWords
+    ∷ unitMarks
     ∷ taskHeads
     ∷ taskAnchors
-    ∷ tops
-    ∷ counts
+    ∷ cacheTops
+    ∷ cacheCounts
     ∷ taskUnits
     ∷ taskIndexes
     ∷ taskLefts

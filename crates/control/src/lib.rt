@@ -1,6 +1,7 @@
 // The control memory: its fields, what a call answers, and the reasons of the list moves.
 pub mod answer;
 pub mod caches;
+pub mod layout;
 pub mod lists;
 pub mod moves;
 pub mod notes;

@@ -1,4 +1,5 @@
 // The started numbers of tasks and regions. The callers are the tests of each call, and the start.
+use crate::layout;
 ghost use mathlib.Core.Path.{_≡_};
 ghost use mathlib.Core.List.{[], _∷_};
 ghost use Rattle.fields.specs.Columns.{_:=_};
@@ -9,14 +10,14 @@ pub fn tasks(c: &[u8]) -> u8
     requires { ⌜ Control (now c) ⌝ }
     ensures { λ r. ⌜ r ≡ seen (now (c .entry)) Tasks ⌝ }
 {
-    fields::load8(c, 5944)
+    fields::load8(c, layout::STARTED_TASKS)
 }
 
 pub fn set_tasks(c: &mut [u8], value: u8)
     requires { ⌜ Control (now c) ⌝ }
     ensures { λ r. ⌜ now (c .exit) ≡ changed (Tasks := value ∷ []) (now (c .entry)) ⌝ }
 {
-    fields::store8(c, 5944, value);
+    fields::store8(c, layout::STARTED_TASKS, value);
 }
 
 // The started number of regions.
@@ -24,12 +25,12 @@ pub fn regions(c: &[u8]) -> u8
     requires { ⌜ Control (now c) ⌝ }
     ensures { λ r. ⌜ r ≡ seen (now (c .entry)) Regions ⌝ }
 {
-    fields::load8(c, 5945)
+    fields::load8(c, layout::STARTED_REGIONS)
 }
 
 pub fn set_regions(c: &mut [u8], value: u8)
     requires { ⌜ Control (now c) ⌝ }
     ensures { λ r. ⌜ now (c .exit) ≡ changed (Regions := value ∷ []) (now (c .entry)) ⌝ }
 {
-    fields::store8(c, 5945, value);
+    fields::store8(c, layout::STARTED_REGIONS, value);
 }
