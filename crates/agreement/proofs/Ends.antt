@@ -30,10 +30,10 @@ use Rattle.stepped.specs.Lists as Lists
 use Rattle.stepped.specs.Lists.{pushPlace}
 use Rattle.stepped.specs.Steps as Steps
 use Rattle.stepped.specs.Calls as Calls
-use Rattle.agreement.specs.Ends.{WritesNothing, Leaves, oneOf, testRefusals, allocateRefusals, freeRefusals, stepRefusals, Begins, Goes}
+use Rattle.agreement.specs.Ends.{WritesNothing, Leaves, oneOf, testRefusals, allocateRefusals, freeRefusals, placeRefusals, stepRefusals, Begins, Goes}
 use Rattle.stepped.specs.Calls.{Tested}
 use Rattle.agreement.specs.Ends.{StartEnds, BeginEnds, StepEnds, FindsEmpty, WinsPush, InPush, placeAfter, IsEnd, Begun}
-use Rattle.agreement.proofs.Ways.{branch, accepted-no, more, tests, passed, Cause, Ending, refused, going, ended, sent, wrong, no-step}
+use Rattle.agreement.proofs.Ways.{branch, accepted-no, more, tests, passed, Cause, Ending, CallEnding, refused, going, ended, at-call, sent}
 use Rattle.agreement.proofs.StepWays.{step-at}
 
 -- no start and no beginning ends a request
@@ -135,29 +135,36 @@ start-ends size area tasks control before =
 -- ---- steps
 
 -- what ends a request is no refusal
-cause-goes : (v : View) (t : ℕ) (a : Answer) → Cause v t a → Goes stepRefusals a
-cause-goes v t Accepted k = tt
-cause-goes v t (Allocated u) k = tt
-cause-goes v t Freed k = tt
-cause-goes v t NoDescriptor k = tt
-cause-goes v t NoRegion k = tt
-cause-goes v t (Refused n) k = absurd k
+cause-goes : (ns : List ℕ) (v : View) (t : ℕ) (a : Answer) → Cause v t a → Goes ns a
+cause-goes ns v t Accepted k = tt
+cause-goes ns v t (Allocated u) k = tt
+cause-goes ns v t Freed k = tt
+cause-goes ns v t NoDescriptor k = tt
+cause-goes ns v t NoRegion k = tt
+cause-goes ns v t (Refused n) k = absurd k
 
+module _ {ns : List ℕ} {v : View} {t : ℕ} where
+  goes : {o : Outcome} → Ending ns v t o → Goes ns (o .answer)
+  goes (refused h) = h
+  goes (going h) = tt
+  goes (ended {a = a} k h) = cause-goes ns v t a k
+
+-- a call of a step
 module _ {v : View} {t : ℕ} where
-  ends : {o : Outcome} → Ending v t o → StepEnds v t o
+  ends : {o : Outcome} → CallEnding v t o → StepEnds v t o
   ends (refused h) = record { nothing = λ n e. (refl, refl); answers = h; idle = λ i. absurd i }
   ends (going h) = record { nothing = λ n e. absurd (accepted-no e); answers = tt; idle = λ i. absurd i }
   ends (ended {a = a} k h) =
-      record { nothing = λ n e. absurd (subst (Cause v t) e k); answers = cause-goes v t a k; idle = λ i. h }
+      record { nothing = λ n e. absurd (subst (Cause v t) e k); answers = cause-goes stepRefusals v t a k; idle = λ i. h }
 
   -- why a request ends with the answer a
-  cause : {o : Outcome} → Ending v t o → (a : Answer) → IsEnd a → o .answer ≡ a → Cause v t a
+  cause : {o : Outcome} → CallEnding v t o → (a : Answer) → IsEnd a → o .answer ≡ a → Cause v t a
   cause (refused h) a i e = absurd (subst IsEnd (sym e) i)
   cause (going h) a i e = absurd (subst IsEnd (sym e) i)
   cause (ended k h) a i e = subst (Cause v t) e k
 
   -- why a step comes to the push back
-  came : {o : Outcome} → Ending v t o → InPush Back (placeAfter o v t)
+  came : {o : Outcome} → CallEnding v t o → InPush Back (placeAfter o v t)
       → (FindsEmpty Region v t × ((n : ℕ) → o .answer ≢ Refused n)) ⊎ InPush Back (v (TaskPlace t))
   came (refused h) i = inr i
   came (going h) i = ⊎-map (λ f. (f, λ n. accepted-no)) (λ p. p) (h i)
@@ -167,14 +174,17 @@ module _ (control area : ℕ) (v : View) (link : ℕ → ℕ) (t : ℕ) where
   abbrev o : Outcome
   o = Calls.stepOutcome control area v link t
 
-  ending : Ending v t o
+  ending : CallEnding v t o
   unfolding Calls.stepOutcome Steps.step
   ending =
-      let P = Ending v t in
+      let P = CallEnding v t in
       let c = v (TaskClass t) in
       tests P control area v t _ (λ n h. refused (more testRefusals (7 ∷ []) n h))
-      (λ T. branch P (ltb 0 (v (TaskPlace t))) (λ e. branch P (ltb c 16) (λ f. step-at v link t (ltb-true c 16 f)) (λ f. wrong))
-      (λ e. no-step))
+      (λ T. branch P (ltb 0 (v (TaskPlace t)))
+      (λ e. branch P (ltb c 16)
+      (λ f. at-call (step-at v link t (ltb-true c 16 f) (ltb-true 0 (v (TaskPlace t)) e)))
+      (λ f. refused refl))
+      (λ e. refused refl))
 
   -- a step that is not refused has passed the tests
   not-refused : ((n : ℕ) → o .answer ≢ Refused n) → Tested control area v t
@@ -193,6 +203,11 @@ module _ (control area : ℕ) (v : View) (link : ℕ → ℕ) (t : ℕ) where
   at-place T e l h =
       passed control area v t _ T
       ∙ rw (lt-ltb 0 (v (TaskPlace t)) (omega arith), lt-ltb (v (TaskClass t)) 16 h, e)
+
+  -- the step at the place of a task that is not idle is refused by 14 alone
+  pub place-goes : v (TaskClass t) < 16 → 1 ≤ v (TaskPlace t)
+      → Goes placeRefusals (Steps.stepAt v link (v Regions) t (v (TaskClass t)) (v (TaskPlace t)) .answer)
+  place-goes fits busy = goes (step-at v link t fits busy)
 
   pub step-ends : StepEnds v t o
   step-ends = ends ending

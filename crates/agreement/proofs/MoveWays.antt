@@ -25,7 +25,7 @@ use Rattle.stepped.specs.Lists as Lists
 use Rattle.stepped.specs.Lists.{popPlace, pushPlace}
 use Rattle.agreement.specs.Ends.{FindsEmpty, WinsPush, InPush}
 use Rattle.stepped.proofs.Conjunction.{left-true, right-true}
-use Rattle.agreement.proofs.Ways.{branch, Ending, going, Keeps, wrong, either, test, to, finish}
+use Rattle.agreement.proofs.Ways.{branch, PlaceEnding, going, Keeps, wrong, either, test, to, finish}
 
 -- the places of the pops come before those of the push back
 before : (p : Pop) → popPlace p + 2 < pushPlace Back
@@ -48,7 +48,7 @@ module _ (v : View) (t : ℕ) (fits : v (TaskClass t) < 16) where
   regions = v Regions
 
   abbrev End : Outcome → Type 0
-  End = Ending v t
+  End = PlaceEnding v t
 
   -- ---- pops
 

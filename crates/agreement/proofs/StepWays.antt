@@ -1,6 +1,6 @@
 -- How each step of the step list ends: the steps that are no list moves, and one pass over the list.
 -- Assumes nothing.
-use Prim.Native.Nat.{ℕ, zero, suc, _+_, _-_, _<_}
+use Prim.Native.Nat.{ℕ, zero, suc, _+_, _-_, _≤_, _<_}
 use mathlib.Core.Path.{_≡_, refl}
 use mathlib.Core.Bool.{_&&_}
 use mathlib.Core.List.{List, [], _∷_}
@@ -22,7 +22,7 @@ use Rattle.stepped.specs.Lists.{popPlace, pushPlace}
 use Rattle.stepped.specs.Allocate as Allocate
 use Rattle.stepped.specs.Free as Free
 use Rattle.stepped.specs.Steps as Steps
-use Rattle.agreement.proofs.Ways.{Ending, no-step, wrong, either, test, to, stay, finish}
+use Rattle.agreement.proofs.Ways.{PlaceEnding, wrong, either, test, to, stay, finish}
 use Rattle.agreement.proofs.MoveWays.{pop-read, pop-next, pop-exchange, push-read, push-next, push-exchange, f5}
 
 module _ (v : View) (link : ℕ → ℕ) (t : ℕ) (fits : v (TaskClass t) < 16) where
@@ -33,7 +33,7 @@ module _ (v : View) (link : ℕ → ℕ) (t : ℕ) (fits : v (TaskClass t) < 16)
   regions = v Regions
 
   abbrev End : Outcome → Type 0
-  End = Ending v t
+  End = PlaceEnding v t
 
   -- ---- allocate
 
@@ -154,15 +154,19 @@ module _ (v : View) (link : ℕ → ℕ) (t : ℕ) (fits : v (TaskClass t) < 16)
 
   -- ---- the step list
 
+  -- idle is not the place of a task that has a request in hand
+  not-idle : {o : Outcome} → 1 ≤ v (TaskPlace t) → v (TaskPlace t) ≡ 0 → End o
+  not-idle busy e = absurd (omega arith)
+
   -- a list of steps from the place k on
   data Each : ℕ → List Outcome → Type 0 where
     end : {k : ℕ} → Each k []
     _then_ : {k : ℕ} {o : Outcome} {os : List Outcome} → (v (TaskPlace t) ≡ k → End o) → Each (suc k) os → Each k (o ∷ os)
 
   infixr 5 _then_
-  all : Each 0 (Steps.steps v link regions t c)
-  all =
-      (λ e. no-step)
+  all : 1 ≤ v (TaskPlace t) → Each 0 (Steps.steps v link regions t c)
+  all busy =
+      not-idle busy
       then (λ e. a1)
       then pop-read v t fits Partial
       then (λ e. pop-next v t fits Partial)
@@ -204,6 +208,7 @@ module _ (v : View) (link : ℕ → ℕ) (t : ℕ) (fits : v (TaskClass t) < 16)
   at-place (_then_ h hs) zero e = h (omega arith)
   at-place (_then_ h hs) (suc n) e = at-place hs n (omega arith)
 
-  pub step-at : Ending v t (Steps.stepAt v link regions t c (v (TaskPlace t)))
+  -- a task that is not idle: its step is refused by 14 alone
+  pub step-at : 1 ≤ v (TaskPlace t) → PlaceEnding v t (Steps.stepAt v link regions t c (v (TaskPlace t)))
   unfolding Steps.stepAt
-  step-at = at-place all (v (TaskPlace t)) (omega arith)
+  step-at busy = at-place (all busy) (v (TaskPlace t)) (omega arith)

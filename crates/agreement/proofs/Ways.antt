@@ -1,7 +1,7 @@
 -- The tests that every call but a start passes first, and the ways in which a step can end, whatever the two memories hold.
 -- Assumes nothing.
 use Prim.Native.Nat.{ℕ, _*_}
-use mathlib.Core.Path.{_≡_, refl, subst, _∙_}
+use mathlib.Core.Path.{_≡_, refl, sym, subst, _∙_}
 use mathlib.Core.Logic.{_≢_, _⊎_, inr}
 use mathlib.Core.Bool.{Bool, true, false, cond, _||_, false≢true}
 use mathlib.Core.List.{List, [], _∷_, _++_}
@@ -20,7 +20,7 @@ use Rattle.stepped.specs.Outcome.{Outcome, refuse, bad, accept, close}
 use Rattle.stepped.specs.Ranges.{oneTo}
 use Rattle.stepped.specs.Calls as Calls
 use Rattle.stepped.specs.Calls.{Tested}
-use Rattle.agreement.specs.Ends.{oneOf, testRefusals, stepRefusals, Begins, FindsEmpty, WinsPush, InPush}
+use Rattle.agreement.specs.Ends.{oneOf, testRefusals, placeRefusals, stepRefusals, Begins, FindsEmpty, WinsPush, InPush}
 use Rattle.stepped.proofs.Conjunction.{left-true, right-true}
 
 -- a test: what holds of both ways on holds of what follows
@@ -42,6 +42,14 @@ or-more false b c h k = h k
 pub more : (ns ms : List ℕ) (n : ℕ) → oneOf ns n ≡ true → oneOf (ns ++ ms) n ≡ true
 more [] ms n h = absurd (false≢true h)
 more (x ∷ ns) ms n h = or-more (eqb n x) (oneOf ns n) (oneOf (ns ++ ms) n) (more ns ms n) h
+
+-- the one number of a list of one
+pub only : (m n : ℕ) → oneOf (m ∷ []) n ≡ true → n ≡ m
+only m n h = alone (eqb n m) (eqb-true n m) h
+  where
+    alone : (b : Bool) {X : Type 0} → (b ≡ true → X) → (b || false) ≡ true → X
+    alone true k e = k refl
+    alone false k e = absurd (false≢true e)
 
 -- ---- the tests 1, 4, 2, 5
 
@@ -92,14 +100,15 @@ Cause v t NoDescriptor = FindsEmpty Spare v t
 Cause v t NoRegion = WinsPush Back v t
 Cause v t (Refused n) = ⊥
 
--- How a step of the task t ends: with a refusal, with the request under way, or with the request's end. It comes to the
--- push back from the empty list of spare regions, or from that push itself.
-pub data Ending (v : View) (t : ℕ) : Outcome → Type 0 where
-  refused : {n : ℕ} → oneOf stepRefusals n ≡ true → Ending v t (refuse n)
+-- How a step of the task t ends: with a refusal by one of the numbers ns, with the request under way, or with the request's
+-- end. It comes to the push back from the empty list of spare regions, or from that push itself.
+pub data Ending (ns : List ℕ) (v : View) (t : ℕ) : Outcome → Type 0 where
+  refused : {n : ℕ} → oneOf ns n ≡ true → Ending ns v t (refuse n)
   going : {e : Decided} {ws : List Write} {ls : List LinkWrite}
-      → (InPush Back (assigned ws v (TaskPlace t)) → FindsEmpty Region v t ⊎ InPush Back (v (TaskPlace t))) → Ending v t (accept e ws ls)
+      → (InPush Back (assigned ws v (TaskPlace t)) → FindsEmpty Region v t ⊎ InPush Back (v (TaskPlace t)))
+      → Ending ns v t (accept e ws ls)
   ended : {a : Answer} {e : Decided} {ws : List Write} {ls : List LinkWrite} → Cause v t a
-      → assigned ws v (TaskPlace t) ≡ 0 → Ending v t (close a e ws ls)
+      → assigned ws v (TaskPlace t) ≡ 0 → Ending ns v t (close a e ws ls)
 
 -- writes that leave the place of the task t
 abbrev pub Keeps : ℕ → List Write → Type 0
@@ -109,31 +118,42 @@ Keeps t ws = (u : View) → assigned ws u (TaskPlace t) ≡ u (TaskPlace t)
 pub sent : (v : View) (t q : ℕ) (ws : List Write) → Keeps t ws → assigned (TaskPlace t := q ∷ ws) v (TaskPlace t) ≡ q
 sent v t q ws h = h (assign (TaskPlace t := q) v) ∙ rw (eq-eqb t t refl)
 
-module _ {v : View} {t : ℕ} where
-  pub no-step : Ending v t (refuse 7)
-  no-step = refused refl
+-- how the step at the place of the task t ends, and how the call of a step does
+abbrev pub PlaceEnding : View → ℕ → Outcome → Type 0
+PlaceEnding = Ending placeRefusals
 
-  pub wrong : Ending v t bad
+abbrev pub CallEnding : View → ℕ → Outcome → Type 0
+CallEnding = Ending stepRefusals
+
+-- the numbers by which the step at a place can be refused are among those of the call
+pub at-call : {v : View} {t : ℕ} {o : Outcome} → PlaceEnding v t o → CallEnding v t o
+at-call (refused {n} h) = refused (subst (λ (m : ℕ). oneOf stepRefusals m ≡ true) (sym (only 14 n h)) refl)
+at-call (going h) = going h
+at-call (ended k h) = ended k h
+
+-- the step at a place
+module _ {v : View} {t : ℕ} where
+  pub wrong : PlaceEnding v t bad
   wrong = refused refl
 
   -- a test
-  pub either : {o o′ : Outcome} (b : Bool) → Ending v t o → Ending v t o′ → Ending v t (cond b o o′)
-  either b h k = branch (Ending v t) b (λ e. h) (λ e. k)
+  pub either : {o o′ : Outcome} (b : Bool) → PlaceEnding v t o → PlaceEnding v t o′ → PlaceEnding v t (cond b o o′)
+  either b h k = branch (PlaceEnding v t) b (λ e. h) (λ e. k)
 
   -- a test against 14
-  pub test : {o : Outcome} (b : Bool) → Ending v t o → Ending v t (cond b o bad)
+  pub test : {o : Outcome} (b : Bool) → PlaceEnding v t o → PlaceEnding v t (cond b o bad)
   test b h = either b h wrong
 
   -- to a place that is none of the push back's
   pub to : {e : Decided} (q : ℕ) {ws : List Write} {ls : List LinkWrite} → (InPush Back q → ⊥) → Keeps t ws
-      → Ending v t (accept e (TaskPlace t := q ∷ ws) ls)
+      → PlaceEnding v t (accept e (TaskPlace t := q ∷ ws) ls)
   to q {ws} n h = going (λ i. absurd (n (subst (InPush Back) (sent v t q ws h) i)))
 
   -- to the same place again
-  pub stay : {e : Decided} {ws : List Write} {ls : List LinkWrite} → Keeps t ws → Ending v t (accept e ws ls)
+  pub stay : {e : Decided} {ws : List Write} {ls : List LinkWrite} → Keeps t ws → PlaceEnding v t (accept e ws ls)
   stay h = going (λ i. inr (subst (InPush Back) (h v) i))
 
   -- to idle
   pub finish : {a : Answer} {e : Decided} {ws : List Write} {ls : List LinkWrite} → Cause v t a → Keeps t ws
-      → Ending v t (close a e (TaskPlace t := 0 ∷ ws) ls)
+      → PlaceEnding v t (close a e (TaskPlace t := 0 ∷ ws) ls)
   finish {ws = ws} k h = ended k (sent v t 0 ws h)

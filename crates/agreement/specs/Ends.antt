@@ -53,6 +53,10 @@ freeRefusals = testRefusals ++ (6 ∷ 10 ∷ 11 ∷ [])
 abbrev pub stepRefusals : List ℕ
 stepRefusals = testRefusals ++ (7 ∷ [])
 
+-- "14 comes where the bad value is read": the numbers by which the step at a task's place can be refused
+abbrev pub placeRefusals : List ℕ
+placeRefusals = 14 ∷ []
+
 -- the answer of a start or of the beginning of a request: accepted, or refused by one of the numbers ns
 abbrev pub Begins : List ℕ → Answer → Type 0
 Begins ns Accepted = Unit {0}

@@ -7,7 +7,7 @@ use mathlib.Core.Logic.{_↔_, _⊎_, ⊎-elim, inl, inr}
 use mathlib.Core.Bool.{true, false≢true}
 use mathlib.Core.List.{List, [], _∷_}
 use Prim.Native.Nat.{ℕ, _%_, _<_}
-use borrow.Author.Tests.{eq-eqb, le-leb}
+use borrow.Author.Tests.{eq-eqb, le-leb, ltb-true}
 use lib.Dec.{ltb, eqb}
 use lib.ListN.{length}
 use Rattle.fields.specs.Columns.{View}
@@ -24,23 +24,23 @@ use Rattle.stepped.specs.Steps.{stepAt}
 use Rattle.stepped.specs.Outcome.{Outcome}
 use Rattle.stepped.specs.Calls as Calls
 use Rattle.stepped.specs.Calls.{Tested}
-use Rattle.agreement.specs.Ends.{Leaves, oneOf, Goes, FindsEmpty, WinsPush, InPush, placeAfter, allocateRefusals, stepRefusals}
+use Rattle.agreement.specs.Ends.{Leaves, oneOf, Goes, FindsEmpty, WinsPush, InPush, placeAfter, allocateRefusals, placeRefusals, stepRefusals}
 use Rattle.stepped.specs.Outcome.{Memories}
 use Rattle.agreement.specs.Events.{stepped, whole, Premises}
 use Rattle.agreement.specs.Events as Events
 use Rattle.agreement.specs.Events.{Unstarted}
 use Rattle.agreement.specs.Agreement.{Agrees, Unchanged, Untouched, AgreesAt}
-use Rattle.agreement.proofs.Ways.{tests, branch}
-use Rattle.agreement.proofs.Ends.{start-ends, allocate-ends, step-ends, allocate-leaves, free-leaves, go-leaves, smallest-class, no-descriptor, no-region, put-back}
+use Rattle.agreement.proofs.Ways.{only, tests, branch}
+use Rattle.agreement.proofs.Ends.{start-ends, allocate-ends, step-ends, allocate-leaves, free-leaves, go-leaves, smallest-class, place-goes, no-descriptor, no-region, put-back}
 use Rattle.agreement.proofs.SoundCalls.{step-place, step-others, allocate-others, free-others}
 use Rattle.agreement.specs.Reached.{happened, Reached, from-unstarted, from-start}
 use Rattle.agreement.proofs.Theorem.{reached-agrees, agreement-from-start}
 use Rattle.pool.specs.Call.{Call, start, allocate, free, step, effectOf}
 use Rattle.demands.specs.Answers.{Refusal, Ended, OfAnother, Begun}
-use Rattle.demands.specs.Tests.{firstFailed, startTests, allocateTests, freeTests, stepTests}
+use Rattle.demands.specs.Tests.{firstFailed, Passes, startTests, callTests, requestTests, allocateTests, freeTests, stepTests}
 use Rattle.demands.specs.Runs.{Act, own, other, write, Contract, Happens, Run, eventOf, event, events, Answered, OtherLeft, Tells, Told, WhereverActs}
 use Rattle.demands.proofs.Numbers.{refused, accepted, ends-told, end-told}
-use Rattle.demands.proofs.Failing.{start-first, allocate-first, free-first, step-first}
+use Rattle.demands.proofs.Failing.{start-first, allocate-first, free-first, step-first, none-failed, later}
 use Rattle.demands.proofs.Acting.{shows}
 use Rattle.demands.proofs.Reaching.{along-acts}
 use Rattle.demands.proofs.Backing.{stays-back}
@@ -113,6 +113,20 @@ module _ (lent left : Memories) (r : ℕ) where
       let R = refused (o .answer) (subst Refusal (C .number) h) in
       let G = subst (Goes stepRefusals) (R .1) (step-ends control area (seen (lent .control)) (link (lent .area)) t .answers) in
       ap (oneOf stepRefusals) (C .number ∙ ap numberOf (R .1)) ∙ G
+
+  -- .. and where all of its tests pass, by 14 alone: "14 comes where the bad value is read". A place past the step list is such a
+  -- value.
+  pub step-refused-by-14 : (t : ℕ) → Contract (step t) lent left r → Passes (stepTests control area (seen (lent .control)) t)
+      → Refusal r → r ≡ 14
+  step-refused-by-14 t C P h =
+      let v = seen (lent .control) in
+      let ts = stepTests control area v t in
+      let Q = later (callTests control area v t) (requestTests v t) P in
+      let a = stepAt v (link (lent .area)) (v Regions) t (v (TaskClass t)) (v (TaskPlace t)) .answer in
+      let e : r ≡ numberOf a = step-refused-first t C ∙ none-failed ts (numberOf a) P in
+      let R = refused a (subst Refusal e h) in
+      let G = place-goes control area v (link (lent .area)) t (ltb-true (v (TaskClass t)) 16 (Q .1 .0)) (ltb-true 0 (v (TaskPlace t)) (Q .0)) in
+      e ∙ ap numberOf (R .1) ∙ only 14 (R .0) (subst (Goes placeRefusals) (R .1) G)
 
   -- "A size gets the smallest class that holds it."
   pub allocate-begins : (t size : ℕ) → Contract (allocate t size) lent left r → r ≡ 0

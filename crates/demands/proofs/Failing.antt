@@ -1,7 +1,7 @@
 -- The number that a call answers is that of the first of its tests that fails. Assumes nothing.
 use mathlib.Core.Path.{_≡_, refl}
 use mathlib.Core.Bool.{Bool, true, false, cond, not, _&&_}
-use mathlib.Core.List.{List, _++_}
+use mathlib.Core.List.{List, [], _∷_, _++_}
 use Prim.Native.Nat.{ℕ, _*_, _/_, _%_, _-_}
 use lib.Dec.{ltb, leb, eqb}
 use lib.ListN.{length}
@@ -15,7 +15,7 @@ use Rattle.stepped.specs.Outcome.{Outcome, Effect}
 use Rattle.stepped.specs.Ranges.{oneTo, isAnchor}
 use Rattle.stepped.specs.Steps as Steps
 use Rattle.stepped.specs.Calls as Calls
-use Rattle.demands.specs.Tests.{Test, _or_, firstFailed, startTests, callTests, idleTests, sizeTests, unitTests, requestTests, allocateTests, freeTests, stepTests}
+use Rattle.demands.specs.Tests.{Test, _or_, firstFailed, Passes, startTests, callTests, idleTests, sizeTests, unitTests, requestTests, allocateTests, freeTests, stepTests}
 
 -- a test, and one that is asked the other way round, by the numbers of the two ways on
 module _ {A : Type 0} (f : A → ℕ) where
@@ -95,6 +95,16 @@ module _ (control area : ℕ) (v : View) (t : ℕ) where
   unfolding Calls.stepOutcome Steps.step
   step-first link =
       after-tests (requestTests v t) _ _ (passes numbered (ltb 0 (v (TaskPlace t))) _ _ (passes numbered (ltb (v (TaskClass t)) 16) _ _ refl refl) refl)
+
+-- where all tests pass, none has failed
+pub none-failed : (ts : List Test) (n : ℕ) → Passes ts → firstFailed ts n ≡ n
+none-failed [] n P = refl
+none-failed (t ∷ ts) n P = rw (P .0, none-failed ts n (P .1))
+
+-- the later ones of tests that all pass
+pub later : (ts us : List Test) → Passes (ts ++ us) → Passes us
+later [] us P = P
+later (t ∷ ts) us P = later ts us (P .1)
 
 -- the number of an effect
 abbrev answered : Effect → ℕ

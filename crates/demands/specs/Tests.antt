@@ -2,7 +2,8 @@
 -- 11. 14 comes where the bad value is read."
 -- Assumes nothing.
 use Prim.Native.Nat.{ℕ, _*_, _/_, _%_, _-_}
-use mathlib.Core.Bool.{Bool, cond, not, _&&_}
+use mathlib.Core.Path.{_≡_}
+use mathlib.Core.Bool.{Bool, true, cond, not, _&&_}
 use mathlib.Core.List.{List, [], _∷_, _++_}
 use lib.Dec.{ltb, leb, eqb}
 use Rattle.fields.specs.Columns.{View}
@@ -25,6 +26,11 @@ b or n = record { asks = b; number = n }
 abbrev pub firstFailed : List Test → ℕ → ℕ
 firstFailed [] n = n
 firstFailed (t ∷ ts) n = cond (t .asks) (firstFailed ts n) (t .number)
+
+-- every test passes
+abbrev pub Passes : List Test → Type 0
+Passes [] = Unit {0}
+Passes (t ∷ ts) = (t .asks ≡ true) × Passes ts
 
 -- "1 control not 8,192 bytes; 2 area length zero, no multiple of 4,096 or above 65,536; 3 tasks not 1 to 8"
 abbrev pub startTests : ℕ → ℕ → ℕ → List Test
