@@ -107,7 +107,7 @@ module _ {regions : ℕ} {v : View} {area : List ℕ} {m : Mem} {t : ℕ} {k : �
         says = refl;
         keeps = (refl, refl);
         rel = goes w (TaskPlace t := 11 ∷ []) (toPlace 11 (slotOf v t)) (pushing (retire c d) read) refl
-            (rw (eq-eqb t t refl)) (λ j n. rw (ne-eqb t j n)) refl refl refl (r-retire (PushRelated.at-read refl));
+            (rw (eq-eqb t t refl)) (λ j n. rw (ne-eqb t j n)) refl refl (r-retire (PushRelated.at-read refl));
         sound = omega (arith, w .pair .turn .fits);
         apart = tt;
       }))
@@ -138,7 +138,7 @@ module _ {regions : ℕ} {v : View} {area : List ℕ} {m : Mem} {t : ℕ} {k : �
         says = refl;
         keeps = (refl, refl);
         rel = goes w (TaskPlace t := 24 ∷ TaskAnchor t := word ∷ []) (toPlace 24 (toAnchor b (slotOf v t)))
-            (a3-exchange c d (noted E)) refl (rw (eq-eqb t t refl)) (λ j n. rw (ne-eqb t j n)) refl refl refl
+            (a3-exchange c d (noted E)) refl (rw (eq-eqb t t refl)) (λ j n. rw (ne-eqb t j n)) refl refl
             (r-a3-exchange refl (re-note refl (sym ec) (note-of m d D C L)) st low high first);
         sound = omega (arith, w .pair .turn .fits, w .fitting (Layout.Anchor d) (omega (arith, l)));
         apart = tt;
@@ -203,7 +203,7 @@ module _ {regions : ℕ} {v : View} {area : List ℕ} {m : Mem} {t : ℕ} {k : �
             (record { linked = ends (ap perRegion (T .class)); counts = refl }) (perRegion-high c) (omega arith))
             (anchor-written v S area d (anchorWord (full (perRegion c)))
             ∙ ap (λ (z : Anchor). withSlots S (setAnchor d z (memoryOf v area))) (full-read c))
-            refl refl (rw (eq-eqb t t refl)) (λ j n. rw (ne-eqb t j n)) refl refl refl
+            refl refl (rw (eq-eqb t t refl)) (λ j n. rw (ne-eqb t j n)) refl refl
             (r-a4 refl (subst (Linked (link area) (indexOf c) (perRegion c) (b .avail)) i lk)
             (sym (same .1) ∙ C .counts ∙ ap length i) (λ y. omega (arith, inside y, ap (count y) i)));
         sound = omega (
@@ -261,7 +261,7 @@ module _ {regions : ℕ} {v : View} {area : List ℕ} {m : Mem} {t : ℕ} {k : �
         says = refl;
         keeps = (refl, refl);
         rel = goes w (TaskPlace t := 23 ∷ []) (toPlace 23 (slotOf v t)) (a3-read c d) refl
-            (rw (eq-eqb t t refl)) (λ j n. rw (ne-eqb t j n)) refl refl refl (r-a3-read refl);
+            (rw (eq-eqb t t refl)) (λ j n. rw (ne-eqb t j n)) refl refl (r-a3-read refl);
         sound = omega (arith, w .pair .turn .fits);
         apart = tt;
       })))

@@ -31,9 +31,9 @@ use Rattle.control.specs.Layout.{Anchor, Marks, TaskUnit, TaskPlace, TaskClass,
 use Rattle.stepped.specs.Outcome.{Outcome, refuse}
 use Rattle.stepped.specs.Ranges.{isAnchor}
 use Rattle.stepped.specs.Calls as Stepped
-use Rattle.agreement.specs.Memory.{Slot, Memory, slotOf, memoryOf}
+use Rattle.agreement.specs.Memory.{TaskCaches, Slot, Memory, slotOf, memoryOf}
 use Rattle.agreement.specs.Relation
-use Rattle.agreement.specs.Relation.{PopRelated, PushRelated, PlaceRelated, r-idle, r-a1, r-partial, r-spare, r-region, r-retire, r-back, r-release, r-offer, r-a3-read, r-a3-exchange, r-a4, r-a7, r-a8, r-f1, r-f2, r-f2-more, r-f3-read, r-f3-link, r-f3-exchange, r-f4-clear, SlotRelated, Related}
+use Rattle.agreement.specs.Relation.{CachesRelated, PopRelated, PushRelated, PlaceRelated, r-idle, r-a1, r-partial, r-spare, r-region, r-retire, r-back, r-release, r-offer, r-a3-read, r-a3-exchange, r-a4, r-a7, r-a8, r-f1, r-f2, r-f2-more, r-f3-read, r-f3-link, r-f3-exchange, r-f4-clear, SlotRelated, Related}
 use Rattle.agreement.proofs.Slots.{toRequest}
 use Rattle.agreement.proofs.Sets.{setSlot, setMark}
 use Rattle.agreement.proofs.Bridge.{becomes, mark-clear-written}
@@ -100,13 +100,13 @@ module _ {regions : ℕ} {v : View} {area : List ℕ} {m : Mem} {t : ℕ} {k : �
   R = w .pair .rel
 
   -- a task's part with its caches as they were, and another class
-  begun : (a′ : Memory) (m′ : Mem) (s : Slot) (p : Place) → a′ .area ≡ area → s .class < 16 → s .caches .top ≡ slotOf v t .caches .top → s .caches .count ≡ slotOf v t .caches .count
+  begun : (a′ : Memory) (m′ : Mem) (s : Slot) (p : Place) → a′ .area ≡ area → s .class < 16 → s .caches ≡ slotOf v t .caches
       → PlaceRelated regions a′ m′ s p → SlotRelated regions a′ m′ s (taskOf p k)
-  begun a′ m′ s p e f g h pl = record {
+  begun a′ m′ s p e f g pl = record {
     fits = f;
     place = pl;
-    tops = λ c l. subst (λ (z : List ℕ). Linked (link z) (λ u. u) 8192 (s .caches .top c) (k c)) (sym e) (rw (ap (λ (z : ℕ → ℕ). z c) g) (mine (w .pair) .tops c l));
-    counts = λ c l. ap (λ (z : ℕ → ℕ). z c) h ∙ mine (w .pair) .counts c l;
+    caches = subst (λ (z : List ℕ). CachesRelated (link z) (s .caches) k) (sym e)
+        (subst (λ (z : TaskCaches). CachesRelated (link area) z k) (sym g) (mine (w .pair) .caches));
   }
 
   -- allocate: "8 size 0; 9 size above 256"
@@ -124,7 +124,7 @@ module _ {regions : ℕ} {v : View} {area : List ℕ} {m : Mem} {t : ℕ} {k : �
         rel = subst (λ (z : Memory). Related regions z (setTask t (record { place = a1 (classOf size); cache = m .task t .cache }) m))
             (sym (becomes v (assigned ws v) area t s (memoryOf v area) refl refl (rw (eq-eqb t t refl)) (λ j n. rw (ne-eqb t j n))))
             (subst (λ (q : ℕ → List ℕ). Related regions (setSlot t s (memoryOf v area)) (setTask t (record { place = a1 (classOf size); cache = q }) m)) (sym cache-is)
-            (quiet (w .pair) s (taskOf (a1 (classOf size)) k) (begun _ _ s (a1 (classOf size)) refl l refl refl (r-a1 refl))));
+            (quiet (w .pair) s (taskOf (a1 (classOf size)) k) (begun _ _ s (a1 (classOf size)) refl l refl (r-a1 refl))));
         keeps = (refl, refl);
         sound = omega (arith, w .pair .turn .fits);
         apart = tt;
@@ -186,7 +186,7 @@ module _ {regions : ℕ} {v : View} {area : List ℕ} {m : Mem} {t : ℕ} {k : �
         rel = subst (λ (z : Memory). Related regions z (freed c .0))
             (sym (becomes v (assigned ws v) area t s (setMark u 0 (memoryOf v area)) (mark-clear-written v (slotOf (assigned ws v)) area u) refl (rw (eq-eqb t t refl)) (λ j n. rw (ne-eqb t j n))))
             (subst (λ (q : ℕ → List ℕ). Related regions (setSlot t s (setMark u 0 (memoryOf v area))) (setTask t (record { place = f1 c u; cache = q }) (setHands u 0 m))) (sym cache-is)
-            (marking (w .pair) u 0 s (taskOf (f1 c u) k) (begun w _ _ s (f1 c u) refl l refl refl (r-f1 refl))));
+            (marking (w .pair) u 0 s (taskOf (f1 c u) k) (begun w _ _ s (f1 c u) refl l refl (r-f1 refl))));
         keeps = (refl, refl);
         sound = omega (arith, w .pair .turn .fits, w .pair .small, clear-below (v (Marks (u / 64))) (u % 64) 64 (w .fitting (Marks (u / 64)) (omega (arith, w .pair .small))) (omega arith));
         apart = tt;

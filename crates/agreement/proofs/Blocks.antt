@@ -28,9 +28,10 @@ use Rattle.plain.proofs.Owners.{home-of}
 use Rattle.plain.proofs.Places.{taskOf}
 use Rattle.stepped.specs.Ranges
 use Rattle.stepped.specs.Ranges.{isTop}
-use Rattle.agreement.specs.Memory.{Memory, Slot}
-use Rattle.agreement.specs.Relation.{PlaceRelated, SlotRelated}
+use Rattle.agreement.specs.Memory.{TaskCaches, Memory, Slot}
+use Rattle.agreement.specs.Relation.{CachesRelated, PlaceRelated, SlotRelated}
 use Rattle.stepped.proofs.Conjunction.{both-true}
+use Rattle.agreement.proofs.Slots.{toCache}
 use Rattle.agreement.proofs.Couple
 use Rattle.agreement.proofs.Couple.{Pair, agrees, mine, own-block, region-below}
 
@@ -78,31 +79,38 @@ module _ {regions : ℕ} {a : Memory} {m : Mem} {t : ℕ} {p : Place} {k : ℕ �
   wrote u x h l = Couple.written w u x (mine-under u h .0) (omega arith)
 
   -- the caches with a new one of the class c
-  pub re-cache : (a′ : Memory) (m′ : Mem) (s : Slot) (p′ : Place) (c b n : ℕ) (q : List ℕ) → ((e : ℕ) → e < 16 → Agree (link (a .area)) (link (a′ .area)) (k e)) → s .class ≡ a .slot t .class
-      → s .caches .top ≡ update (a .slot t .caches .top) c b → s .caches .count ≡ update (a .slot t .caches .count) c n → Linked (link (a′ .area)) (λ u. u) 8192 b q → n ≡ length q → PlaceRelated regions a′ m′ s p′ → SlotRelated regions a′ m′ s (taskOf p′ (update k c q))
-  re-cache a′ m′ s p′ c b n q g f et ec l en pl = record {
+  pub re-cache : (a′ : Memory) (m′ : Mem) (s : Slot) (p′ : Place) (c b n : ℕ) (q : List ℕ)
+      → ((e : ℕ) → e < 16 → Agree (link (a .area)) (link (a′ .area)) (k e)) → s .class ≡ a .slot t .class
+      → s .caches ≡ toCache c b n (a .slot t) .caches → Linked (link (a′ .area)) (λ u. u) 8192 b q → n ≡ length q
+      → PlaceRelated regions a′ m′ s p′ → SlotRelated regions a′ m′ s (taskOf p′ (update k c q))
+  re-cache a′ m′ s p′ c b n q g f i l en pl = record {
     fits = rw f (mine w .fits);
     place = pl;
-    tops = subst (λ (z : ℕ → ℕ). (e : ℕ) → e < 16 → Linked (link (a′ .area)) (λ u. u) 8192 (z e) (update k c q e)) (sym et)
-        (update-all₂ (λ e x r. e < 16 → Linked (link (a′ .area)) (λ u. u) 8192 x r) (a .slot t .caches .top) k c b q (λ i. l) (λ e d i. linked-frame (g e i) (mine w .tops e i)));
-    counts = subst (λ (z : ℕ → ℕ). (e : ℕ) → e < 16 → z e ≡ length (update k c q e)) (sym ec)
-        (update-all₂ (λ e x r. e < 16 → x ≡ length r) (a .slot t .caches .count) k c n q (λ i. en) (λ e d i. mine w .counts e i));
+    caches = subst (λ (z : TaskCaches). CachesRelated (link (a′ .area)) z (update k c q)) (sym i) (record {
+      tops = update-all₂ (λ e x r. e < 16 → Linked (link (a′ .area)) (λ u. u) 8192 x r) (a .slot t .caches .top) k c b q
+          (λ i. l) (λ e d i. linked-frame (g e i) (mine w .caches .tops e i));
+      counts = update-all₂ (λ e x r. e < 16 → x ≡ length r) (a .slot t .caches .count) k c n q
+          (λ i. en) (λ e d i. mine w .caches .counts e i);
+    });
   }
 
   -- the caches as they were, after a link under way is written
-  pub re-link : (a′ : Memory) (m′ : Mem) (s : Slot) (p′ : Place) → ((e : ℕ) → e < 16 → Agree (link (a .area)) (link (a′ .area)) (k e)) → s .class ≡ a .slot t .class
-      → s .caches .top ≡ a .slot t .caches .top → s .caches .count ≡ a .slot t .caches .count → PlaceRelated regions a′ m′ s p′ → SlotRelated regions a′ m′ s (taskOf p′ k)
-  re-link a′ m′ s p′ g f et ec pl = record {
+  pub re-link : (a′ : Memory) (m′ : Mem) (s : Slot) (p′ : Place)
+      → ((e : ℕ) → e < 16 → Agree (link (a .area)) (link (a′ .area)) (k e)) → s .class ≡ a .slot t .class
+      → s .caches ≡ a .slot t .caches → PlaceRelated regions a′ m′ s p′ → SlotRelated regions a′ m′ s (taskOf p′ k)
+  re-link a′ m′ s p′ g f i pl = record {
     fits = rw f (mine w .fits);
     place = pl;
-    tops = subst (λ (z : ℕ → ℕ). (e : ℕ) → e < 16 → Linked (link (a′ .area)) (λ u. u) 8192 (z e) (k e)) (sym et) (λ e i. linked-frame (g e i) (mine w .tops e i));
-    counts = subst (λ (z : ℕ → ℕ). (e : ℕ) → e < 16 → z e ≡ length (k e)) (sym ec) (λ e i. mine w .counts e i);
+    caches = subst (λ (z : TaskCaches). CachesRelated (link (a′ .area)) z k) (sym i) (record {
+      tops = λ e i. linked-frame (g e i) (mine w .caches .tops e i);
+      counts = mine w .caches .counts;
+    });
   }
 
   -- the caches as they were
   pub re-slot : (a′ : Memory) (m′ : Mem) (s : Slot) (p′ : Place) → a′ .area ≡ a .area → s .class ≡ a .slot t .class
-      → s .caches .top ≡ a .slot t .caches .top → s .caches .count ≡ a .slot t .caches .count → PlaceRelated regions a′ m′ s p′ → SlotRelated regions a′ m′ s (taskOf p′ k)
-  re-slot a′ m′ s p′ e f g h pl = re-link a′ m′ s p′ (λ c l u i. ap (λ (z : List ℕ). link z u) e) f g h pl
+      → s .caches ≡ a .slot t .caches → PlaceRelated regions a′ m′ s p′ → SlotRelated regions a′ m′ s (taskOf p′ k)
+  re-slot a′ m′ s p′ e f g pl = re-link a′ m′ s p′ (λ c l u i. ap (λ (z : List ℕ). link z u) e) f g pl
 
   -- the link below the top of a cache, with the row q below it
   pub below-tested : (c b : ℕ) (q : List ℕ) → ((v : ℕ) → count v q ≤ count v (k c)) → Linked (link (a .area)) (λ u. u) 8192 b q

@@ -29,7 +29,7 @@ use Rattle.control.specs.Layout
 use Rattle.control.specs.Layout.{layout, Tasks, Regions, CacheTop, CacheCount, TaskClass}
 use Rattle.stepped.specs.Outcome.{close}
 use Rattle.stepped.specs.Ranges.{isTop}
-use Rattle.agreement.specs.Memory.{Slot, Memory, slotOf, memoryOf}
+use Rattle.agreement.specs.Memory.{TaskCaches, Slot, Memory, slotOf, memoryOf}
 use Rattle.agreement.specs.Relation.{PlaceRelated, Related}
 use Rattle.agreement.proofs.Images.{append-sound}
 use Rattle.agreement.proofs.Slots.{toCache, withCaches}
@@ -83,16 +83,16 @@ cache-becomes v v₁ area t c b n s a l e f own others =
 pushed : {regions : ℕ} {a : Memory} {m : Mem} {t : ℕ} {p : Place} {k : ℕ → List ℕ} (w : Pair regions a m t p k)
     (u x n : ℕ) (s : Slot) (p′ : Place) → 1 ≤ count u (underWay p) → a .slot t .caches .top (a .slot t .class) ≡ x
     → n ≡ suc (length (k (a .slot t .class))) → s .class ≡ a .slot t .class
-    → s .caches .top ≡ update (a .slot t .caches .top) (a .slot t .class) u → s .caches .count ≡ update (a .slot t .caches .count) (a .slot t .class) n
+    → s .caches ≡ toCache (a .slot t .class) u n (a .slot t) .caches
     → PlaceRelated regions (setSlot t s (setLink u x a)) (cached t k (a .slot t .class) (u ∷ k (a .slot t .class)) p′ m) s p′
     → Related regions (setSlot t s (setLink u x a)) (cached t k (a .slot t .class) (u ∷ k (a .slot t .class)) p′ m)
-pushed {a = a} {t = t} {k = k} w u x n s p′ o i e f et ec pl =
+pushed {a = a} {t = t} {k = k} w u x n s p′ o i e f j pl =
     let c = a .slot t .class in
     let lk : Linked (link (a .area)) (λ u. u) 8192 x (k c) =
-    subst (λ (z : ℕ). Linked (link (a .area)) (λ u. u) 8192 z (k c)) i (mine w .tops c (mine w .fits)) in
+    subst (λ (z : ℕ). Linked (link (a .area)) (λ u. u) 8192 z (k c)) i (mine w .caches .tops c (mine w .fits)) in
     let wr = wrote w u x o (top-max w c x (k c) lk (λ v. omega arith)) in
     linking w u x s (taskOf p′ (update k c (u ∷ k c))) (mine-under w u o .0)
-    (re-cache w _ _ s p′ c u n (u ∷ k c) (λ e l. cache-agrees w u x o e l) f et ec
+    (re-cache w _ _ s p′ c u n (u ∷ k c) (λ e l. cache-agrees w u x o e l) f j
     (links refl (subst (λ (z : ℕ). Linked (link (withLink (a .area) u x)) (λ u. u) 8192 z (k c)) (sym wr)
     (linked-frame (cache-agrees w u x o c (mine w .fits)) lk)))
     e pl)
@@ -106,13 +106,13 @@ module _ {regions : ℕ} {v : View} {area : List ℕ} {m : Mem} {t : ℕ} {p : P
       let c = v (TaskClass t) in
       rw (cache-count w)
       (below-tested (w .pair) c (v (CacheTop t c)) (k c) (λ u. omega arith)
-      (subst (λ (z : ℕ). Linked (link area) (λ u. u) 8192 z (k c)) (cache-top w) (mine (w .pair) .tops c (mine (w .pair) .fits))))
+      (subst (λ (z : ℕ). Linked (link area) (λ u. u) 8192 z (k c)) (cache-top w) (mine (w .pair) .caches .tops c (mine (w .pair) .fits))))
 
   pub cache-top-max : v (CacheTop t (v (TaskClass t))) ≤ 8192
   cache-top-max =
       let c = v (TaskClass t) in
       top-max (w .pair) c (v (CacheTop t c)) (k c)
-      (subst (λ (z : ℕ). Linked (link area) (λ u. u) 8192 z (k c)) (cache-top w) (mine (w .pair) .tops c (mine (w .pair) .fits)))
+      (subst (λ (z : ℕ). Linked (link area) (λ u. u) 8192 z (k c)) (cache-top w) (mine (w .pair) .caches .tops c (mine (w .pair) .fits)))
       (λ u. omega arith)
 
   -- a block under way is a unit
@@ -124,7 +124,7 @@ module _ {regions : ℕ} {v : View} {area : List ℕ} {m : Mem} {t : ℕ} {p : P
   pub cache-push : (ws : List Write) (u : ℕ) (s : Slot) (p′ : Place) → 1 ≤ count u (underWay p)
       → memoryOf (assigned ws v) area ≡ withSlots (slotOf (assigned ws v)) (memoryOf v area)
       → slotOf (assigned ws v) t ≡ s → ((j : ℕ) → t ≢ j → slotOf (assigned ws v) j ≡ slotOf v j)
-      → s .class ≡ slotOf v t .class → s .caches .top ≡ slotOf v t .caches .top → s .caches .count ≡ slotOf v t .caches .count
+      → s .class ≡ slotOf v t .class → s .caches ≡ slotOf v t .caches
       → PlaceRelated regions
       (setSlot t (toCache (v (TaskClass t)) u (v (CacheCount t (v (TaskClass t))) + 1) s)
       (setLink u (v (CacheTop t (v (TaskClass t)))) (memoryOf v area)))
@@ -134,7 +134,7 @@ module _ {regions : ℕ} {v : View} {area : List ℕ} {m : Mem} {t : ℕ} {p : P
       (memoryOf (withCache t (v (TaskClass t)) u (v (CacheCount t (v (TaskClass t))) + 1) (assigned ws v))
       (withLink area u (v (CacheTop t (v (TaskClass t))))))
       (cached t k (v (TaskClass t)) (u ∷ k (v (TaskClass t))) p′ m)
-  cache-push ws u s p′ o e own others f g h pl =
+  cache-push ws u s p′ o e own others f g pl =
       let c = v (TaskClass t) in
       let n = v (CacheCount t c) + 1 in
       let x = v (CacheTop t c) in
@@ -142,7 +142,7 @@ module _ {regions : ℕ} {v : View} {area : List ℕ} {m : Mem} {t : ℕ} {p : P
       (sym (cache-becomes v (assigned ws v) (withLink area u x) t c u n s (setLink u x (memoryOf v area)) (mine (w .pair) .fits)
       (ap (setLink u x) e) refl own others))
       (pushed (w .pair) u x n (toCache c u n s) p′ o (cache-top w) (add-one (v (CacheCount t c)) ∙ ap suc (cache-count w)) f
-      (ap (λ (z : ℕ → ℕ). update z c u) g) (ap (λ (z : ℕ → ℕ). update z c n) h) pl)
+      (ap (λ (z : TaskCaches). record { top = update (z .top) c u; count = update (z .count) c n }) g) pl)
 
   -- The same, as a step: the cache has fewer than n blocks, and ws are sound.
   pub push-both : (answer : Answer) (e : Decided) (ws : List Write) (u : ℕ) (s : Slot) (p′ : Place)
@@ -150,7 +150,7 @@ module _ {regions : ℕ} {v : View} {area : List ℕ} {m : Mem} {t : ℕ} {p : P
       → (assigned ws v Tasks ≡ v Tasks) × (assigned ws v Regions ≡ v Regions)
       → memoryOf (assigned ws v) area ≡ withSlots (slotOf (assigned ws v)) (memoryOf v area)
       → slotOf (assigned ws v) t ≡ s → ((j : ℕ) → t ≢ j → slotOf (assigned ws v) j ≡ slotOf v j)
-      → s .class ≡ slotOf v t .class → s .caches .top ≡ slotOf v t .caches .top → s .caches .count ≡ slotOf v t .caches .count
+      → s .class ≡ slotOf v t .class → s .caches ≡ slotOf v t .caches
       → PlaceRelated regions
       (setSlot t (toCache (v (TaskClass t)) u (v (CacheCount t (v (TaskClass t))) + 1) s)
       (setLink u (v (CacheTop t (v (TaskClass t)))) (memoryOf v area)))
@@ -164,7 +164,7 @@ module _ {regions : ℕ} {v : View} {area : List ℕ} {m : Mem} {t : ℕ} {p : P
         cached t k (v (TaskClass t)) (u ∷ k (v (TaskClass t))) p′ m,
         record { code = codeOf answer; value = valueOf answer; decided = e },
       )
-  push-both answer e ws u s p′ o room sound keeps i own others f g h pl =
+  push-both answer e ws u s p′ o room sound keeps i own others f g pl =
       let c = v (TaskClass t) in
       let n = v (CacheCount t c) + 1 in
       let xs = CacheTop t c := u ∷ CacheCount t c := n ∷ [] in
@@ -172,7 +172,7 @@ module _ {regions : ℕ} {v : View} {area : List ℕ} {m : Mem} {t : ℕ} {p : P
         says = refl;
         rel = subst
             (λ (z : View). Related regions (memoryOf z (withLink area u (v (CacheTop t c)))) (cached t k c (u ∷ k c) p′ m))
-            (sym (assigned-append ws xs v)) (cache-push ws u s p′ o i own others f g h pl);
+            (sym (assigned-append ws xs v)) (cache-push ws u s p′ o i own others f g pl);
         keeps = (
           ap (λ (z : View). z Tasks) (assigned-append ws xs v) ∙ keeps .0,
           ap (λ (z : View). z Regions) (assigned-append ws xs v) ∙ keeps .1,

@@ -44,7 +44,7 @@ f4-clear-both {regions} {v} {area} {m} {t} {k} {z} w e =
             own = rw (eq-eqb t t refl);
             others = λ j n. rw (ne-eqb t j n);
           })
-          (re-slot (w .pair) _ _ s p refl refl refl refl (r-release e (PushRelated.at-read refl)));
+          (re-slot (w .pair) _ _ s p refl refl refl (r-release e (PushRelated.at-read refl)));
       sound = omega (arith, w .pair .turn .fits, w .pair .small);
       apart = tt;
     })

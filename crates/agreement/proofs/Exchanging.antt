@@ -115,19 +115,19 @@ module _ {regions : ℕ} {v : View} {area : List ℕ} {m : Mem} {t : ℕ} {k : �
         → IfOpen z (ChainRelated (link area) new (chained (m .descriptor d) z J))
         → (v′ : View) (s : Slot) (p : Place)
         → Writes v v′ area t s (setAnchor d (anchorOf (anchorWord new)) (memoryOf v area))
-        → s .class ≡ slotOf v t .class → s .caches .top ≡ slotOf v t .caches .top → s .caches .count ≡ slotOf v t .caches .count
+        → s .class ≡ slotOf v t .class → s .caches ≡ slotOf v t .caches
         → PlaceRelated regions (setSlot t s (setAnchor d (anchorOf (anchorWord new)) (memoryOf v area)))
         (Steps.at t k p (setDescriptor d (chained (m .descriptor d) z J) m)) s p
         → Related regions (memoryOf v′ area)
         (Steps.at t k p (setDescriptor d (chained (m .descriptor d) z J) m))
-    gives z e i v′ s p b f f₁ f₂ pl =
+    gives z e i v′ s p b f f₁ pl =
         let W = anchor-of-word new new-fits in
         anchor-exchanged w v′ s (taskOf p k) d (anchorWord new) (chained (m .descriptor d) z J) b
         (own .fits) (ap (λ (x : Declared.Anchor). x .state) W ∙ e) refl refl
         (subst (λ (x : Declared.Anchor). IfOpen z (ChainRelated (link area) x (chained (m .descriptor d) z J))) (sym W) i)
         (omega (arith, ap (λ (x : Declared.Anchor). x .avail) W, first-fits, perRegion-high c))
         (omega (arith, ap (λ (x : Declared.Anchor). x .count) W, perRegion-high c))
-        (re-slot (w .pair) _ _ s p refl f f₁ f₂ pl)
+        (re-slot (w .pair) _ _ s p refl f f₁ pl)
 
     -- the writes of the exchange
     abbrev ws : List Write
@@ -165,7 +165,7 @@ module _ {regions : ℕ} {v : View} {area : List ℕ} {m : Mem} {t : ℕ} {k : �
           keeps = (refl, refl);
           rel = rw (← (G .region)) (gives EMPTY (rw i) tt _ (part 33)
               (f4-clear c u d (n .state) (v (TaskRegion t)))
-              (place-written 33) refl refl refl (r-f4-clear refl (N .state)));
+              (place-written 33) refl refl (r-f4-clear refl (N .state)));
           sound = (omega (arith, w .pair .turn .fits), sound);
           apart = tt;
         })
@@ -184,15 +184,15 @@ module _ {regions : ℕ} {v : View} {area : List ℕ} {m : Mem} {t : ℕ} {k : �
         let to = gives PARTIAL (rw i) (record { linked = rw (own .class) joined; counts = counted }) in
         let v₂ = assigned (TaskPlace t := 29 ∷ GroupCount t := 0 ∷ ws) v in
         miss _ _ i (five w (gave d) ws (setDescriptor d (chained (m .descriptor d) PARTIAL J) m) u sound (refl, refl)
-        (to _ (part 28) (f1 c u) (place-written 28) refl refl refl (r-f1 refl))
+        (to _ (part 28) (f1 c u) (place-written 28) refl refl (r-f1 refl))
         (to v₂ (toGrouped 0 (part 29)) (f2 c u [])
         (record {
           shared = anchor-written v (slotOf v₂) area d (anchorWord new);
           own = rw (eq-eqb t t refl);
           others = λ j d. rw (ne-eqb t j d);
-        }) refl refl refl (r-f2 refl refl))
+        }) refl refl (r-f2 refl refl))
         (anchorOf a .state) (n .state) d (N .state)
-        (to _ (part 20) (pushing (offer c u d) read) (place-written 20) refl refl refl
+        (to _ (part 20) (pushing (offer c u d) read) (place-written 20) refl refl
         (r-offer (PushRelated.at-read refl))))
 
     won : (e : Dec (length J ≡ perRegion c))
@@ -230,7 +230,7 @@ module _ {regions : ℕ} {v : View} {area : List ℕ} {m : Mem} {t : ℕ} {k : �
         says = refl;
         keeps = (refl, refl);
         rel = goes w (TaskPlace t := 30 ∷ []) (toPlace 30 (slotOf v t)) (f3-read c u y g)
-            refl (rw (eq-eqb t t refl)) (λ j n. rw (ne-eqb t j n)) refl refl refl
+            refl (rw (eq-eqb t t refl)) (λ j n. rw (ne-eqb t j n)) refl refl
             (r-f3-read refl (same-group refl refl refl refl G));
         sound = omega (arith, w .pair .turn .fits);
         apart = tt;

@@ -78,7 +78,7 @@ module _ {regions : ℕ} {v : View} {area : List ℕ} {m : Mem} {t : ℕ} {k : �
       meet _ (eqb (i + 1) (perRegion c)) (eq-eqb (i + 1) (perRegion c) (omega arith))
       (push-both w Accepted nothing (TaskPlace t := 1 ∷ []) (unitOf (v (TaskRegion t)) c i) (toPlace 1 (slotOf v t)) (a1 c)
       (carved-here w) (omega (arith, placeHolds (w .pair .turn))) (omega (arith, w .pair .turn .fits)) (refl, refl)
-      refl (rw (eq-eqb t t refl)) (λ j d. rw (ne-eqb t j d)) refl refl refl (r-a1 refl))
+      refl (rw (eq-eqb t t refl)) (λ j d. rw (ne-eqb t j d)) refl refl (r-a1 refl))
   put-both w e (no f) =
       let c = v (TaskClass t) in
       let r = v (TaskRegion t) in
@@ -87,7 +87,7 @@ module _ {regions : ℕ} {v : View} {area : List ℕ} {m : Mem} {t : ℕ} {k : �
       (push-both w Accepted nothing (TaskIndex t := (i + 1) ∷ []) (unitOf r c i) (toChain r (suc i) (v (TaskLeft t)) (slotOf v t))
       (a8 c r (suc i)) (carved-here w) (omega (arith, placeHolds (w .pair .turn)))
       (omega (arith, w .pair .turn .fits, placeHolds (w .pair .turn), perRegion-high c)) (refl, refl)
-      refl (rw (eq-eqb t t refl, add-one i)) (λ j d. rw (ne-eqb t j d)) refl refl refl (r-a8 e))
+      refl (rw (eq-eqb t t refl, add-one i)) (λ j d. rw (ne-eqb t j d)) refl refl (r-a8 e))
 
   pub a8-both : At regions v area m t (a8 (v (TaskClass t)) (v (TaskRegion t)) (v (TaskIndex t))) k → v (TaskPlace t) ≡ 27
       → Both regions v area m (Allocate.a8 v (link area) regions t (v (TaskClass t)))
@@ -125,7 +125,7 @@ module _ {regions : ℕ} {v : View} {area : List ℕ} {m : Mem} {t : ℕ} {k : �
       meet _ (eqb (v (TaskLeft t)) 1) (eq-eqb (v (TaskLeft t)) 1 f)
       (push-both w Accepted nothing (TaskPlace t := 1 ∷ []) x (toPlace 1 (slotOf v t)) (a1 c)
       (omega (arith, when-same x 1)) (omega (arith, placeHolds (w .pair .turn))) (omega (arith, w .pair .turn .fits)) (refl, refl)
-      refl (rw (eq-eqb t t refl)) (λ j d. rw (ne-eqb t j d)) refl refl refl (r-a1 refl))
+      refl (rw (eq-eqb t t refl)) (λ j d. rw (ne-eqb t j d)) refl refl (r-a1 refl))
   move-both x (y ∷ q) w e l f h =
       let c = v (TaskClass t) in
       let r = v (TaskRegion t) in
@@ -139,7 +139,7 @@ module _ {regions : ℕ} {v : View} {area : List ℕ} {m : Mem} {t : ℕ} {k : �
       (push-both w Accepted nothing (TaskIndex t := next ∷ TaskLeft t := (left - 1) ∷ []) x (toChain r next (left - 1) (slotOf v t))
       (a4 c y q) o (omega (arith, placeHolds (w .pair .turn)))
       (omega (arith, w .pair .turn .fits, i, placeHolds (w .pair .turn), perRegion-high c)) (refl, refl)
-      refl (rw (eq-eqb t t refl)) (λ j d. rw (ne-eqb t j d)) refl refl refl
+      refl (rw (eq-eqb t t refl)) (λ j d. rw (ne-eqb t j d)) refl refl
       (r-a4 e (linked-frame (row-agrees (w .pair) x (v (CacheTop t c)) (y ∷ q) o (λ z. omega arith) once) l) (omega arith)
       (λ z. omega (arith, h z)))))
 

@@ -131,8 +131,11 @@ pub kept-slot : {regions : ℕ} {a a′ : Memory} {m m′ : Mem} {s : Slot} {T :
 kept-slot {T = T} K S = record {
   fits = S .fits;
   place = kept-place {p = T .place} {k = T .cache} K (S .place);
-  tops = λ c l. linked-frame (λ v h. K .links v (omega (arith, total-one 16 (rowWeight v) (T .cache) c l))) (S .tops c l);
-  counts = S .counts;
+  caches = record {
+    tops = λ c l. linked-frame (λ v h. K .links v (omega (arith, total-one 16 (rowWeight v) (T .cache) c l)))
+        (S .caches .tops c l);
+    counts = S .caches .counts;
+  };
 }
 
 -- a task's step: what stands after it for that task, and what is kept for the others

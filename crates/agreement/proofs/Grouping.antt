@@ -62,7 +62,7 @@ module _ {regions : ℕ} {v : View} {area : List ℕ} {m : Mem} {t : ℕ} {k : �
         rel = rw (← (T .is)) (own-written w _ s (taskOf p (update k c q))
             (with-cache v₁ c (link area u) (n - 1) (mine (w .pair) .fits)
             (record { shared = refl; own = rw (eq-eqb t t refl); others = λ j d. rw (ne-eqb t j d) }))
-            (re-cache (w .pair) _ _ s p c (link area u) (n - 1) q (λ e l v h. refl) refl refl refl (T .linked) (T .rest)
+            (re-cache (w .pair) _ _ s p c (link area u) (n - 1) q (λ e l v h. refl) refl refl (T .linked) (T .rest)
             (r-f2-more e (record {
               front = [];
               last = u;
@@ -124,7 +124,7 @@ module _ {regions : ℕ} {v : View} {area : List ℕ} {m : Mem} {t : ℕ} {k : �
               (with-cache v₁ c (link area u) (n - 1) (mine (w .pair) .fits)
               (record { shared = refl; own = rw (eq-eqb t t refl); others = λ j d. rw (ne-eqb t j d) }))
               (mine-under (w .pair) l lu .0)
-              (re-cache (w .pair) _ _ s p c (link area u) (n - 1) q kept refl refl refl
+              (re-cache (w .pair) _ _ s p c (link area u) (n - 1) q kept refl refl
               (linked-frame (λ z b. kept c (mine (w .pair) .fits) z (omega (arith, ap (count z) f))) (T .linked)) (T .rest)
               (r-f2-more e (record {
                 front = G .front ++ (l ∷ []);
@@ -154,7 +154,7 @@ module _ {regions : ℕ} {v : View} {area : List ℕ} {m : Mem} {t : ℕ} {k : �
       says = refl;
       keeps = (refl, refl);
       rel = goes w (TaskPlace t := 30 ∷ []) (toPlace 30 (slotOf v t)) (f3-read (v (TaskClass t)) (v (TaskUnit t)) y g)
-          refl (rw (eq-eqb t t refl)) (λ j n. rw (ne-eqb t j n)) refl refl refl
+          refl (rw (eq-eqb t t refl)) (λ j n. rw (ne-eqb t j n)) refl refl
           (r-f3-read refl (same-group refl refl refl refl G));
       sound = omega (arith, w .pair .turn .fits);
       apart = tt;

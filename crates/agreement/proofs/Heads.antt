@@ -105,7 +105,7 @@ module _ {regions : ℕ} {v : View} {area : List ℕ} {m : Mem} {t : ℕ} {p : P
     says = refl;
     keeps = (refl, refl);
     rel = goes w (TaskPlace t := b ∷ []) (toPlace b (slotOf v t)) p′
-        refl (rw (eq-eqb t t refl)) (λ j n. rw (ne-eqb t j n)) refl refl refl h;
+        refl (rw (eq-eqb t t refl)) (λ j n. rw (ne-eqb t j n)) refl refl h;
     sound = omega (arith, w .pair .turn .fits);
     apart = tt;
   }
@@ -121,7 +121,7 @@ module _ {regions : ℕ} {v : View} {area : List ℕ} {m : Mem} {t : ℕ} {p : P
     keeps = (refl, refl);
     rel = goes w (TaskPlace t := b ∷ TaskHead t := v (Head ℓ) ∷ [])
         (toPlace b (toHead (headOf (v (Head ℓ))) (slotOf v t))) p′
-        refl (rw (eq-eqb t t refl)) (λ j n. rw (ne-eqb t j n)) refl refl refl h;
+        refl (rw (eq-eqb t t refl)) (λ j n. rw (ne-eqb t j n)) refl refl h;
     sound = omega (arith, w .pair .turn .fits, w .fitting (Head ℓ) (omega arith));
     apart = tt;
   }
@@ -147,11 +147,11 @@ module _ {regions : ℕ} {v : View} {area : List ℕ} {m : Mem} {t : ℕ} {p : P
       → memoryOf (assigned ws v) area
       ≡ withSlots (slotOf (assigned ws v)) (setHead ℓ (headOf (advancedWord (v (TaskHead t)) x)) (memoryOf v area))
       → slotOf (assigned ws v) t ≡ s → ((j : ℕ) → t ≢ j → slotOf (assigned ws v) j ≡ slotOf v j)
-      → s .class ≡ slotOf v t .class → s .caches .top ≡ slotOf v t .caches .top → s .caches .count ≡ slotOf v t .caches .count
+      → s .class ≡ slotOf v t .class → s .caches ≡ slotOf v t .caches
       → PlaceRelated regions (setSlot t s (setHead ℓ (headOf (advancedWord (v (TaskHead t)) x)) (memoryOf v area)))
       (at t k p′ (setRow ℓ q m)) s p′
       → Related regions (memoryOf (assigned ws v) area) (at t k p′ (setRow ℓ q m))
-  wins {ℓ} {x = x} {q = q} K W ws s p′ e own others f g h pl =
+  wins {ℓ} {x = x} {q = q} K W ws s p′ e own others f g pl =
       let word = v (TaskHead t) in
       let new = headOf (advancedWord word x) in
       let i : x < 4294967296 = omega (arith, W .most) in
@@ -159,4 +159,4 @@ module _ {regions : ℕ} {v : View} {area : List ℕ} {m : Mem} {t : ℕ} {p : P
       (heading (w .pair) ℓ new q s (taskOf p′ k) (tagOf-advanced word x i ∙ W .tag)
       (of-descriptors v K (rw (itemOf-advanced word x i) (W .linked)))
       (of-regions v K (rw (itemOf-advanced word x i) (W .linked))))
-      e refl refl own others f g h pl
+      e refl refl own others f g pl

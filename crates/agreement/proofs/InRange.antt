@@ -120,11 +120,11 @@ module _ (regions : ℕ) (v : View) (area : List ℕ) (m : Mem) (t : ℕ) where
       row = k e
 
       count-is : v (CacheCount t e) ≡ length row
-      count-is = sym (if-yes (decLt e 16) (v (CacheCount t e)) 0 l) ∙ mine w .counts e l
+      count-is = sym (if-yes (decLt e 16) (v (CacheCount t e)) 0 l) ∙ mine w .caches .counts e l
 
       top-linked : Linked (link area) (λ x. x) 8192 (v (CacheTop t e)) row
       top-linked =
-          subst (λ (z : ℕ). Linked (link area) (λ x. x) 8192 z row) (if-yes (decLt e 16) (v (CacheTop t e)) 0 l) (mine w .tops e l)
+          subst (λ (z : ℕ). Linked (link area) (λ x. x) 8192 z row) (if-yes (decLt e 16) (v (CacheTop t e)) 0 l) (mine w .caches .tops e l)
 
       top-is : isTop regions e (v (CacheCount t e)) (v (CacheTop t e)) ≡ true
       top-is = rw count-is (below-tested w e (v (CacheTop t e)) row (λ x. omega arith) top-linked)

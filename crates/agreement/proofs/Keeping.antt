@@ -49,7 +49,7 @@ module _ {regions : ℕ} {v : View} {area : List ℕ} {m : Mem} {t : ℕ} {k : �
         says = refl;
         keeps = (refl, refl);
         rel = cache-push w (TaskPlace t := 0 ∷ []) u (toPlace 0 (slotOf v t)) idle under
-            refl (rw (eq-eqb t t refl)) (λ j n. rw (ne-eqb t j n)) refl refl refl (r-idle refl);
+            refl (rw (eq-eqb t t refl)) (λ j n. rw (ne-eqb t j n)) refl refl (r-idle refl);
         sound = omega (arith, w .pair .turn .fits, mine (w .pair) .fits, under-max w u under, perRegion-high c);
         apart = (mine-apart (w .pair) u (mine-under (w .pair) u under .0), tt);
       })
@@ -69,7 +69,7 @@ module _ {regions : ℕ} {v : View} {area : List ℕ} {m : Mem} {t : ℕ} {k : �
         says = refl;
         keeps = (refl, refl);
         rel = goes w (TaskPlace t := 29 ∷ GroupCount t := 0 ∷ []) (toPlace 29 (toGrouped 0 (slotOf v t)))
-            (f2 c (v (TaskUnit t)) []) refl (rw (eq-eqb t t refl)) (λ j n. rw (ne-eqb t j n)) refl refl refl (r-f2 refl refl);
+            (f2 c (v (TaskUnit t)) []) refl (rw (eq-eqb t t refl)) (λ j n. rw (ne-eqb t j n)) refl refl (r-f2 refl refl);
         sound = omega (arith, w .pair .turn .fits);
         apart = tt;
       }))

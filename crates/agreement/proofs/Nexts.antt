@@ -64,7 +64,7 @@ module _ {regions : ℕ} {v : View} {area : List ℕ} {m : Mem} {t : ℕ} {p : P
         keeps = (refl, refl);
         rel = shares w ws s p′ (setDescriptorNext x n (memoryOf v area)) m (dnexting (w .pair) x n s (taskOf p′ k) h i)
             (descriptorNext-written v (slotOf (assigned ws v)) area x n) refl refl
-            (rw (eq-eqb t t refl)) (λ j n. rw (ne-eqb t j n)) refl refl refl pl;
+            (rw (eq-eqb t t refl)) (λ j n. rw (ne-eqb t j n)) refl refl pl;
         sound = omega (arith, w .pair .turn .fits, descriptor-in-hand (w .pair .turn) x h);
         apart = tt;
       }
@@ -76,7 +76,7 @@ module _ {regions : ℕ} {v : View} {area : List ℕ} {m : Mem} {t : ℕ} {p : P
         keeps = (refl, refl);
         rel = shares w ws s p′ (setRegionNext x n (memoryOf v area)) m (rnexting (w .pair) x n s (taskOf p′ k) h i)
             (regionNext-written v (slotOf (assigned ws v)) area x n) refl refl
-            (rw (eq-eqb t t refl)) (λ j n. rw (ne-eqb t j n)) refl refl refl pl;
+            (rw (eq-eqb t t refl)) (λ j n. rw (ne-eqb t j n)) refl refl pl;
         sound = omega (arith, w .pair .turn .fits, w .pair .small, region-in-hand (w .pair .turn) x h);
         apart = tt;
       }

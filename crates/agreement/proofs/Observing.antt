@@ -192,7 +192,7 @@ module _ {regions : ℕ} {a : Memory} {m : Mem} (small : regions ≤ 16) (R : Re
         arith,
         ap (count v) (under-way w (S .place)),
         total-same 16 (λ c n. inCache a v (a .slot t .caches .top c) n) (a .slot t .caches .count) (rowWeight v) (m .task t .cache) (λ c i.
-            ap (λ (n : ℕ). inCache a v (a .slot t .caches .top c) n) (S .counts c i) ∙ ap (count v) (linked-walk (λ u. u) (S .tops c i) (λ u e. refl))),
+            ap (λ (n : ℕ). inCache a v (a .slot t .caches .top c) n) (S .caches .counts c i) ∙ ap (count v) (linked-walk (λ u. u) (S .caches .tops c i) (λ u e. refl))),
       )
 
   classes-at : (r : ℕ) → r < regions → classBy (a .entries .map r) r a ≡ plainClass m r

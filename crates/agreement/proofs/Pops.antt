@@ -154,7 +154,7 @@ module _ {regions : ℕ} {v : View} {area : List ℕ} {m : Mem} {t : ℕ} {k : �
         keeps = (refl, refl);
         rel = goes w (TaskPlace t := (Lists.popPlace P + 2) ∷ TaskNext t := below ∷ [])
             (toPlace (Lists.popPlace P + 2) (toNext below (slotOf v t))) p′
-            refl (rw (eq-eqb t t refl)) (λ j n. rw (ne-eqb t j n)) refl refl refl
+            refl (rw (eq-eqb t t refl)) (λ j n. rw (ne-eqb t j n)) refl refl
             (pop-place P (PopRelated.at-exchange refl (kept w p′ N) i l b
             (λ z. rw (sub-one item) (next-of item (L .linked) (N .same z) i))));
         sound = omega (arith, w .pair .turn .fits, place-max P, L .most);
@@ -179,7 +179,7 @@ module _ {regions : ℕ} {v : View} {area : List ℕ} {m : Mem} {t : ℕ} {k : �
         keeps = (refl, refl);
         rel = wins w K W ws (toPlace b (toDescriptor x (slotOf v t))) p′
             (head-written v (slotOf (assigned ws v)) area ℓ (advanced v t))
-            (rw (eq-eqb t t refl)) (λ j n. rw (ne-eqb t j n)) refl refl refl pl;
+            (rw (eq-eqb t t refl)) (λ j n. rw (ne-eqb t j n)) refl refl pl;
         sound = omega (arith, w .pair .turn .fits, list-of w K .below, advanced-fits W);
         apart = tt;
       }
@@ -206,7 +206,7 @@ module _ {regions : ℕ} {v : View} {area : List ℕ} {m : Mem} {t : ℕ} {k : �
         rel = wins w (kind Region w) W ws (toPlace 26 (toRegion x (slotOf v t)))
             (Plain.a7 (v (TaskClass t)) (v (TaskDescriptor t)) x)
             (head-written v (slotOf (assigned ws v)) area REGIONS (advanced v t))
-            (rw (eq-eqb t t refl)) (λ j n. rw (ne-eqb t j n)) refl refl refl (r-a7 refl);
+            (rw (eq-eqb t t refl)) (λ j n. rw (ne-eqb t j n)) refl refl (r-a7 refl);
         sound = omega (arith, w .pair .turn .fits, advanced-fits W);
         apart = tt;
       }

@@ -48,7 +48,7 @@ module _ {regions : ℕ} {v : View} {area : List ℕ} {m : Mem} {t : ℕ} {p : P
   leads b p′ pl =
       let ws = TaskPlace t := b ∷ Head ℓ := advanced v t x ∷ [] in
       wins w K W ws (toPlace b (slotOf v t)) p′ (head-written v (slotOf (assigned ws v)) area ℓ (advanced v t x))
-      (rw (eq-eqb t t refl)) (λ j n. rw (ne-eqb t j n)) refl refl refl pl
+      (rw (eq-eqb t t refl)) (λ j n. rw (ne-eqb t j n)) refl refl pl
 
   pub leads-to : (A : Answer) (e : Decided) (b : ℕ) (p′ : Place) → b < 256
       → PlaceRelated regions (setSlot t (toPlace b (slotOf v t))
@@ -68,7 +68,7 @@ module _ {regions : ℕ} {v : View} {area : List ℕ} {m : Mem} {t : ℕ} {p : P
       let ws = TaskPlace t := 29 ∷ GroupCount t := 0 ∷ Head ℓ := advanced v t x ∷ [] in
       wins w K W ws (toPlace 29 (toGrouped 0 (slotOf v t))) (f2 (v (TaskClass t)) (v (TaskUnit t)) [])
       (head-written v (slotOf (assigned ws v)) area ℓ (advanced v t x))
-      (rw (eq-eqb t t refl)) (λ j n. rw (ne-eqb t j n)) refl refl refl (r-f2 refl refl)
+      (rw (eq-eqb t t refl)) (λ j n. rw (ne-eqb t j n)) refl refl (r-f2 refl refl)
 
   -- to step 6 of a free
   pub leads-six : (e : Decided)

@@ -69,7 +69,7 @@ module _ {regions : ℕ} {v : View} {area : List ℕ} {m : Mem} {t : ℕ} {k : �
           rel = goes w (TaskPlace t := 31 ∷ TaskDescriptor t := d ∷ TaskAnchor t := v (Anchor d) ∷ [])
               (toPlace 31 (toDescriptor d (toAnchor (anchorOf (v (Anchor d))) (slotOf v t))))
               (f3-link c (v (TaskUnit t)) y g d (noted (m .descriptor d)))
-              refl (rw (eq-eqb t t refl)) (λ j n. rw (ne-eqb t j n)) refl refl refl
+              refl (rw (eq-eqb t t refl)) (λ j n. rw (ne-eqb t j n)) refl refl
               (r-f3-link refl (same-group refl refl refl refl G) (re-note refl refl N) l);
           sound = omega (arith, w .pair .turn .fits, F .fits, w .fitting (Anchor d) (omega (arith, F .fits)));
           apart = tt;
@@ -128,7 +128,7 @@ module _ {regions : ℕ} {v : View} {area : List ℕ} {m : Mem} {t : ℕ} {k : �
         rel = rw (L .at) (link-written w (assigned (TaskPlace t := 32 ∷ []) v) s (taskOf p k) l x
             (record { shared = refl; own = rw (eq-eqb t t refl); others = λ j d. rw (ne-eqb t j d) })
             (mine-under (w .pair) l lu .0)
-            (re-link (w .pair) _ _ s p (λ e i. cache-agrees (w .pair) l x lu e i) refl refl refl
+            (re-link (w .pair) _ _ s p (λ e i. cache-agrees (w .pair) l x lu e i) refl refl
             (r-f3-exchange refl (record {
               front = G .front;
               last = l;

@@ -23,10 +23,10 @@ module _ {regions : ℕ} {v : View} {area : List ℕ} {m : Mem} {t : ℕ} {p : P
       → (SlotRelated regions (setSlot t s b) (at t k p′ m₁) s (taskOf p′ k) → Related regions (setSlot t s b) (at t k p′ m₁))
       → memoryOf (assigned ws v) area ≡ withSlots (slotOf (assigned ws v)) b → b .slot ≡ slotOf v → b .area ≡ area
       → slotOf (assigned ws v) t ≡ s → ((j : ℕ) → t ≢ j → slotOf (assigned ws v) j ≡ slotOf v j)
-      → s .class ≡ slotOf v t .class → s .caches .top ≡ slotOf v t .caches .top → s .caches .count ≡ slotOf v t .caches .count
+      → s .class ≡ slotOf v t .class → s .caches ≡ slotOf v t .caches
       → PlaceRelated regions (setSlot t s b) (at t k p′ m₁) s p′
       → Related regions (memoryOf (assigned ws v) area) (at t k p′ m₁)
-  shares ws s p′ b m₁ change e f i own others g h j pl =
+  shares ws s p′ b m₁ change e f i own others g h pl =
       subst (λ (z : Memory). Related regions z (at t k p′ m₁))
       (sym (becomes v (assigned ws v) area t s b e f own others))
-      (change (re-slot (w .pair) (setSlot t s b) (at t k p′ m₁) s p′ i g h j pl))
+      (change (re-slot (w .pair) (setSlot t s b) (at t k p′ m₁) s p′ i g h pl))

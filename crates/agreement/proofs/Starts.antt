@@ -165,8 +165,10 @@ module _ (tasks regions : ℕ) (few : 1 ≤ regions) where
     slots = λ t l. record {
       fits = rw (unfilled tasks regions Layout.taskClasses t refl refl refl) (omega arith);
       place = r-idle (unfilled tasks regions Layout.taskPlaces t refl refl refl);
-      tops = λ c i. ends (if-yes (decLt c 16) _ _ i ∙ at-top tasks regions (16 * t + c) (omega arith));
-      counts = λ c i. if-yes (decLt c 16) _ _ i ∙ unfilled tasks regions Layout.cacheCounts (16 * t + c) refl refl refl;
+      caches = record {
+        tops = λ c i. ends (if-yes (decLt c 16) _ _ i ∙ at-top tasks regions (16 * t + c) (omega arith));
+        counts = λ c i. if-yes (decLt c 16) _ _ i ∙ unfilled tasks regions Layout.cacheCounts (16 * t + c) refl refl refl;
+      };
     };
   }
     where

@@ -58,7 +58,7 @@ module _ {regions : ℕ} {v : View} {area : List ℕ} {m : Mem} {t : ℕ} {k : �
       let n = v (CacheCount t c) in
       let lk : Linked (link area) (λ u. u) 8192 u (x ∷ q) =
       subst (Linked (link area) (λ u. u) 8192 u) e
-      (subst (λ (z : ℕ). Linked (link area) (λ u. u) 8192 z (k c)) (cache-top w) (mine (w .pair) .tops c l)) in
+      (subst (λ (z : ℕ). Linked (link area) (λ u. u) 8192 z (k c)) (cache-top w) (mine (w .pair) .caches .tops c l)) in
       let i : u ≡ x = first-of lk in
       let below : Linked (link area) (λ u. u) 8192 b q =
       subst (λ (z : ℕ). Linked (link area) (λ u. u) 8192 (link area z) q) (sym i) (rest-of lk) in
@@ -83,7 +83,7 @@ module _ {regions : ℕ} {v : View} {area : List ℕ} {m : Mem} {t : ℕ} {k : �
             (rw (eq-eqb t t refl)) (λ j d. rw (ne-eqb t j d))))
             (marking (w .pair) u 1 (toCache c b (n - 1) (toPlace 0 (slotOf v t))) (taskOf idle (update k c q))
             (re-cache (w .pair) _ _ (toCache c b (n - 1) (toPlace 0 (slotOf v t))) idle c b (n - 1) q (λ e l y h. refl)
-            refl refl refl below n′ (r-idle refl)));
+            refl refl below n′ (r-idle refl)));
         sound = omega (
           arith,
           w .pair .turn .fits,
@@ -109,7 +109,7 @@ module _ {regions : ℕ} {v : View} {area : List ℕ} {m : Mem} {t : ℕ} {k : �
         says = refl;
         keeps = (refl, refl);
         rel = goes w (TaskPlace t := 2 ∷ []) (toPlace 2 (slotOf v t)) (popping (partial c) read) refl
-            (rw (eq-eqb t t refl)) (λ j d. rw (ne-eqb t j d)) refl refl refl (r-partial (PopRelated.at-read refl));
+            (rw (eq-eqb t t refl)) (λ j d. rw (ne-eqb t j d)) refl refl (r-partial (PopRelated.at-read refl));
         sound = omega (arith, w .pair .turn .fits);
         apart = tt;
       })

@@ -42,7 +42,7 @@ topped {v = v} {area} {t = t} {k = k} w x q f =
     let c = v (TaskClass t) in
     let u = v (CacheTop t c) in
     let lk : Linked (link area) (λ z. z) 8192 u (x ∷ q) =
-    rw (← (cache-top w), ← f) (mine (w .pair) .tops c (mine (w .pair) .fits)) in
+    rw (← (cache-top w), ← f) (mine (w .pair) .caches .tops c (mine (w .pair) .fits)) in
     let i : u ≡ x = first-of lk in
     let l : Linked (link area) (λ z. z) 8192 (link area u) q = rw i (rest-of lk) in
     let n : v (CacheCount t c) ≡ suc (length q) = cache-count w ∙ ap length f in

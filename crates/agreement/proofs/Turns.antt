@@ -31,13 +31,13 @@ module _ {regions : ℕ} {v : View} {area : List ℕ} {m : Mem} {t : ℕ} {p : P
   pub goes : (ws : List Write) (s : Slot) (p′ : Place)
       → memoryOf (assigned ws v) area ≡ withSlots (slotOf (assigned ws v)) (memoryOf v area)
       → slotOf (assigned ws v) t ≡ s → ((j : ℕ) → t ≢ j → slotOf (assigned ws v) j ≡ slotOf v j)
-      → s .class ≡ slotOf v t .class → s .caches .top ≡ slotOf v t .caches .top → s .caches .count ≡ slotOf v t .caches .count
+      → s .class ≡ slotOf v t .class → s .caches ≡ slotOf v t .caches
       → PlaceRelated regions (setSlot t s (memoryOf v area)) (at t k p′ m) s p′
       → Related regions (memoryOf (assigned ws v) area) (at t k p′ m)
-  goes ws s p′ e own others f g h pl =
+  goes ws s p′ e own others f g pl =
       subst (λ (z : Memory). Related regions z (at t k p′ m))
       (sym (becomes v (assigned ws v) area t s (memoryOf v area) e refl own others))
-      (quiet (w .pair) s (taskOf p′ k) (re-slot (w .pair) _ _ s p′ refl f g h pl))
+      (quiet (w .pair) s (taskOf p′ k) (re-slot (w .pair) _ _ s p′ refl f g pl))
 
   -- the top of the cache of the request's class, and how many it has, as the fields say
   pub cache-top : slotOf v t .caches .top (v (TaskClass t)) ≡ v (CacheTop t (v (TaskClass t)))
@@ -46,4 +46,4 @@ module _ {regions : ℕ} {v : View} {area : List ℕ} {m : Mem} {t : ℕ} {p : P
   pub cache-count : v (CacheCount t (v (TaskClass t))) ≡ length (k (v (TaskClass t)))
   cache-count =
       sym (if-yes (decLt (v (TaskClass t)) 16) (v (CacheCount t (v (TaskClass t)))) 0 (mine (w .pair) .fits))
-      ∙ mine (w .pair) .counts (v (TaskClass t)) (mine (w .pair) .fits)
+      ∙ mine (w .pair) .caches .counts (v (TaskClass t)) (mine (w .pair) .fits)

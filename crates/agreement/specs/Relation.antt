@@ -15,7 +15,7 @@ use Rattle.plain.specs.State.{Place, idle, a1, popping, pushing, a3-read, a3-ex
 use Rattle.plain.specs.Steps.{top}
 use Rattle.plain.specs.States.{IfOpen}
 use Rattle.plain.specs.Blocks.{isBlock}
-use Rattle.agreement.specs.Memory.{Slot, Lists, Descriptors, Entries, Memory}
+use Rattle.agreement.specs.Memory.{TaskCaches, Slot, Lists, Descriptors, Entries, Memory}
 
 -- the tag of a number of won exchanges
 abbrev pub wrap : ℕ → ℕ
@@ -127,12 +127,16 @@ pub data PlaceRelated (regions : ℕ) (a : Memory) (m : Mem) (s : Slot) : Place 
   r-f4-clear : {w : State} → s .place ≡ 33 → s .hand .state ≡ numberOf w
       → PlaceRelated regions a m s (f4-clear (s .class) (s .unit) (s .hand .descriptor) w (s .hand .region))
 
--- A task: its class is one of the sixteen, its place, and each cache linked from its top.
+-- The caches: each is linked from its top.
+pub record CachesRelated (nx : ℕ → ℕ) (k : TaskCaches) (cache : ℕ → List ℕ) : Type 0 where
+  pub tops : (c : ℕ) → c < 16 → Linked nx (λ u. u) 8192 (k .top c) (cache c)
+  pub counts : (c : ℕ) → c < 16 → k .count c ≡ length (cache c)
+
+-- A task: its class is one of the sixteen, its place, and its caches.
 pub record SlotRelated (regions : ℕ) (a : Memory) (m : Mem) (s : Slot) (T : Task) : Type 0 where
   pub fits : s .class < 16
   pub place : PlaceRelated regions a m s (T .place)
-  pub tops : (c : ℕ) → c < 16 → Linked (link (a .area)) (λ u. u) 8192 (s .caches .top c) (T .cache c)
-  pub counts : (c : ℕ) → c < 16 → s .caches .count c ≡ length (T .cache c)
+  pub caches : CachesRelated (link (a .area)) (s .caches) (T .cache)
 
 -- ---- a descriptor
 
