@@ -3,7 +3,7 @@
 use mathlib.Core.Path.{_≡_, refl, sym, ap, subst, _∙_}
 use mathlib.Core.Bool.{true, cond}
 use mathlib.Core.List.{List, [], _∷_}
-use Prim.Native.Nat.{ℕ, zero, suc, _+_, _-_, _/_, _%_, _≤_, _<_}
+use Prim.Native.Nat.{ℕ, zero, suc, _+_, _/_, _%_, _≤_, _<_}
 use native.Mathlib.Omega.{arith}
 use native.Mathlib.Numerals.{sub-one}
 use native.Mathlib.Decide.{ℕ-discrete, decLt}
@@ -11,7 +11,6 @@ use borrow.Author.Tests.{eq-eqb, ne-eqb, le-leb, lt-ltb, eqb-true, eqb-false, lt
 use lib.Dec.{eqb, ltb}
 use Rattle.rows.specs.Branch.{if, both}
 use Rattle.fields.specs.Columns.{View, Write, _:=_, assigned}
-use Rattle.rows.specs.Linked.{Linked}
 use Rattle.links.specs.Link.{link}
 use Rattle.words.specs.Anchor.{anchorOf}
 use Rattle.words.specs.Mark.{bitAt, isSet, withClear}

@@ -12,8 +12,6 @@ use Rattle.rows.specs.Linked.{Linked, links}
 use Rattle.rows.specs.Update.{update}
 use Rattle.rows.proofs.Linked.{linked-frame}
 use Rattle.fields.specs.Columns.{View, Write, _:=_, assign, assigned, Sound}
-use Rattle.words.specs.Anchor.{anchorOf}
-use Rattle.words.specs.Head.{headOf}
 use Rattle.classes.specs.Classes.{perRegion}
 use Rattle.classes.proofs.Tables.{perRegion-high}
 use Rattle.links.specs.Link.{_⇒_, link, withLink}

@@ -1,5 +1,5 @@
 -- The other changes of a turn: heads, nexts, descriptors, the map, the marks.
-use mathlib.Core.Path.{_≡_, refl, sym, ap, subst, _∙_}
+use mathlib.Core.Path.{_≡_, refl, ap}
 use mathlib.Core.List.{List}
 use Prim.Native.Nat.{ℕ, suc, _+_, _≤_, _<_}
 use native.Mathlib.Omega.{arith}
@@ -9,7 +9,6 @@ use Rattle.words.specs.declared.head.Head.{Head}
 use Rattle.rows.specs.Counting.{count}
 use Rattle.rows.specs.Linked.{Linked, links}
 use Rattle.rows.specs.Update.{update}
-use Rattle.rows.proofs.Linked.{linked-frame}
 use Rattle.rows.proofs.Totals.{total-one}
 use Rattle.rows.proofs.Update.{update-all, update-all₂, update-other}
 use Rattle.rows.proofs.Weights.{below-max}
@@ -21,7 +20,7 @@ use Rattle.plain.specs.Held.{holdsDescriptor, holdsRegion}
 use Rattle.plain.specs.States.{IfOpen}
 use Rattle.plain.specs.Weights.{descriptorWeight, regionWeight, rowWeight}
 use Rattle.agreement.specs.Memory.{Memory, Slot}
-use Rattle.agreement.specs.Relation.{ChainRelated, Core, DescriptorRelated, Related, SlotRelated, wrap}
+use Rattle.agreement.specs.Relation.{ChainRelated, Core, Related, SlotRelated, wrap}
 use Rattle.agreement.proofs.Couple.{Pair, descriptor-apart, region-apart}
 use Rattle.agreement.proofs.Frames.{after, lists-kept}
 use Rattle.agreement.proofs.Parts.{anchor-related, descriptorNext-related, head-related, map-related, mark-related}

@@ -10,19 +10,18 @@ use Rattle.rows.specs.Linked.{Agree, links}
 use Rattle.rows.specs.Tests.{other, same, same?}
 use Rattle.rows.specs.Totals.{total}
 use Rattle.rows.specs.Weights.{one}
-use Rattle.rows.proofs.Linked.{linked-frame}
 use Rattle.rows.proofs.Totals.{total-found, total-one, total-two}
 use Rattle.rows.proofs.Weights.{below-is, below-max, when-same}
 use Rattle.classes.specs.Places.{Block}
 use Rattle.classes.proofs.Places.{inside}
 use Rattle.classes.proofs.Tables.{units-low}
-use Rattle.links.specs.Link.{_⇒_, link, linked, withLink}
+use Rattle.links.specs.Link.{_⇒_, link, withLink}
 use Rattle.links.proofs.Links.{length-linked, link-other, link-same}
-use Rattle.plain.specs.State.{EMPTY, FULL, Mem, PARTIAL, Place, State, Task, region, setTask}
+use Rattle.plain.specs.State.{Mem, Place, Task, region, setTask}
 use Rattle.plain.specs.Blocks.{isBlock}
 use Rattle.plain.specs.Held.{holdsDescriptor, holdsRegion}
 use Rattle.plain.specs.Invariant.{Invariant}
-use Rattle.plain.specs.States.{IfOpen, IsOpen, ifOpen}
+use Rattle.plain.specs.States.{IsOpen}
 use Rattle.plain.specs.Weights.{blockWeight, chainWeight, descriptorWeight, insideWeight, openWeight, regionWeight}
 use Rattle.plain.proofs.Blocks.{counts-block}
 use Rattle.plain.proofs.Homes.{inside-open}
@@ -30,7 +29,7 @@ use Rattle.plain.proofs.Places.{taskOf}
 use Rattle.plain.proofs.States.{open-counts}
 use Rattle.plain.proofs.Turn.{Turn}
 use Rattle.agreement.specs.Memory.{Memory, Slot}
-use Rattle.agreement.specs.Relation.{ChainRelated, Core, Related, SlotRelated}
+use Rattle.agreement.specs.Relation.{Core, Related, SlotRelated}
 use Rattle.agreement.proofs.Frames.{after, lists-kept}
 use Rattle.agreement.proofs.Parts.{links-related}
 use Rattle.agreement.proofs.Sets.{setLink, setSlot}

@@ -12,7 +12,7 @@ use Rattle.rows.specs.Tests.{same, other, same?}
 use Rattle.rows.specs.Update.{update}
 use Rattle.rows.specs.Weights.{one}
 use Rattle.rows.proofs.Totals.{total-one}
-use Rattle.rows.proofs.Update.{update-same, update-other, update-all, update-all₂}
+use Rattle.rows.proofs.Update.{update-same, update-other, update-all}
 use Rattle.rows.proofs.Weights.{when-same}
 use Rattle.fields.specs.Columns.{View, _:=_, assigned}
 use Rattle.words.specs.Anchor.{anchorWord, full}

@@ -1,7 +1,7 @@
 -- Every write of a step is to a field of the layout, its value fits there, and it is to no other task's place, whatever the two
 -- memories hold: one pass over the step list.
 -- Assumes nothing.
-use Prim.Native.Nat.{ℕ, zero, suc, _-_, _≤_, _<_}
+use Prim.Native.Nat.{ℕ, zero, suc, _≤_, _<_}
 use mathlib.Core.List.{List, [], _∷_}
 use native.Mathlib.Omega.{arith}
 use borrow.Author.Tests.{ltb-true}

@@ -8,7 +8,6 @@ use native.Mathlib.Decide.{ℕ-discrete, decLt}
 use lib.ListN.{length, getD, set, length-set}
 use Rattle.rows.specs.Counting.{count}
 use Rattle.rows.specs.Totals.{total}
-use Rattle.rows.proofs.Linked.{linked-frame}
 use Rattle.rows.proofs.Totals.{total-one}
 use Rattle.fields.specs.Columns.{View}
 use Rattle.links.specs.Link.{link, withLink, LinkWrite, _⇒_, linked}

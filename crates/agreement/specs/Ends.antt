@@ -1,7 +1,7 @@
 -- How a call ends, whatever the two memories hold: what a refusal leaves, which numbers refuse, when "no descriptor" and "no
 -- region" come, and the class that a size gets.
 -- Assumes nothing.
-use Prim.Native.Nat.{ℕ, _+_, _*_, _≤_, _<_}
+use Prim.Native.Nat.{ℕ, _+_, _≤_, _<_}
 use mathlib.Core.Path.{_≡_}
 use mathlib.Core.List.{List, [], _∷_, _++_}
 use mathlib.Core.Bool.{Bool, true, false, _||_}
@@ -10,7 +10,7 @@ use Rattle.fields.specs.Columns.{View, _:=_, assigned}
 use Rattle.words.specs.Head.{itemOf}
 use Rattle.classes.specs.Classes.{block}
 use Rattle.classes.specs.Sizes.{classOf}
-use Rattle.control.specs.Layout.{Head, TaskHead, TaskPlace, TaskClass, Tasks, Regions}
+use Rattle.control.specs.Layout.{Head, TaskHead, TaskPlace, TaskClass, Regions}
 use Rattle.control.specs.declared.answer.Answer.{Answer}
 use Rattle.control.specs.declared.answer.Answer.the-variants.{Accepted, Allocated, Freed, NoDescriptor, NoRegion, Refused}
 use Rattle.control.specs.declared.moves.Pop.{Pop}
