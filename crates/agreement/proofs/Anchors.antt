@@ -41,7 +41,8 @@ use Rattle.stepped.specs.Ranges.{isAnchor, hasChain}
 use Rattle.stepped.specs.Outcome.{accept}
 use Rattle.stepped.specs.Allocate as Allocate
 use Rattle.agreement.specs.Memory.{slotOf, memoryOf}
-use Rattle.agreement.specs.Relation.{PushRelated, NoteRelated, ChainRelated, r-retire, r-a3-read, r-a3-exchange, r-a4}
+use Rattle.agreement.specs.Relation.{PushRelated, NoteRelated, ChainRelated, r-retire, r-a3-read, r-a3-exchange}
+use Rattle.agreement.specs.Relation.{r-a4}
 use Rattle.agreement.proofs.Slots.{toPlace, toAnchor, toChain}
 use Rattle.agreement.proofs.Sets.{withSlots, setAnchor}
 use Rattle.agreement.proofs.Bridge.{anchor-written}

@@ -32,7 +32,10 @@ use Rattle.stepped.specs.Ranges.{isAnchor}
 use Rattle.stepped.specs.Calls as Stepped
 use Rattle.agreement.specs.Memory.{TaskCaches, Slot, Memory, slotOf, memoryOf}
 use Rattle.agreement.specs.Relation
-use Rattle.agreement.specs.Relation.{CachesRelated, PopRelated, PushRelated, PlaceRelated, r-idle, r-a1, r-partial, r-spare, r-region, r-retire, r-back, r-release, r-offer, r-a3-read, r-a3-exchange, r-a4, r-a7, r-a8, r-f1, r-f2, r-f2-more, r-f3-read, r-f3-link, r-f3-exchange, r-f4-clear, SlotRelated, Related}
+use Rattle.agreement.specs.Relation.{CachesRelated, PopRelated, PushRelated, PlaceRelated, r-idle, r-a1}
+use Rattle.agreement.specs.Relation.{r-partial, r-spare, r-region, r-retire, r-back, r-release, r-offer}
+use Rattle.agreement.specs.Relation.{r-a3-read, r-a3-exchange, r-a4, r-a7, r-a8, r-f1, r-f2, r-f2-more}
+use Rattle.agreement.specs.Relation.{r-f3-read, r-f3-link, r-f3-exchange, r-f4-clear, SlotRelated, Related}
 use Rattle.agreement.proofs.Slots.{toRequest}
 use Rattle.agreement.proofs.Sets.{setSlot, setMark}
 use Rattle.agreement.proofs.Bridge.{becomes, mark-clear-written}

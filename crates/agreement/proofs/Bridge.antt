@@ -19,7 +19,8 @@ use Rattle.words.specs.Head.{headOf}
 use Rattle.words.specs.Anchor.{anchorOf}
 use Rattle.agreement.specs.Memory.{Slot, Memory, byClass, slotOf, markOf, memoryOf}
 use Rattle.agreement.proofs.Sets.{onLists, onDescriptors, onEntries, withSlots, withHeads, withDescriptorNexts}
-use Rattle.agreement.proofs.Sets.{withRegionNexts, withAnchors, withMap, withMarks, setSlot, setHead, setDescriptorNext}
+use Rattle.agreement.proofs.Sets.{withRegionNexts, withAnchors, withMap, withMarks, setSlot, setHead}
+use Rattle.agreement.proofs.Sets.{setDescriptorNext}
 use Rattle.agreement.proofs.Sets.{setRegionNext, setAnchor, setOwner, setMap, setMark}
 
 -- ---- one column

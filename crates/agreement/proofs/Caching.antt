@@ -34,7 +34,8 @@ use Rattle.agreement.proofs.Slots.{toCache, withCaches}
 use Rattle.agreement.proofs.Sets.{withSlots, setSlot, setLink}
 use Rattle.agreement.proofs.Bridge.{becomes, cache-here, cache-there}
 use Rattle.agreement.proofs.Couple.{Pair, mine, linking}
-use Rattle.agreement.proofs.Blocks.{below-tested, home-below, top-max, mine-under, mine-apart, cache-agrees, wrote, re-cache}
+use Rattle.agreement.proofs.Blocks.{below-tested, home-below, top-max, mine-under, mine-apart, cache-agrees}
+use Rattle.agreement.proofs.Blocks.{wrote, re-cache}
 use Rattle.agreement.proofs.Both.{Both}
 use Rattle.agreement.proofs.Turns.{At, cache-top, cache-count}
 

@@ -23,7 +23,8 @@ use Rattle.agreement.specs.Memory.{Memory, Slot}
 use Rattle.agreement.specs.Relation.{ChainRelated, Core, Related, SlotRelated, wrap}
 use Rattle.agreement.proofs.Couple.{Pair, descriptor-apart, region-apart}
 use Rattle.agreement.proofs.Frames.{after, lists-kept}
-use Rattle.agreement.proofs.Parts.{anchor-related, descriptorNext-related, head-related, map-related, mark-related}
+use Rattle.agreement.proofs.Parts.{anchor-related, descriptorNext-related, head-related, map-related}
+use Rattle.agreement.proofs.Parts.{mark-related}
 use Rattle.agreement.proofs.Parts.{regionNext-related}
 use Rattle.agreement.proofs.Sets.{setAnchor, setDescriptorNext, setHead, setMap, setMark, setRegionNext, setSlot}
 

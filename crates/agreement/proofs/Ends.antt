@@ -17,9 +17,11 @@ use Rattle.words.specs.Mark.{isSet}
 use Rattle.classes.specs.Places.{regionOf, isFirst}
 use Rattle.classes.proofs.Sizes.{is-class, holds, smallest}
 use Rattle.plain.specs.Moves.{Decided, found-empty, pushed}
-use Rattle.control.specs.Layout.{Head, TaskHead, Anchor, Marks, TaskPlace, TaskClass, DescriptorRegion, DescriptorClass, Map, Regions, seen, changed}
+use Rattle.control.specs.Layout.{Head, TaskHead, Anchor, Marks, TaskPlace, TaskClass, DescriptorRegion}
+use Rattle.control.specs.Layout.{DescriptorClass, Map, Regions, seen, changed}
 use Rattle.control.specs.declared.answer.Answer.{Answer}
-use Rattle.control.specs.declared.answer.Answer.the-variants.{Accepted, Allocated, Freed, NoDescriptor, NoRegion, Refused}
+use Rattle.control.specs.declared.answer.Answer.the-variants.{Accepted, Allocated, Freed, NoDescriptor, NoRegion}
+use Rattle.control.specs.declared.answer.Answer.the-variants.{Refused}
 use Rattle.control.specs.declared.moves.Pop.{Pop}
 use Rattle.control.specs.declared.moves.Pop.the-variants.{Spare, Region}
 use Rattle.control.specs.declared.moves.Push.{Push}
@@ -30,10 +32,13 @@ use Rattle.stepped.specs.Lists as Lists
 use Rattle.stepped.specs.Lists.{pushPlace}
 use Rattle.stepped.specs.Steps as Steps
 use Rattle.stepped.specs.Calls as Calls
-use Rattle.agreement.specs.Ends.{WritesNothing, Leaves, oneOf, testRefusals, allocateRefusals, freeRefusals, placeRefusals, stepRefusals, Begins, Goes}
+use Rattle.agreement.specs.Ends.{WritesNothing, Leaves, oneOf, testRefusals, allocateRefusals, freeRefusals}
+use Rattle.agreement.specs.Ends.{placeRefusals, stepRefusals, Begins, Goes}
 use Rattle.stepped.specs.Calls.{Tested}
-use Rattle.agreement.specs.Ends.{StartEnds, BeginEnds, StepEnds, FindsEmpty, WinsPush, InPush, placeAfter, IsEnd, Begun}
-use Rattle.agreement.proofs.Ways.{branch, accepted-no, more, tests, passed, Cause, Ending, CallEnding, refused, going, ended, at-call, sent}
+use Rattle.agreement.specs.Ends.{StartEnds, BeginEnds, StepEnds, FindsEmpty, WinsPush, InPush, placeAfter}
+use Rattle.agreement.specs.Ends.{IsEnd, Begun}
+use Rattle.agreement.proofs.Ways.{branch, accepted-no, more, tests, passed, Cause, Ending, CallEnding, refused}
+use Rattle.agreement.proofs.Ways.{going, ended, at-call, sent}
 use Rattle.agreement.proofs.StepWays.{step-at}
 
 -- no start and no beginning ends a request

@@ -13,7 +13,8 @@ use Rattle.rows.specs.Update.{update}
 use Rattle.classes.specs.Classes.{units, perRegion}
 use Rattle.classes.specs.Sizes.{classOf}
 use Rattle.plain.specs.State.{EMPTY, FULL, exchange, spare, popping, SPARES, REGIONS}
-use Rattle.plain.specs.Moves.{Decided, nothing, found-empty, popped, pushed, lost, anchor-empty, took, gave, anchor-lost, Answer, going, finished, ended, refused}
+use Rattle.plain.specs.Moves.{Decided, nothing, found-empty, popped, pushed, lost, anchor-empty, took, gave}
+use Rattle.plain.specs.Moves.{anchor-lost, Answer, going, finished, ended, refused}
 use Rattle.plain.specs.Steps.{step}
 use Rattle.plain.specs.Calls.{Pool, startMem, rising, unstarted, call}
 use Rattle.plain.specs.Calls as Plain

@@ -22,9 +22,12 @@ use Rattle.plain.specs.State.{region}
 use Rattle.plain.specs.Held.{holdsDescriptor, holdsRegion, underWay}
 use Rattle.plain.specs.Weights.{blockWeight, rowWeight}
 use Rattle.agreement.specs.Memory.{Lists, Memory, Slot}
-use Rattle.agreement.specs.Relation.{Core, GroupRelated, NoteRelated, Noted, PlaceRelated, PopRelated, PushRelated}
-use Rattle.agreement.specs.Relation.{Related, SlotRelated, r-a1, r-a3-exchange, r-a3-read, r-a4, r-a7, r-a8, r-back}
-use Rattle.agreement.specs.Relation.{r-f1, r-f2, r-f2-more, r-f3-exchange, r-f3-link, r-f3-read, r-f4-clear, r-idle}
+use Rattle.agreement.specs.Relation.{Core, GroupRelated, NoteRelated, Noted, PlaceRelated, PopRelated}
+use Rattle.agreement.specs.Relation.{PushRelated}
+use Rattle.agreement.specs.Relation.{Related, SlotRelated, r-a1, r-a3-exchange, r-a3-read, r-a4, r-a7, r-a8}
+use Rattle.agreement.specs.Relation.{r-back}
+use Rattle.agreement.specs.Relation.{r-f1, r-f2, r-f2-more, r-f3-exchange, r-f3-link, r-f3-read, r-f4-clear}
+use Rattle.agreement.specs.Relation.{r-idle}
 use Rattle.agreement.specs.Relation.{r-offer, r-partial, r-region, r-release, r-retire, r-spare}
 
 -- the descriptor that a place noted the anchor of

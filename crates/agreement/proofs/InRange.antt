@@ -25,12 +25,15 @@ use Rattle.plain.specs.Calls.{Pool, unstarted}
 use Rattle.plain.specs.Calls as Calls
 use Rattle.plain.proofs.States.{open-holds}
 use Rattle.plain.proofs.Turn.{taskHolds}
-use Rattle.control.specs.Layout.{Anchor, CacheTop, CacheCount, TaskUnit, TaskPlace, TaskClass, TaskDescriptor, TaskState, DescriptorClass, Regions, seen}
+use Rattle.control.specs.Layout.{Anchor, CacheTop, CacheCount, TaskUnit, TaskPlace, TaskClass, TaskDescriptor}
+use Rattle.control.specs.Layout.{TaskState, DescriptorClass, Regions, seen}
 use Rattle.stepped.specs.Ranges.{isBlock, isTop}
 use Rattle.agreement.specs.Memory.{slotOf, memoryOf}
 use Rattle.agreement.specs.Relation.{PlaceRelated, Related}
-use Rattle.agreement.specs.Relation.{r-idle, r-a1, r-partial, r-spare, r-region, r-retire, r-back, r-release, r-offer, r-a3-read, r-a3-exchange}
-use Rattle.agreement.specs.Relation.{r-a4, r-a7, r-a8, r-f1, r-f2, r-f2-more, r-f3-read, r-f3-link, r-f3-exchange, r-f4-clear}
+use Rattle.agreement.specs.Relation.{r-idle, r-a1, r-partial, r-spare, r-region, r-retire, r-back, r-release}
+use Rattle.agreement.specs.Relation.{r-offer, r-a3-read, r-a3-exchange}
+use Rattle.agreement.specs.Relation.{r-a4, r-a7, r-a8, r-f1, r-f2, r-f2-more, r-f3-read, r-f3-link}
+use Rattle.agreement.specs.Relation.{r-f3-exchange, r-f4-clear}
 use Rattle.stepped.specs.Outcome.{Memories}
 use Rattle.agreement.specs.Events.{Event, start, whole, Premises, Unstarted}
 use Rattle.agreement.specs.Reached.{History, Reached, from-unstarted, from-start, by-event, Along, Wherever}

@@ -33,8 +33,14 @@ use Rattle.plain.proofs.OnePlace.{found}
 use Rattle.plain.proofs.Places.{placeHolds}
 use Rattle.plain.proofs.Starts.{rising-count, length-rising}
 use Rattle.agreement.specs.Memory.{Memory}
-use Rattle.agreement.specs.Relation.{PopRelated, PushRelated, GroupRelated, PlaceRelated, r-idle, r-a1, r-partial, r-spare, r-region, r-retire, r-back, r-release, r-offer, r-a3-read, r-a3-exchange, r-a4, r-a7, r-a8, r-f1, r-f2, r-f2-more, r-f3-read, r-f3-link, r-f3-exchange, r-f4-clear, DescriptorRelated, Related}
-use Rattle.agreement.specs.Observe.{listFrom, classBy, chainBy, plainClassBy, plainChainBy, plainClass, plainChain, underWayAt, inCache, withTask, hands, task, chain, holderOf, Same}
+use Rattle.agreement.specs.Relation.{PopRelated, PushRelated, GroupRelated, PlaceRelated, r-idle, r-a1}
+use Rattle.agreement.specs.Relation.{r-partial, r-spare, r-region, r-retire, r-back, r-release, r-offer}
+use Rattle.agreement.specs.Relation.{r-a3-read, r-a3-exchange, r-a4, r-a7, r-a8, r-f1, r-f2, r-f2-more}
+use Rattle.agreement.specs.Relation.{r-f3-read, r-f3-link, r-f3-exchange, r-f4-clear, DescriptorRelated}
+use Rattle.agreement.specs.Relation.{Related}
+use Rattle.agreement.specs.Observe.{listFrom, classBy, chainBy, plainClassBy, plainChainBy, plainClass}
+use Rattle.agreement.specs.Observe.{plainChain, underWayAt, inCache, withTask, hands, task, chain, holderOf}
+use Rattle.agreement.specs.Observe.{Same}
 use Rattle.agreement.proofs.Couple.{Pair}
 use Rattle.agreement.proofs.Notes.{number-open}
 use Rattle.agreement.proofs.Groups.{of-region}

@@ -22,7 +22,8 @@ use Rattle.stepped.specs.Outcome.{Outcome}
 use Rattle.stepped.specs.Steps as Stepping₁
 use Rattle.stepped.specs.Calls as Stepped
 use Rattle.stepped.specs.Outcome.{Memories}
-use Rattle.agreement.specs.Events.{Event, start, allocate, free, go, write, stepped, whole, Taken, Premise, Premises}
+use Rattle.agreement.specs.Events.{Event, start, allocate, free, go, write, stepped, whole, Taken, Premise}
+use Rattle.agreement.specs.Events.{Premises}
 use Rattle.agreement.specs.Events.{Unstarted}
 use Rattle.agreement.specs.Agreement.{Agrees, Kept, Unchanged, Untouched, Agree}
 use Rattle.agreement.proofs.Both.{Both}

@@ -12,8 +12,10 @@ use Rattle.rows.proofs.Update.{update-all, update-all₂}
 use Rattle.plain.specs.State.{Descriptor, EMPTY, FULL, PARTIAL, State, numberOf}
 use Rattle.plain.specs.States.{IfOpen, IsOpen}
 use Rattle.agreement.specs.Memory.{Lists, Descriptors, Entries}
-use Rattle.agreement.specs.Relation.{ChainRelated, DescriptorRelated, DescriptorsRelated, EntriesRelated, ListsRelated, wrap}
-use Rattle.agreement.proofs.Sets.{withHeads, withDescriptorNexts, withRegionNexts, withAnchors, withMap, withMarks}
+use Rattle.agreement.specs.Relation.{ChainRelated, DescriptorRelated, DescriptorsRelated, EntriesRelated}
+use Rattle.agreement.specs.Relation.{ListsRelated, wrap}
+use Rattle.agreement.proofs.Sets.{withHeads, withDescriptorNexts, withRegionNexts, withAnchors, withMap}
+use Rattle.agreement.proofs.Sets.{withMarks}
 
 -- ---- the lists
 module _ {regions : ℕ} {l : Lists} {won : ℕ → ℕ} {row : ℕ → List ℕ} (R : ListsRelated regions l won row) where

@@ -9,7 +9,8 @@ use lib.ListN.{length}
 use Rattle.rows.specs.Branch.{both}
 use Rattle.classes.specs.Classes.{block}
 use Rattle.classes.specs.Places.{unitOf, regionOf, indexOf}
-use Rattle.plain.specs.State.{Phase, read, next, exchange, Place, idle, a1, popping, pushing, a3-read, a3-exchange, a4, a7, a8, f1, f2, f3-read, f3-link, f3-exchange, f4-clear, Mem}
+use Rattle.plain.specs.State.{Phase, read, next, exchange, Place, idle, a1, popping, pushing, a3-read, a3-exchange}
+use Rattle.plain.specs.State.{a4, a7, a8, f1, f2, f3-read, f3-link, f3-exchange, f4-clear, Mem}
 use Rattle.plain.specs.Moves.{Answer}
 use Rattle.plain.specs.Steps.{popList, pushList}
 use Rattle.plain.specs.Calls.{Pool, unstarted}
@@ -17,7 +18,8 @@ use Rattle.plain.specs.Calls as Plain
 use Rattle.plain.specs.Codes.{AtMost}
 use Rattle.plain.proofs.Answers.{most}
 use Rattle.stepped.specs.Outcome.{Memories}
-use Rattle.agreement.specs.Events.{Event, start, allocate, free, go, write, stepped, whole, Recent, Near, classThere, Premises}
+use Rattle.agreement.specs.Events.{Event, start, allocate, free, go, write, stepped, whole, Recent, Near}
+use Rattle.agreement.specs.Events.{classThere, Premises}
 use Rattle.agreement.specs.Events.{Unstarted}
 use Rattle.agreement.specs.Agreement.{Agree}
 use Rattle.agreement.proofs.Theorem.{agreement}

@@ -18,7 +18,8 @@ use Rattle.words.specs.Mark.{isSet}
 use Rattle.words.proofs.Marks.{clear-below}
 use Rattle.classes.specs.Places.{regionOf, isFirst}
 use Rattle.classes.proofs.Sizes.{is-class}
-use Rattle.control.specs.Layout.{layout, seen, changed, Anchor, Marks, Map, Regions, DescriptorRegion, DescriptorClass, TaskPlace}
+use Rattle.control.specs.Layout.{layout, seen, changed, Anchor, Marks, Map, Regions, DescriptorRegion}
+use Rattle.control.specs.Layout.{DescriptorClass, TaskPlace}
 use Rattle.control.proofs.Fields.{seen-changed}
 use Rattle.stepped.specs.Outcome.{Outcome}
 use Rattle.stepped.specs.Ranges.{isAnchor}

@@ -16,7 +16,8 @@ use Rattle.classes.specs.Classes.{units, perRegion}
 use Rattle.classes.specs.Places.{regionOf, indexOf}
 use Rattle.classes.proofs.Tables.{perRegion-high}
 use Rattle.control.specs.Layout.{layout, Anchor, CacheTop, CacheCount, Map}
-use Rattle.control.specs.Layout.{TaskUnit, TaskAnchor, TaskDescriptor, TaskRegion, TaskState, GroupFirst, GroupLast, GroupCount}
+use Rattle.control.specs.Layout.{TaskUnit, TaskAnchor, TaskDescriptor, TaskRegion, TaskState, GroupFirst, GroupLast}
+use Rattle.control.specs.Layout.{GroupCount}
 use Rattle.stepped.specs.Ranges.{oneTo, isBlock, isTop, isAnchor, hasFirst, hasRoom}
 use Rattle.stepped.specs.Free as Free
 use Rattle.stepped.proofs.Conjunction.{both, left-true, right-true}

@@ -22,7 +22,8 @@ use Rattle.control.specs.declared.moves.Push.the-variants.{Retire, Back, Releas
 use Rattle.stepped.specs.Outcome.{Outcome, refuse, bad}
 use Rattle.stepped.specs.Ranges.{oneTo}
 use Rattle.stepped.specs.Lists as Lists
-use Rattle.stepped.specs.Lists.{popPlace, popList, popItems, popNextField, pushPlace, pushList, pushItems, pushNextField, itemField}
+use Rattle.stepped.specs.Lists.{popPlace, popList, popItems, popNextField, pushPlace, pushList, pushItems}
+use Rattle.stepped.specs.Lists.{pushNextField, itemField}
 use Rattle.stepped.proofs.Conjunction.{left-true, right-true}
 use Rattle.agreement.proofs.Both.{Fitting}
 use Rattle.agreement.proofs.Ways.{branch}

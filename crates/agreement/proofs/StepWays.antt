@@ -12,8 +12,10 @@ use Rattle.words.specs.Anchor.{EMPTY, anchorOf, anchorWord, returned}
 use Rattle.classes.specs.Classes.{perRegion}
 use Rattle.classes.specs.Places.{regionOf, unitOf}
 use Rattle.plain.specs.Moves.{gave}
-use Rattle.control.specs.Layout.{Anchor, TaskAnchor, CacheTop, CacheCount, TaskUnit, TaskIndex, TaskLeft, GroupFirst, GroupLast, GroupCount}
-use Rattle.control.specs.Layout.{TaskPlace, TaskClass, TaskDescriptor, TaskRegion, TaskState, DescriptorRegion, Map, Regions}
+use Rattle.control.specs.Layout.{Anchor, TaskAnchor, CacheTop, CacheCount, TaskUnit, TaskIndex, TaskLeft, GroupFirst}
+use Rattle.control.specs.Layout.{GroupLast, GroupCount}
+use Rattle.control.specs.Layout.{TaskPlace, TaskClass, TaskDescriptor, TaskRegion, TaskState, DescriptorRegion, Map}
+use Rattle.control.specs.Layout.{Regions}
 use Rattle.control.specs.declared.moves.Pop.the-variants.{Partial, Spare, Region}
 use Rattle.control.specs.declared.moves.Push.the-variants.{Retire, Back, Release, Offer}
 use Rattle.stepped.specs.Outcome.{Outcome, bad}

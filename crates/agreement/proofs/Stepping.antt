@@ -17,7 +17,9 @@ use Rattle.control.specs.declared.moves.Push.the-variants.{Retire, Back, Releas
 use Rattle.stepped.specs.Outcome.{refuse}
 use Rattle.stepped.specs.Steps as Stepped
 use Rattle.agreement.specs.Memory.{slotOf, memoryOf}
-use Rattle.agreement.specs.Relation.{PlaceRelated, r-idle, r-a1, r-partial, r-spare, r-region, r-retire, r-back, r-release, r-offer, r-a3-read, r-a3-exchange, r-a4, r-a7, r-a8, r-f1, r-f2, r-f2-more, r-f3-read, r-f3-link, r-f3-exchange, r-f4-clear, Related}
+use Rattle.agreement.specs.Relation.{PlaceRelated, r-idle, r-a1, r-partial, r-spare, r-region, r-retire, r-back}
+use Rattle.agreement.specs.Relation.{r-release, r-offer, r-a3-read, r-a3-exchange, r-a4, r-a7, r-a8, r-f1, r-f2}
+use Rattle.agreement.specs.Relation.{r-f2-more, r-f3-read, r-f3-link, r-f3-exchange, r-f4-clear, Related}
 use Rattle.agreement.specs.Events
 use Rattle.agreement.proofs.Both.{Both, Fitting, pass, choose}
 use Rattle.agreement.proofs.Turns.{At}

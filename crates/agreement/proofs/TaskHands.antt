@@ -24,8 +24,10 @@ use Rattle.control.specs.Layout.{TaskAnchor, TaskIndex, GroupFirst, GroupLast, 
 use Rattle.control.specs.Layout.{TaskPlace, TaskClass, TaskDescriptor, TaskRegion}
 use Rattle.agreement.specs.Memory.{Slot, slotOf, memoryOf}
 use Rattle.agreement.specs.Relation.{PopRelated, PushRelated, NoteRelated, GroupRelated, PlaceRelated}
-use Rattle.agreement.specs.Relation.{r-idle, r-a1, r-partial, r-spare, r-region, r-retire, r-back, r-release, r-offer, r-a3-read, r-a3-exchange}
-use Rattle.agreement.specs.Relation.{r-a4, r-a7, r-a8, r-f1, r-f2, r-f2-more, r-f3-read, r-f3-link, r-f3-exchange, r-f4-clear}
+use Rattle.agreement.specs.Relation.{r-idle, r-a1, r-partial, r-spare, r-region, r-retire, r-back, r-release}
+use Rattle.agreement.specs.Relation.{r-offer, r-a3-read, r-a3-exchange}
+use Rattle.agreement.specs.Relation.{r-a4, r-a7, r-a8, r-f1, r-f2, r-f2-more, r-f3-read, r-f3-link}
+use Rattle.agreement.specs.Relation.{r-f3-exchange, r-f4-clear}
 use Rattle.agreement.specs.InRange.{TaskHands, TaskChains}
 use Rattle.agreement.proofs.Tops.{first-of, descriptor-in-hand, region-in-hand}
 use Rattle.agreement.proofs.Couple.{Pair}

@@ -18,8 +18,10 @@ use Rattle.control.specs.declared.moves.Push.the-variants.{Retire, Back, Releas
 use Rattle.stepped.specs.Lists.{popPlace, popItems, pushPlace, pushItems}
 use Rattle.agreement.specs.Memory.{Slot, slotOf, memoryOf}
 use Rattle.agreement.specs.Relation.{PopRelated, PushRelated, PlaceRelated}
-use Rattle.agreement.specs.Relation.{r-idle, r-a1, r-partial, r-spare, r-region, r-retire, r-back, r-release, r-offer, r-a3-read, r-a3-exchange}
-use Rattle.agreement.specs.Relation.{r-a4, r-a7, r-a8, r-f1, r-f2, r-f2-more, r-f3-read, r-f3-link, r-f3-exchange, r-f4-clear}
+use Rattle.agreement.specs.Relation.{r-idle, r-a1, r-partial, r-spare, r-region, r-retire, r-back, r-release}
+use Rattle.agreement.specs.Relation.{r-offer, r-a3-read, r-a3-exchange}
+use Rattle.agreement.specs.Relation.{r-a4, r-a7, r-a8, r-f1, r-f2, r-f2-more, r-f3-read, r-f3-link}
+use Rattle.agreement.specs.Relation.{r-f3-exchange, r-f4-clear}
 use Rattle.agreement.specs.InRange.{OneTo, TaskLists}
 use Rattle.agreement.proofs.TaskHands.{pop-span, push-span}
 

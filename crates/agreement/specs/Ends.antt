@@ -12,7 +12,8 @@ use Rattle.classes.specs.Classes.{block}
 use Rattle.classes.specs.Sizes.{classOf}
 use Rattle.control.specs.Layout.{Head, TaskHead, TaskPlace, TaskClass, Regions}
 use Rattle.control.specs.declared.answer.Answer.{Answer}
-use Rattle.control.specs.declared.answer.Answer.the-variants.{Accepted, Allocated, Freed, NoDescriptor, NoRegion, Refused}
+use Rattle.control.specs.declared.answer.Answer.the-variants.{Accepted, Allocated, Freed, NoDescriptor, NoRegion}
+use Rattle.control.specs.declared.answer.Answer.the-variants.{Refused}
 use Rattle.control.specs.declared.moves.Pop.{Pop}
 use Rattle.control.specs.declared.moves.Push.{Push}
 use Rattle.stepped.specs.Outcome.{Outcome, Effect}

@@ -8,7 +8,8 @@ use lib.ListN.{length, set}
 use Rattle.classes.specs.Classes.{block}
 use Rattle.classes.specs.Places.{regionOf}
 use Rattle.links.specs.Link.{link}
-use Rattle.plain.specs.State.{Phase, read, next, exchange, Place, idle, a1, popping, pushing, a3-read, a3-exchange, a4, a7, a8, f1, f2, f3-read, f3-link, f3-exchange, f4-clear, Mem}
+use Rattle.plain.specs.State.{Phase, read, next, exchange, Place, idle, a1, popping, pushing, a3-read, a3-exchange}
+use Rattle.plain.specs.State.{a4, a7, a8, f1, f2, f3-read, f3-link, f3-exchange, f4-clear, Mem}
 use Rattle.plain.specs.Moves.{Answer, going, nothing}
 use Rattle.plain.specs.Steps.{popList, pushList}
 use Rattle.plain.specs.Calls.{Pool}

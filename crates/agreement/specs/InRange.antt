@@ -10,8 +10,11 @@ use Rattle.words.specs.Head.{itemOf}
 use Rattle.words.specs.Anchor.{PARTIAL, FULL, anchorOf}
 use Rattle.classes.specs.Classes.{perRegion}
 use Rattle.plain.specs.State.{REGIONS}
-use Rattle.control.specs.Layout.{layout, Head, Anchor, TaskHead, TaskAnchor, CacheTop, CacheCount, TaskUnit, TaskIndex, TaskLeft, GroupFirst, GroupLast, GroupCount}
-use Rattle.control.specs.Layout.{TaskPlace, TaskClass, TaskNext, TaskDescriptor, TaskRegion, TaskState, DescriptorNext, RegionNext, DescriptorRegion, DescriptorClass, Map, Tasks, Regions, seen}
+use Rattle.control.specs.Layout.{layout, Head, Anchor, TaskHead, TaskAnchor, CacheTop, CacheCount, TaskUnit}
+use Rattle.control.specs.Layout.{TaskIndex, TaskLeft, GroupFirst, GroupLast, GroupCount}
+use Rattle.control.specs.Layout.{TaskPlace, TaskClass, TaskNext, TaskDescriptor, TaskRegion, TaskState}
+use Rattle.control.specs.Layout.{DescriptorNext, RegionNext, DescriptorRegion, DescriptorClass, Map, Tasks, Regions}
+use Rattle.control.specs.Layout.{seen}
 use Rattle.control.specs.declared.moves.Pop.{Pop}
 use Rattle.control.specs.declared.moves.Push.{Push}
 use Rattle.stepped.specs.Ranges.{isBlock, isTop}

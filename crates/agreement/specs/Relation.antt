@@ -10,8 +10,10 @@ use Rattle.classes.specs.Places.{indexOf, regionOf, Block}
 use Rattle.words.specs.declared.head.Head.{Head}
 use Rattle.words.specs.declared.anchor.Anchor.{Anchor}
 use Rattle.links.specs.Link.{link}
-use Rattle.plain.specs.State.{State, numberOf, Descriptor, Note, Phase, read, next, exchange, Pop, partial, spare, region, retire, back, release, offer, SPARES, REGIONS}
-use Rattle.plain.specs.State.{Place, idle, a1, popping, pushing, a3-read, a3-exchange, a4, a7, a8, f1, f2, f3-read, f3-link, f3-exchange, f4-clear, Task, Mem}
+use Rattle.plain.specs.State.{State, numberOf, Descriptor, Note, Phase, read, next, exchange, Pop, partial, spare}
+use Rattle.plain.specs.State.{region, retire, back, release, offer, SPARES, REGIONS}
+use Rattle.plain.specs.State.{Place, idle, a1, popping, pushing, a3-read, a3-exchange, a4, a7, a8, f1, f2, f3-read}
+use Rattle.plain.specs.State.{f3-link, f3-exchange, f4-clear, Task, Mem}
 use Rattle.plain.specs.Steps.{top}
 use Rattle.plain.specs.States.{IfOpen}
 use Rattle.plain.specs.Blocks.{isBlock}

@@ -1,4 +1,4 @@
--- From an outcome that the tests lead to, to what a function ensures. Assumes nothing.
+-- From an outcome that the tests lead to, to what a function ensures.
 use mathlib.Core.Path.{_≡_, refl, ap, subst⁻¹, _∙_}
 use mathlib.Core.List.{List, []}
 use Prim.Native.Nat.{ℕ}

@@ -1,13 +1,59 @@
--- The step list has the three steps of a pop, and of a push, at its three places in a row.
+-- Every place has its step in the step list, and every step its place: the three of a pop, and of a push, stand in a row.
 use mathlib.Core.Path.{_≡_, refl}
 use Prim.Native.Nat.{ℕ, _+_}
+use lib.ListN.{length}
 use Rattle.fields.specs.Columns.{View}
+use Rattle.control.specs.Places.{IDLE, A1, A3-READ, A3-EXCHANGE, A4, A7, A8, F1, F2, F3-READ, F3-LINK, F3-EXCHANGE}
+use Rattle.control.specs.Places.{F4-CLEAR}
+use Rattle.control.specs.Places.{PLACES}
 use Rattle.control.specs.declared.moves.Pop.{Pop}
 use Rattle.control.specs.declared.moves.Pop.the-variants.{Partial, Spare, Region}
 use Rattle.control.specs.declared.moves.Push.{Push}
 use Rattle.control.specs.declared.moves.Push.the-variants.{Retire, Back, Release, Offer}
-use Rattle.stepped.specs.Lists.{popPlace, popRead, popNext, popExchange, pushPlace, pushRead, pushNext, pushExchange}
-use Rattle.stepped.specs.Steps.{stepAt}
+use Rattle.stepped.specs.Lists.{popPlace, popRead, popNext, popExchange, pushPlace, pushRead, pushNext}
+use Rattle.stepped.specs.Lists.{pushExchange}
+use Rattle.stepped.specs.Outcome.{refuse}
+use Rattle.stepped.specs.Allocate as Allocate
+use Rattle.stepped.specs.Free as Free
+use Rattle.stepped.specs.Steps.{steps, stepAt}
+
+-- there are as many steps as places
+pub steps-places : (v : View) (link : ℕ → ℕ) (regions t c : ℕ) → length (steps v link regions t c) ≡ PLACES
+steps-places v link regions t c = refl
+
+-- the step at each place that is no move's; idle is "7 step without one"
+pub record PlaceSteps (v : View) (link : ℕ → ℕ) (regions t c : ℕ) : Type 0 where
+  pub idle : stepAt v link regions t c IDLE ≡ refuse 7
+  pub a1 : stepAt v link regions t c A1 ≡ Allocate.a1 v link regions t c
+  pub a3-read : stepAt v link regions t c A3-READ ≡ Allocate.a3Read v link regions t c
+  pub a3-exchange : stepAt v link regions t c A3-EXCHANGE ≡ Allocate.a3Exchange v link regions t c
+  pub a4 : stepAt v link regions t c A4 ≡ Allocate.a4 v link regions t c
+  pub a7 : stepAt v link regions t c A7 ≡ Allocate.a7 v link regions t c
+  pub a8 : stepAt v link regions t c A8 ≡ Allocate.a8 v link regions t c
+  pub f1 : stepAt v link regions t c F1 ≡ Free.f1 v link regions t c
+  pub f2 : stepAt v link regions t c F2 ≡ Free.f2 v link regions t c
+  pub f3-read : stepAt v link regions t c F3-READ ≡ Free.f3Read v link regions t c
+  pub f3-link : stepAt v link regions t c F3-LINK ≡ Free.f3Link v link regions t c
+  pub f3-exchange : stepAt v link regions t c F3-EXCHANGE ≡ Free.f3Exchange v link regions t c
+  pub f4-clear : stepAt v link regions t c F4-CLEAR ≡ Free.f4Clear v link regions t c
+
+pub place-steps : (v : View) (link : ℕ → ℕ) (regions t c : ℕ) → PlaceSteps v link regions t c
+unfolding stepAt
+place-steps v link regions t c = record {
+  idle = refl;
+  a1 = refl;
+  a3-read = refl;
+  a3-exchange = refl;
+  a4 = refl;
+  a7 = refl;
+  a8 = refl;
+  f1 = refl;
+  f2 = refl;
+  f3-read = refl;
+  f3-link = refl;
+  f3-exchange = refl;
+  f4-clear = refl;
+}
 
 -- the step at each of the three places of a pop
 pub pop-steps : (v : View) (link : ℕ → ℕ) (regions t c : ℕ) (P : Pop)

@@ -1,9 +1,9 @@
 -- The steps of an allocation that are no list moves: 1, 3, 4, 7 and 8.
--- Assumes nothing.
 use Prim.Native.Nat.{ℕ, _+_, _-_, _/_, _%_}
 use mathlib.Core.Bool.{cond, _&&_}
 use mathlib.Core.List.{[], _∷_}
 use lib.Dec.{ltb, leb, eqb}
+use Rattle.limits.specs.Limits.{DESCRIPTORS}
 use Rattle.fields.specs.Columns.{View, _:=_}
 use Rattle.links.specs.Link.{_⇒_}
 use Rattle.words.specs.Anchor.{EMPTY, anchorOf, anchorWord, full}
@@ -11,7 +11,9 @@ use Rattle.words.specs.Mark.{withSet}
 use Rattle.classes.specs.Classes.{perRegion}
 use Rattle.classes.specs.Places.{unitOf}
 use Rattle.plain.specs.Moves.{nothing, anchor-empty, took, anchor-lost}
-use Rattle.control.specs.Layout.{Anchor, Marks, TaskAnchor, CacheTop, CacheCount, TaskIndex, TaskLeft, TaskPlace, TaskDescriptor, TaskRegion, DescriptorRegion, DescriptorClass, Map}
+use Rattle.control.specs.Layout.{Anchor, Marks, TaskAnchor, CacheTop, CacheCount, TaskIndex, TaskLeft, TaskPlace}
+use Rattle.control.specs.Layout.{TaskDescriptor, TaskRegion, DescriptorRegion, DescriptorClass, Map}
+use Rattle.control.specs.Places.{IDLE, A1, A3-READ, A3-EXCHANGE, A4, A8}
 use Rattle.control.specs.declared.answer.Answer.the-variants.{Allocated}
 use Rattle.control.specs.declared.moves.Pop.the-variants.{Partial}
 use Rattle.control.specs.declared.moves.Push.the-variants.{Retire}
@@ -31,7 +33,7 @@ module _ (v : View) (link : ℕ → ℕ) (regions t c : ℕ) where
   a1Take k u =
       cond (isBlock regions c u && isTop regions c (k - 1) (link u))
       (close (Allocated u) nothing
-      (TaskPlace t := 0
+      (TaskPlace t := IDLE
       ∷ CacheTop t c := link u
       ∷ CacheCount t c := (k - 1)
       ∷ Marks (u / 64) := withSet (v (Marks (u / 64))) (u % 64)
@@ -57,12 +59,12 @@ module _ (v : View) (link : ℕ → ℕ) (regions t c : ℕ) where
       (cond (eqb (anchorOf word .state) EMPTY)
       (accept (anchor-empty d) (TaskPlace t := pushPlace Retire ∷ []) [])
       (cond (hasChain n word)
-      (accept nothing (TaskPlace t := 24 ∷ TaskAnchor t := word ∷ []) [])
+      (accept nothing (TaskPlace t := A3-EXCHANGE ∷ TaskAnchor t := word ∷ []) [])
       bad))
       bad
 
   unfoldable pub a3Read : Outcome
-  a3Read = cond (ltb (v (TaskDescriptor t)) 64) (a3ReadOf (v (TaskDescriptor t))) bad
+  a3Read = cond (ltb (v (TaskDescriptor t)) DESCRIPTORS) (a3ReadOf (v (TaskDescriptor t))) bad
 
   -- the exchange of the descriptor d, whose anchor was noted as `word`
   unfoldable pub a3ExchangeOf : ℕ → ℕ → Outcome
@@ -72,7 +74,7 @@ module _ (v : View) (link : ℕ → ℕ) (regions t c : ℕ) where
       (cond (eqb (v (Anchor d)) word)
       (cond (ltb r regions)
       (accept (took d)
-      (TaskPlace t := 25
+      (TaskPlace t := A4
       ∷ Anchor d := anchorWord (full n)
       ∷ TaskRegion t := r
       ∷ TaskIndex t := anchorOf word .avail
@@ -80,14 +82,14 @@ module _ (v : View) (link : ℕ → ℕ) (regions t c : ℕ) where
       ∷ [])
       [])
       bad)
-      (accept (anchor-lost d) (TaskPlace t := 23 ∷ []) []))
+      (accept (anchor-lost d) (TaskPlace t := A3-READ ∷ []) []))
       bad
 
   unfoldable pub a3Exchange : Outcome
   a3Exchange =
       let d = v (TaskDescriptor t) in
       let word = v (TaskAnchor t) in
-      cond (ltb d 64 && hasChain n word) (a3ExchangeOf d word) bad
+      cond (ltb d DESCRIPTORS && hasChain n word) (a3ExchangeOf d word) bad
 
   -- ---- step 4: "Move the taken chain to the cache, one block a step in chain order; after the last, 1." The block's own link
   -- is read before the push overwrites it.
@@ -96,7 +98,7 @@ module _ (v : View) (link : ℕ → ℕ) (regions t c : ℕ) where
   unfoldable pub a4Move : ℕ → ℕ → ℕ → ℕ → Outcome
   a4Move u left k top =
       cond (eqb left 1)
-      (accept nothing (TaskPlace t := 1 ∷ CacheTop t c := u ∷ CacheCount t c := (k + 1) ∷ []) (u ⇒ top ∷ []))
+      (accept nothing (TaskPlace t := A1 ∷ CacheTop t c := u ∷ CacheCount t c := (k + 1) ∷ []) (u ⇒ top ∷ []))
       (cond (ltb (link u) n)
       (accept nothing
       (TaskIndex t := link u ∷ TaskLeft t := (left - 1) ∷ CacheTop t c := u ∷ CacheCount t c := (k + 1) ∷ [])
@@ -118,9 +120,9 @@ module _ (v : View) (link : ℕ → ℕ) (regions t c : ℕ) where
   a7 =
       let d = v (TaskDescriptor t) in
       let r = v (TaskRegion t) in
-      cond (ltb d 64 && ltb r regions)
+      cond (ltb d DESCRIPTORS && ltb r regions)
       (accept nothing
-      (TaskPlace t := 27
+      (TaskPlace t := A8
       ∷ TaskIndex t := 0
       ∷ Anchor d := anchorWord (full n)
       ∷ DescriptorRegion d := r
@@ -136,7 +138,7 @@ module _ (v : View) (link : ℕ → ℕ) (regions t c : ℕ) where
   unfoldable pub a8Put : ℕ → ℕ → ℕ → ℕ → Outcome
   a8Put u i k top =
       cond (eqb (i + 1) n)
-      (accept nothing (TaskPlace t := 1 ∷ CacheTop t c := u ∷ CacheCount t c := (k + 1) ∷ []) (u ⇒ top ∷ []))
+      (accept nothing (TaskPlace t := A1 ∷ CacheTop t c := u ∷ CacheCount t c := (k + 1) ∷ []) (u ⇒ top ∷ []))
       (accept nothing (TaskIndex t := (i + 1) ∷ CacheTop t c := u ∷ CacheCount t c := (k + 1) ∷ []) (u ⇒ top ∷ []))
 
   unfoldable pub a8 : Outcome

@@ -1,12 +1,13 @@
 -- The calls of the stepped pool, with their tests in the paper's order: "Start tests 1, 2, 3. Other calls test 1, 4, 2, 5, then
 -- 6 or 7, then 8, 9 or 10, 11. 14 comes where the bad value is read."
--- Assumes nothing.
 use Prim.Native.Nat.{ℕ, _*_, _/_, _%_, _-_, _≤_, _<_}
 use mathlib.Core.Path.{_≡_}
 use mathlib.Core.Bool.{cond, _&&_}
 use mathlib.Core.List.{List, [], _∷_}
 use lib.Dec.{ltb, leb, eqb}
 use lib.ListN.{length}
+use Rattle.limits.specs.Limits.{CONTROL-BYTES, REGIONS, REGION-BYTES, AREA-BYTES, TASKS, CLASSES, DESCRIPTORS}
+use Rattle.limits.specs.Limits.{MOST-BYTES}
 use Rattle.fields.specs.Columns.{View, _:=_}
 use Rattle.links.specs.Link
 use Rattle.words.specs.Anchor.{EMPTY, anchorOf}
@@ -14,7 +15,9 @@ use Rattle.words.specs.Mark.{isSet, withClear}
 use Rattle.classes.specs.Sizes.{classOf}
 use Rattle.classes.specs.Places.{regionOf, isFirst}
 use Rattle.plain.specs.Moves.{nothing}
-use Rattle.control.specs.Layout.{Anchor, Marks, TaskUnit, TaskPlace, TaskClass, DescriptorRegion, DescriptorClass, Map, Tasks, Regions, seen}
+use Rattle.control.specs.Layout.{Anchor, Marks, TaskUnit, TaskPlace, TaskClass, DescriptorRegion, DescriptorClass}
+use Rattle.control.specs.Layout.{Map, Tasks, Regions, seen}
+use Rattle.control.specs.Places.{IDLE, A1, F1, PLACES}
 use Rattle.control.specs.declared.answer.Answer.the-variants.{Accepted}
 use Rattle.stepped.specs.Outcome.{Outcome, refuse, bad, accept, Effect, effect}
 use Rattle.stepped.specs.Ranges.{oneTo, isAnchor}
@@ -28,11 +31,11 @@ unfoldable pub tested : ℕ → ℕ → View → ℕ → Outcome → Outcome
 tested control area v t x =
     let tasks = v Tasks in
     let regions = v Regions in
-    cond (eqb control 8192)
-    (cond (leb tasks 8)
+    cond (eqb control CONTROL-BYTES)
+    (cond (leb tasks TASKS)
     (cond (eqb tasks 0) (refuse 4)
-    (cond (oneTo 16 regions)
-    (cond (eqb area (4096 * regions))
+    (cond (oneTo REGIONS regions)
+    (cond (eqb area (REGION-BYTES * regions))
     (cond (ltb t tasks) x (refuse 5))
     (refuse 2))
     bad))
@@ -42,17 +45,17 @@ tested control area v t x =
 -- The tests 1, 4, 2, 5 pass: the two memories have their lengths, the started numbers of tasks and regions are in their
 -- ranges, and the task is one of them.
 pub record Tested (control area : ℕ) (v : View) (t : ℕ) : Type 0 where
-  pub control-is : control ≡ 8192
+  pub control-is : control ≡ CONTROL-BYTES
   pub started : 1 ≤ v Tasks
-  pub tasks : v Tasks ≤ 8
+  pub tasks : v Tasks ≤ TASKS
   pub some : 1 ≤ v Regions
-  pub regions : v Regions ≤ 16
-  pub area-is : area ≡ 4096 * v Regions
+  pub regions : v Regions ≤ REGIONS
+  pub area-is : area ≡ REGION-BYTES * v Regions
   pub below : t < v Tasks
 
--- "6 the task has a request in hand"; then the beginning x. Places are 0 to 33.
+-- "6 the task has a request in hand"; then the beginning x. A place past the step list is outside its range.
 unfoldable pub whenIdle : View → ℕ → Outcome → Outcome
-whenIdle v t x = cond (ltb (v (TaskPlace t)) 34) (cond (eqb (v (TaskPlace t)) 0) x (refuse 6)) bad
+whenIdle v t x = cond (ltb (v (TaskPlace t)) PLACES) (cond (eqb (v (TaskPlace t)) IDLE) x (refuse 6)) bad
 
 -- ---- the beginnings
 
@@ -60,8 +63,8 @@ whenIdle v t x = cond (ltb (v (TaskPlace t)) 34) (cond (eqb (v (TaskPlace t)) 0)
 unfoldable pub beginAllocate : ℕ → ℕ → Outcome
 beginAllocate t size =
     cond (eqb size 0) (refuse 8)
-    (cond (ltb 256 size) (refuse 9)
-    (accept nothing (TaskPlace t := 1 ∷ TaskClass t := classOf size ∷ []) []))
+    (cond (ltb MOST-BYTES size) (refuse 9)
+    (accept nothing (TaskPlace t := A1 ∷ TaskClass t := classOf size ∷ []) []))
 
 -- the mark of the unit u, a block of the class c: "11 such a unit, but its mark is clear"; else the mark is cleared
 unfoldable pub freeMarked : View → ℕ → ℕ → ℕ → Outcome
@@ -69,7 +72,7 @@ freeMarked v t u c =
     let marks = v (Marks (u / 64)) in
     cond (isSet marks (u % 64))
     (accept nothing
-    (TaskPlace t := 28
+    (TaskPlace t := F1
     ∷ TaskClass t := c
     ∷ TaskUnit t := u
     ∷ Marks (u / 64) := withClear marks (u % 64)
@@ -81,7 +84,7 @@ freeMarked v t u c =
 unfoldable pub freeOpen : View → ℕ → ℕ → ℕ → Outcome
 freeOpen v t u d =
     let c = v (DescriptorClass d) in
-    cond (ltb c 16) (cond (isFirst c u) (freeMarked v t u c) (refuse 10)) bad
+    cond (ltb c CLASSES) (cond (isFirst c u) (freeMarked v t u c) (refuse 10)) bad
 
 -- "A region is open while that descriptor names it back and its anchor is not EMPTY."
 unfoldable pub freeBy : View → ℕ → ℕ → ℕ → ℕ → Outcome
@@ -97,7 +100,7 @@ freeBy v regions t u d =
 -- the map's entry: none, or a descriptor
 unfoldable pub freeEntry : View → ℕ → ℕ → ℕ → ℕ → Outcome
 freeEntry v regions t u entry =
-    cond (eqb entry 0) (refuse 10) (cond (leb entry 64) (freeBy v regions t u (entry - 1)) bad)
+    cond (eqb entry 0) (refuse 10) (cond (leb entry DESCRIPTORS) (freeBy v regions t u (entry - 1)) bad)
 
 -- "10 not the first unit of a block of an open region"
 unfoldable pub beginFree : View → ℕ → ℕ → ℕ → Outcome
@@ -110,10 +113,10 @@ beginFree v regions t u = cond (ltb (regionOf u) regions) (freeEntry v regions t
 unfoldable pub startIn : ℕ → List ℕ → ℕ → List ℕ → List ℕ → Effect
 startIn size area tasks control before =
     let bytes = length area in
-    cond (eqb size 8192)
-    (cond (eqb (bytes % 4096) 0 && oneTo 65536 bytes)
-    (cond (oneTo 8 tasks)
-    (record { answer = Accepted; decided = nothing; control = startImage tasks (bytes / 4096); area = area })
+    cond (eqb size CONTROL-BYTES)
+    (cond (eqb (bytes % REGION-BYTES) 0 && oneTo AREA-BYTES bytes)
+    (cond (oneTo TASKS tasks)
+    (record { answer = Accepted; decided = nothing; control = startImage tasks (bytes / REGION-BYTES); area = area })
     (effect (refuse 3) control before))
     (effect (refuse 2) control before))
     (effect (refuse 1) control before)

@@ -1,9 +1,9 @@
 -- What the functions of the steps ask and ensure.
--- Assumes nothing.
 use mathlib.Core.Path.{_≡_}
 use mathlib.Core.List.{List, []}
 use Prim.Native.Nat.{ℕ, _*_, _≤_, _<_}
 use lib.ListN.{length}
+use Rattle.limits.specs.Limits.{CONTROL-BYTES, REGIONS, REGION-BYTES, TASKS, CLASSES}
 use Rattle.links.specs.Link.{linked}
 use Rattle.control.specs.Layout.{changed}
 use Rattle.control.specs.Answers.{numberOf}
@@ -12,16 +12,16 @@ use Rattle.stepped.specs.Outcome.{Outcome}
 
 -- a control memory, r started regions, and a task t whose request is of the class c; the tests of the call have shown it
 pub record Given (memory : List ℕ) (r t c : ℕ) : Type 0 where
-  pub control : length memory ≡ 8192
+  pub control : length memory ≡ CONTROL-BYTES
   pub some : 1 ≤ r
-  pub regions : r ≤ 16
-  pub task : t < 8
-  pub class : c < 16
+  pub regions : r ≤ REGIONS
+  pub task : t < TASKS
+  pub class : c < CLASSES
 
 -- the same, with an area of so many regions
 pub record Lent (memory blocks : List ℕ) (r t c : ℕ) : Type 0 where
   pub given : Given memory r t c
-  pub area : length blocks ≡ 4096 * r
+  pub area : length blocks ≡ REGION-BYTES * r
 
 -- A function that is handed the control memory alone: its answer and every byte afterwards are those of the outcome, which
 -- writes no link.

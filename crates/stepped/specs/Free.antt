@@ -1,16 +1,18 @@
 -- The steps of a free that are no list moves: 1, 2, 3 and the first of 4.
--- Assumes nothing.
 use Prim.Native.Nat.{ℕ, _+_, _-_}
 use mathlib.Core.Bool.{cond, _&&_}
 use mathlib.Core.List.{[], _∷_}
 use lib.Dec.{ltb, leb, eqb}
+use Rattle.limits.specs.Limits.{DESCRIPTORS}
 use Rattle.fields.specs.Columns.{View, _:=_}
 use Rattle.links.specs.Link.{_⇒_}
 use Rattle.words.specs.Anchor.{anchorOf, anchorWord, returned}
 use Rattle.classes.specs.Classes.{perRegion}
 use Rattle.classes.specs.Places.{unitOf, regionOf, indexOf}
 use Rattle.plain.specs.Moves.{nothing, gave, anchor-lost}
-use Rattle.control.specs.Layout.{Anchor, TaskAnchor, CacheTop, CacheCount, TaskUnit, GroupFirst, GroupLast, GroupCount, TaskPlace, TaskDescriptor, TaskRegion, TaskState, Map}
+use Rattle.control.specs.Layout.{Anchor, TaskAnchor, CacheTop, CacheCount, TaskUnit, GroupFirst, GroupLast}
+use Rattle.control.specs.Layout.{GroupCount, TaskPlace, TaskDescriptor, TaskRegion, TaskState, Map}
+use Rattle.control.specs.Places.{IDLE, F2, F3-READ, F3-LINK, F3-EXCHANGE, F4-CLEAR}
 use Rattle.control.specs.declared.answer.Answer.the-variants.{Freed}
 use Rattle.control.specs.declared.moves.Push.the-variants.{Release}
 use Rattle.stepped.specs.Outcome.{Outcome, bad, accept, close}
@@ -28,7 +30,7 @@ module _ (v : View) (link : ℕ → ℕ) (regions t c : ℕ) where
   unfoldable pub f1Put : ℕ → ℕ → ℕ → Outcome
   f1Put u k top =
       cond (isBlock regions c u && isTop regions c k top)
-      (close Freed nothing (TaskPlace t := 0 ∷ CacheTop t c := u ∷ CacheCount t c := (k + 1) ∷ []) (u ⇒ top ∷ []))
+      (close Freed nothing (TaskPlace t := IDLE ∷ CacheTop t c := u ∷ CacheCount t c := (k + 1) ∷ []) (u ⇒ top ∷ []))
       bad
 
   unfoldable pub f1 : Outcome
@@ -37,7 +39,7 @@ module _ (v : View) (link : ℕ → ℕ) (regions t c : ℕ) where
       cond (leb k n)
       (cond (ltb k n)
       (f1Put (v (TaskUnit t)) k (v (CacheTop t c)))
-      (accept nothing (TaskPlace t := 29 ∷ GroupCount t := 0 ∷ []) []))
+      (accept nothing (TaskPlace t := F2 ∷ GroupCount t := 0 ∷ []) []))
       bad
 
   -- ---- step 2: "A step takes the cache's top into the group, if the group is empty or the top is of the same region.
@@ -70,7 +72,7 @@ module _ (v : View) (link : ℕ → ℕ) (regions t c : ℕ) where
 
   -- the step that closes the group
   abbrev pub f2Close : Outcome
-  f2Close = accept nothing (TaskPlace t := 30 ∷ []) []
+  f2Close = accept nothing (TaskPlace t := F3-READ ∷ []) []
 
   -- the top u of a cache of k blocks beside a group of g blocks
   unfoldable pub f2Top : ℕ → ℕ → ℕ → Outcome
@@ -97,12 +99,12 @@ module _ (v : View) (link : ℕ → ℕ) (regions t c : ℕ) where
   f3ReadOf d g =
       let word = v (Anchor d) in
       cond (isAnchor word && hasRoom n g word)
-      (accept nothing (TaskPlace t := 31 ∷ TaskDescriptor t := d ∷ TaskAnchor t := word ∷ []) [])
+      (accept nothing (TaskPlace t := F3-LINK ∷ TaskDescriptor t := d ∷ TaskAnchor t := word ∷ []) [])
       bad
 
   -- the descriptor that the map's entry of the group's region names
   unfoldable pub f3ReadBy : ℕ → ℕ → Outcome
-  f3ReadBy entry g = cond (oneTo 64 entry) (f3ReadOf (entry - 1) g) bad
+  f3ReadBy entry g = cond (oneTo DESCRIPTORS entry) (f3ReadOf (entry - 1) g) bad
 
   unfoldable pub f3Read : Outcome
   f3Read =
@@ -116,7 +118,7 @@ module _ (v : View) (link : ℕ → ℕ) (regions t c : ℕ) where
       let last = v (GroupLast t) in
       let word = v (TaskAnchor t) in
       cond (ltb r regions && ltb last n && isAnchor word && hasFirst n word)
-      (accept nothing (TaskPlace t := 32 ∷ []) (unitOf r c last ⇒ anchorOf word .avail ∷ []))
+      (accept nothing (TaskPlace t := F3-EXCHANGE ∷ []) (unitOf r c last ⇒ anchorOf word .avail ∷ []))
       bad
 
   -- the won exchange: step 4 if it is now EMPTY, else step 5 by the state before
@@ -124,14 +126,14 @@ module _ (v : View) (link : ℕ → ℕ) (regions t c : ℕ) where
   f3Won d word first g =
       let a = anchorOf word in
       let ws = Anchor d := anchorWord (returned a first g n) ∷ TaskState t := a .state ∷ [] in
-      cond (eqb (a .count + g) n) (accept (gave d) (TaskPlace t := 33 ∷ ws) []) (f5 v regions t c (a .state) (gave d) ws)
+      cond (eqb (a .count + g) n) (accept (gave d) (TaskPlace t := F4-CLEAR ∷ ws) []) (f5 v regions t c (a .state) (gave d) ws)
 
   unfoldable pub f3ExchangeOf : ℕ → ℕ → ℕ → ℕ → Outcome
   f3ExchangeOf d word first g =
       cond (isAnchor (v (Anchor d)))
       (cond (eqb (v (Anchor d)) word)
       (f3Won d word first g)
-      (accept (anchor-lost d) (TaskPlace t := 30 ∷ []) []))
+      (accept (anchor-lost d) (TaskPlace t := F3-READ ∷ []) []))
       bad
 
   unfoldable pub f3Exchange : Outcome
@@ -140,7 +142,7 @@ module _ (v : View) (link : ℕ → ℕ) (regions t c : ℕ) where
       let word = v (TaskAnchor t) in
       let first = v (GroupFirst t) in
       let g = v (GroupCount t) in
-      cond (ltb d 64 && ltb first n && oneTo n g && isAnchor word && hasRoom n g word) (f3ExchangeOf d word first g) bad
+      cond (ltb d DESCRIPTORS && ltb first n && oneTo n g && isAnchor word && hasRoom n g word) (f3ExchangeOf d word first g) bad
 
   -- ---- step 4: "If now EMPTY: one step clears the map entry of the group's region, then push that region on its spare list."
 

@@ -1,17 +1,19 @@
 -- The pops and pushes of the step list, each in three steps. "Pop of a list: read head (this finds an empty list); read the
 -- item's next; exchange. Push: read head; write the item's next; exchange. A lost exchange goes back to the head read."
--- Assumes nothing.
 use Prim.Native.Nat.{ℕ, _+_, _-_}
 use mathlib.Core.Bool.{cond, _&&_}
 use mathlib.Core.List.{List, [], _∷_}
 use lib.Dec.{ltb, leb, eqb}
+use Rattle.limits.specs.Limits.{DESCRIPTORS, SPARE-DESCRIPTORS, SPARE-REGIONS}
 use Rattle.fields.specs.Columns.{Field, View, Write, _:=_}
 use Rattle.words.specs.Head.{itemOf, advancedWord}
 use Rattle.words.specs.Anchor.{FULL, isState}
 use Rattle.classes.specs.Classes.{perRegion}
-use Rattle.plain.specs.State.{SPARES, REGIONS}
 use Rattle.plain.specs.Moves.{Decided, nothing, found-empty, popped, pushed, lost}
-use Rattle.control.specs.Layout.{Head, TaskHead, CacheCount, GroupCount, TaskPlace, TaskNext, TaskDescriptor, TaskRegion, TaskState, DescriptorNext, RegionNext}
+use Rattle.control.specs.Layout.{Head, TaskHead, CacheCount, GroupCount, TaskPlace, TaskNext, TaskDescriptor}
+use Rattle.control.specs.Layout.{TaskRegion, TaskState, DescriptorNext, RegionNext}
+use Rattle.control.specs.Places.{IDLE, A3-READ, A7, F1, F2, POP-PARTIAL, POP-SPARE, POP-REGION, PUSH-RETIRE}
+use Rattle.control.specs.Places.{PUSH-BACK, PUSH-RELEASE, PUSH-OFFER}
 use Rattle.control.specs.declared.answer.Answer.the-variants.{NoDescriptor, NoRegion}
 use Rattle.control.specs.declared.moves.Pop.{Pop}
 use Rattle.control.specs.declared.moves.Pop.the-variants.{Partial, Spare, Region}
@@ -23,26 +25,26 @@ use Rattle.stepped.specs.Ranges.{oneTo}
 -- ---- the places of the moves: each has three in a row, from its first
 
 abbrev pub popPlace : Pop → ℕ
-popPlace Partial = 2
-popPlace Spare = 5
-popPlace Region = 8
+popPlace Partial = POP-PARTIAL
+popPlace Spare = POP-SPARE
+popPlace Region = POP-REGION
 
 abbrev pub pushPlace : Push → ℕ
-pushPlace Retire = 11
-pushPlace Back = 14
-pushPlace Release = 17
-pushPlace Offer = 20
+pushPlace Retire = PUSH-RETIRE
+pushPlace Back = PUSH-BACK
+pushPlace Release = PUSH-RELEASE
+pushPlace Offer = PUSH-OFFER
 
 -- ---- the list of a move, for a request of the class c; how many items there are; and where an item's next stands
 
 abbrev pub popList : Pop → ℕ → ℕ
 popList Partial c = c
-popList Spare c = SPARES
-popList Region c = REGIONS
+popList Spare c = SPARE-DESCRIPTORS
+popList Region c = SPARE-REGIONS
 
 abbrev pub popItems : Pop → ℕ → ℕ
-popItems Partial regions = 64
-popItems Spare regions = 64
+popItems Partial regions = DESCRIPTORS
+popItems Spare regions = DESCRIPTORS
 popItems Region regions = regions
 
 abbrev pub popNextField : Pop → ℕ → Field
@@ -51,16 +53,16 @@ popNextField Spare = DescriptorNext
 popNextField Region = RegionNext
 
 abbrev pub pushList : Push → ℕ → ℕ
-pushList Retire c = SPARES
-pushList Back c = SPARES
-pushList Release c = REGIONS
+pushList Retire c = SPARE-DESCRIPTORS
+pushList Back c = SPARE-DESCRIPTORS
+pushList Release c = SPARE-REGIONS
 pushList Offer c = c
 
 abbrev pub pushItems : Push → ℕ → ℕ
-pushItems Retire regions = 64
-pushItems Back regions = 64
+pushItems Retire regions = DESCRIPTORS
+pushItems Back regions = DESCRIPTORS
 pushItems Release regions = regions
-pushItems Offer regions = 64
+pushItems Offer regions = DESCRIPTORS
 
 abbrev pub pushNextField : Push → ℕ → Field
 pushNextField Retire = DescriptorNext
@@ -83,8 +85,8 @@ module _ (v : View) (regions t c : ℕ) where
       let k = v (CacheCount t c) in
       cond (leb k (perRegion c))
       (cond (eqb k 0)
-      (accept e (TaskPlace t := 28 ∷ ws) [])
-      (accept e (TaskPlace t := 29 ∷ GroupCount t := 0 ∷ ws) []))
+      (accept e (TaskPlace t := F1 ∷ ws) [])
+      (accept e (TaskPlace t := F2 ∷ GroupCount t := 0 ∷ ws) []))
       bad
 
   -- free, step 5: "If it was FULL: push the descriptor on the partial list"
@@ -96,7 +98,7 @@ module _ (v : View) (regions t c : ℕ) where
   -- step 2 "Empty: go to 5", step 5 "Empty: end with 12", step 6 "Empty: push the descriptor back"
   abbrev pub whenEmpty : Pop → Decided → Outcome
   whenEmpty Partial e = accept e (TaskPlace t := popPlace Spare ∷ []) []
-  whenEmpty Spare e = close NoDescriptor e (TaskPlace t := 0 ∷ []) []
+  whenEmpty Spare e = close NoDescriptor e (TaskPlace t := IDLE ∷ []) []
   whenEmpty Region e = accept e (TaskPlace t := pushPlace Back ∷ []) []
 
   -- "read head (this finds an empty list)"
@@ -125,9 +127,9 @@ module _ (v : View) (regions t c : ℕ) where
 
   -- where a won pop of the item x leads: step 2 to 3, step 5 to 6, step 6 to 7; ws is the exchange
   abbrev pub whenPopped : Pop → ℕ → Decided → List Write → Outcome
-  whenPopped Partial x e ws = accept e (TaskPlace t := 23 ∷ TaskDescriptor t := x ∷ ws) []
+  whenPopped Partial x e ws = accept e (TaskPlace t := A3-READ ∷ TaskDescriptor t := x ∷ ws) []
   whenPopped Spare x e ws = accept e (TaskPlace t := popPlace Region ∷ TaskDescriptor t := x ∷ ws) []
-  whenPopped Region x e ws = accept e (TaskPlace t := 26 ∷ TaskRegion t := x ∷ ws) []
+  whenPopped Region x e ws = accept e (TaskPlace t := A7 ∷ TaskRegion t := x ∷ ws) []
 
   -- "exchange": won where the head word is the noted one
   unfoldable pub popExchange : Pop → Outcome
@@ -165,7 +167,7 @@ module _ (v : View) (regions t c : ℕ) where
   -- where a won push leads: step 3 "then 2", step 6 "the request ends with 13 at that won exchange", free's 4 and 5
   abbrev pub whenPushed : Push → Decided → List Write → Outcome
   whenPushed Retire e ws = accept e (TaskPlace t := popPlace Partial ∷ ws) []
-  whenPushed Back e ws = close NoRegion e (TaskPlace t := 0 ∷ ws) []
+  whenPushed Back e ws = close NoRegion e (TaskPlace t := IDLE ∷ ws) []
   whenPushed Release e ws = cond (isState (v (TaskState t))) (f5 (v (TaskState t)) e ws) bad
   whenPushed Offer e ws = f6 e ws
 

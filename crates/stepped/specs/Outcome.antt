@@ -1,5 +1,4 @@
 -- What a call makes of the memories that it is lent.
--- Assumes nothing.
 use Prim.Native.Nat.{ℕ}
 use mathlib.Core.List.{List, []}
 use Rattle.fields.specs.Columns.{Write}

@@ -1,10 +1,10 @@
 -- The tests whose failure is 14: "a value read for this call is outside its field's range, or names none, or no block of the
 -- class, where one is due; a count would pass n; an anchor to take a chain from is FULL, or PARTIAL with count 0; or a link is
 -- outside 0 to n − 1 while more blocks are due". docs/LAYOUT.md has the ranges.
--- Assumes nothing.
 use Prim.Native.Nat.{ℕ, _+_}
 use mathlib.Core.Bool.{Bool, cond, _&&_, _||_}
 use lib.Dec.{ltb, leb, eqb}
+use Rattle.limits.specs.Limits.{UNITS, MOST-BLOCKS}
 use Rattle.words.specs.Anchor.{PARTIAL, isState, anchorOf}
 use Rattle.classes.specs.Places.{regionOf, isFirst}
 
@@ -19,11 +19,11 @@ isBlock regions c u = ltb (regionOf u) regions && isFirst c u
 -- the top of k cached blocks, as a cache's field or the link of the block above names it: "the unit of the block below, with
 -- 8,192 at the bottom"
 abbrev pub isTop : ℕ → ℕ → ℕ → ℕ → Bool
-isTop regions c k u = cond (eqb k 0) (eqb u 8192) (isBlock regions c u)
+isTop regions c k u = cond (eqb k 0) (eqb u UNITS) (isBlock regions c u)
 
 -- an anchor's word: a state, and an index and a count as large as any class has
 abbrev pub isAnchor : ℕ → Bool
-isAnchor w = isState (anchorOf w .state) && leb (anchorOf w .avail) 512 && leb (anchorOf w .count) 512
+isAnchor w = isState (anchorOf w .state) && leb (anchorOf w .avail) MOST-BLOCKS && leb (anchorOf w .count) MOST-BLOCKS
 
 -- a chain can be taken: the anchor is not "FULL, or PARTIAL with count 0", avail names a block, and the count does not pass n
 abbrev pub hasChain : ℕ → ℕ → Bool

@@ -1,12 +1,11 @@
 -- The control memory that a start leaves.
--- Assumes nothing.
-use Prim.Native.Nat.{ℕ, zero, suc, _+_}
+use Prim.Native.Nat.{ℕ, zero, suc, _+_, _*_}
 use mathlib.Core.Bool.{cond}
 use mathlib.Core.List.{List, [], _∷_, _++_}
 use lib.Dec.{eqb}
 use lib.ListN.{replicate}
+use Rattle.limits.specs.Limits.{CONTROL-BYTES, UNITS, TASKS, CLASSES, DESCRIPTORS, SPARE-DESCRIPTORS, SPARE-REGIONS}
 use Rattle.fields.specs.Columns.{Field, Write, _:=_}
-use Rattle.plain.specs.State.{SPARES, REGIONS}
 use Rattle.control.specs.Layout.{Head, Top, DescriptorNext, RegionNext, Tasks, Regions, changed}
 
 -- the fields f 0 to f (n - 1) get the values x 0 to x (n - 1)
@@ -23,10 +22,11 @@ unfoldable pub startWrites : ℕ → ℕ → List Write
 startWrites tasks regions =
     Tasks := tasks
     ∷ Regions := regions
-    ∷ Head SPARES := 1
-    ∷ Head REGIONS := 1
-    ∷ (fill DescriptorNext (nextUp 64) 64 ++ (fill RegionNext (nextUp regions) regions ++ fill Top (λ i. 8192) 128))
+    ∷ Head SPARE-DESCRIPTORS := 1
+    ∷ Head SPARE-REGIONS := 1
+    ∷ (fill DescriptorNext (nextUp DESCRIPTORS) DESCRIPTORS
+    ++ (fill RegionNext (nextUp regions) regions ++ fill Top (λ i. UNITS) (TASKS * CLASSES)))
 
 -- "tasks idle, caches and partial lists empty, tags 0, marks clear, map entries none": every other byte is zero
 unfoldable pub startImage : ℕ → ℕ → List ℕ
-startImage tasks regions = changed (startWrites tasks regions) (replicate 8192 0)
+startImage tasks regions = changed (startWrites tasks regions) (replicate CONTROL-BYTES 0)

@@ -1,12 +1,13 @@
 -- The step list by place.
--- Assumes nothing.
 use Prim.Native.Nat.{ℕ}
 use mathlib.Core.Bool.{cond}
 use mathlib.Core.List.{List, [], _∷_}
 use lib.Dec.{ltb}
 use lib.ListN.{getD}
+use Rattle.limits.specs.Limits.{CLASSES}
 use Rattle.fields.specs.Columns.{View}
 use Rattle.control.specs.Layout.{TaskPlace, TaskClass}
+use Rattle.control.specs.Places.{IDLE}
 use Rattle.control.specs.declared.moves.Pop.the-variants.{Partial, Spare, Region}
 use Rattle.control.specs.declared.moves.Push.the-variants.{Retire, Back, Release, Offer}
 use Rattle.stepped.specs.Outcome.{Outcome, refuse, bad}
@@ -15,7 +16,7 @@ use Rattle.stepped.specs.Allocate.{a1, a3Read, a3Exchange, a4, a7, a8}
 use Rattle.stepped.specs.Free.{f1, f2, f3Read, f3Link, f3Exchange, f4Clear}
 
 module _ (v : View) (link : ℕ → ℕ) (regions t c : ℕ) where
-  -- the step at each place: 0 is idle, "7 step without one"
+  -- the step at each place, in the order of the table of places; idle has "7 step without one"
   abbrev pub steps : List Outcome
   steps =
       refuse 7
@@ -63,4 +64,4 @@ unfoldable pub step : View → (ℕ → ℕ) → ℕ → ℕ → Outcome
 step v link regions t =
     let place = v (TaskPlace t) in
     let c = v (TaskClass t) in
-    cond (ltb 0 place) (cond (ltb c 16) (stepAt v link regions t c place) bad) (refuse 7)
+    cond (ltb IDLE place) (cond (ltb c CLASSES) (stepAt v link regions t c place) bad) (refuse 7)
