@@ -1,15 +1,20 @@
 -- "A free block's first four bytes, low byte first, hold a link."
 use Prim.Native.Nat.{ℕ, _*_}
 use mathlib.Core.List.{List, [], _∷_}
+use Rattle.limits.specs.Limits.{UNIT-BYTES}
 use Rattle.fields.specs.Little.{getLE, setLE}
 
--- the link of the block whose first unit is u; a unit is 8 bytes
+-- "first four bytes"
+abbrev pub LINK-BYTES : ℕ
+LINK-BYTES = 4
+
+-- the link of the block whose first unit is u
 abbrev pub link : List ℕ → ℕ → ℕ
-link area u = getLE area (8 * u) 4
+link area u = getLE area (UNIT-BYTES * u) LINK-BYTES
 
 -- the area with the link of the block at u written
 abbrev pub withLink : List ℕ → ℕ → ℕ → List ℕ
-withLink area u x = setLE area (8 * u) 4 x
+withLink area u x = setLE area (UNIT-BYTES * u) LINK-BYTES x
 
 -- the block at a unit gets a link
 pub data LinkWrite : Type 0 where

@@ -4,34 +4,35 @@ use mathlib.Core.Path.{_≡_, refl, sym, ap, _∙_}
 use mathlib.Core.Logic.{_≢_}
 use native.Mathlib.Omega.{arith}
 use borrow.Author.Tests.{eq-eqb, ne-eqb}
+use Rattle.limits.specs.Limits.{TAGS}
 use Rattle.words.specs.declared.head.Head.{Head}
 use Rattle.words.specs.declared.head.Top.the-variants.{Empty, Item}
-use Rattle.words.specs.Head.{itemOf, tagOf, word, nextTag, advancedWord, headOf, wordOf, topOf, advanced}
+use Rattle.words.specs.Head.{ITEMS, itemOf, tagOf, word, nextTag, advancedWord, headOf, wordOf, topOf, advanced}
 
 -- ---- on numbers
 
-pub itemOf-word : (item tag : ℕ) → item < 4294967296 → itemOf (word item tag) ≡ item
+pub itemOf-word : (item tag : ℕ) → item < ITEMS → itemOf (word item tag) ≡ item
 itemOf-word item tag h = omega arith
 
-pub tagOf-word : (item tag : ℕ) → item < 4294967296 → tagOf (word item tag) ≡ tag
+pub tagOf-word : (item tag : ℕ) → item < ITEMS → tagOf (word item tag) ≡ tag
 tagOf-word item tag h = omega arith
 
 -- every number is the word of its parts
 pub word-parts : (w : ℕ) → word (itemOf w) (tagOf w) ≡ w
 word-parts w = omega arith
 
-pub itemOf-below : (w : ℕ) → itemOf w < 4294967296
+pub itemOf-below : (w : ℕ) → itemOf w < ITEMS
 itemOf-below w = omega arith
 
-pub tagOf-below : (w : ℕ) → w < 18446744073709551616 → tagOf w < 4294967296
+pub tagOf-below : (w : ℕ) → w < 18446744073709551616 → tagOf w < TAGS
 tagOf-below w h = omega arith
 
-pub word-below : (item tag : ℕ) → item < 4294967296 → tag < 4294967296 → word item tag < 18446744073709551616
+pub word-below : (item tag : ℕ) → item < ITEMS → tag < TAGS → word item tag < 18446744073709551616
 word-below item tag h l = omega arith
 
 -- ---- tags
 
-pub nextTag-below : (tag : ℕ) → nextTag tag < 4294967296
+pub nextTag-below : (tag : ℕ) → nextTag tag < TAGS
 nextTag-below tag = omega arith
 
 -- after 4,294,967,295 comes 0
@@ -43,26 +44,26 @@ pub nextTag-more : (tag : ℕ) → tag < 4294967295 → nextTag tag ≡ tag + 1
 nextTag-more tag h = omega arith
 
 -- the tag of n won exchanges since the start, where `n` never wraps
-pub nextTag-counts : (n : ℕ) → nextTag (n % 4294967296) ≡ (n + 1) % 4294967296
+pub nextTag-counts : (n : ℕ) → nextTag (n % TAGS) ≡ (n + 1) % TAGS
 nextTag-counts n = omega arith
 
 -- ---- on heads
 
-pub head-of-word : (h : Head) → h .item < 4294967296 → headOf (wordOf h) ≡ h
+pub head-of-word : (h : Head) → h .item < ITEMS → headOf (wordOf h) ≡ h
 head-of-word h l = rw (itemOf-word (h .item) (h .tag) l, tagOf-word (h .item) (h .tag) l)
 
 pub word-of-head : (w : ℕ) → wordOf (headOf w) ≡ w
 word-of-head = word-parts
 
 -- two heads with equal words are equal
-pub head-injective : (h k : Head) → h .item < 4294967296 → k .item < 4294967296 → wordOf h ≡ wordOf k → h ≡ k
+pub head-injective : (h k : Head) → h .item < ITEMS → k .item < ITEMS → wordOf h ≡ wordOf k → h ≡ k
 head-injective h k lh lk e = sym (head-of-word h lh) ∙ ap headOf e ∙ head-of-word k lk
 
-pub advanced-tag : (h : Head) (item : ℕ) → (advanced h item) .tag ≡ (h .tag + 1) % 4294967296
+pub advanced-tag : (h : Head) (item : ℕ) → (advanced h item) .tag ≡ (h .tag + 1) % TAGS
 advanced-tag h item = refl
 
 -- a head with the next tag is the advanced one
-pub advanced-by : (h : Head) (item tag : ℕ) → tag ≡ (h .tag + 1) % 4294967296
+pub advanced-by : (h : Head) (item tag : ℕ) → tag ≡ (h .tag + 1) % TAGS
     → record { item = item; tag = tag } ≡ advanced h item
 advanced-by h item tag e = rw e
 
@@ -87,11 +88,11 @@ pub advanced-through : (w item : ℕ) {h k : Head} {r : ℕ} → h ≡ headOf w 
     → r ≡ advancedWord w item
 advanced-through w item p q e = e ∙ ap wordOf (q ∙ ap (λ (x : Head). advanced x item) p)
 
-pub advancedWord-below : (w item : ℕ) → item < 4294967296 → advancedWord w item < 18446744073709551616
+pub advancedWord-below : (w item : ℕ) → item < ITEMS → advancedWord w item < 18446744073709551616
 advancedWord-below w item h = word-below item (nextTag (tagOf w)) h (nextTag-below (tagOf w))
 
-pub itemOf-advanced : (w item : ℕ) → item < 4294967296 → itemOf (advancedWord w item) ≡ item
+pub itemOf-advanced : (w item : ℕ) → item < ITEMS → itemOf (advancedWord w item) ≡ item
 itemOf-advanced w item = itemOf-word item (nextTag (tagOf w))
 
-pub tagOf-advanced : (w item : ℕ) → item < 4294967296 → tagOf (advancedWord w item) ≡ nextTag (tagOf w)
+pub tagOf-advanced : (w item : ℕ) → item < ITEMS → tagOf (advancedWord w item) ≡ nextTag (tagOf w)
 tagOf-advanced w item = tagOf-word item (nextTag (tagOf w))

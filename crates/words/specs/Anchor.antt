@@ -2,6 +2,7 @@
 use Prim.Native.Nat.{ℕ, _+_, _*_, _/_, _%_, _<_, _≤_}
 use mathlib.Core.Bool.{Bool, cond, _&&_}
 use lib.Dec.{eqb, leb}
+use Rattle.limits.specs.Limits.{MOST-BLOCKS}
 use Rattle.words.specs.declared.anchor.Anchor.{Anchor}
 
 -- the states: 0 EMPTY, 1 PARTIAL, 2 FULL
@@ -36,10 +37,10 @@ pub record Fields (a : Anchor) : Type 0 where
 abbrev pub full : ℕ → Anchor
 full n = record { state = FULL; avail = n; count = 0 }
 
--- a group may be returned: the count would not pass n, and no class has more than 512 blocks in a region
+-- a group may be returned: the count would not pass n, and no class has more blocks in a region
 pub record Room (a : Anchor) (group n : ℕ) : Type 0 where
   pub count : a .count + group ≤ n
-  pub blocks : n ≤ 512
+  pub blocks : n ≤ MOST-BLOCKS
 
 -- the state is EMPTY if count is now n, else PARTIAL
 abbrev pub stateAt : ℕ → ℕ → ℕ

@@ -3,27 +3,32 @@
 use Prim.Native.Nat.{ℕ, _+_, _-_, _*_, _/_, _%_}
 use mathlib.Core.Bool.{cond}
 use lib.Dec.{eqb}
+use Rattle.limits.specs.Limits.{TAGS}
 use Rattle.words.specs.declared.head.Head.{Head}
 use Rattle.words.specs.declared.head.Top.{Top}
 use Rattle.words.specs.declared.head.Top.the-variants.{Empty, Item}
 
 -- ---- on numbers
 
+-- "the low 32 hold the item's number plus one": the numbers below this
+abbrev pub ITEMS : ℕ
+ITEMS = 4294967296
+
 -- the low 32 bits hold the item's number plus one
 abbrev pub itemOf : ℕ → ℕ
-itemOf w = w % 4294967296
+itemOf w = w % ITEMS
 
 -- the high 32 hold the tag
 abbrev pub tagOf : ℕ → ℕ
-tagOf w = w / 4294967296
+tagOf w = w / ITEMS
 
 -- the word of an item's number plus one and a tag
 abbrev pub word : ℕ → ℕ → ℕ
-word item tag = item + tag * 4294967296
+word item tag = item + tag * ITEMS
 
 -- each won exchange adds one to the tag, and after 4,294,967,295 comes 0
 abbrev pub nextTag : ℕ → ℕ
-nextTag tag = (tag + 1) % 4294967296
+nextTag tag = (tag + 1) % TAGS
 
 -- the word after a won exchange of `w` that leaves `item` on top
 abbrev pub advancedWord : ℕ → ℕ → ℕ

@@ -3,6 +3,9 @@
 ghost use mathlib.Core.Path.{_≡_};
 ghost use Rattle.words.specs.Head.{headOf, wordOf, emptyHead, topOf, advanced};
 
+// The low 32 bits of a word hold the numbers below this.
+const ITEMS: u64 = 4_294_967_296;
+
 pub struct Head {
     // The number of the item on top plus one; 0 for none.
     pub item: u32,
@@ -28,8 +31,8 @@ impl Head {
         ensures { λ r. ⌜ r ≡ headOf word ⌝ }
     {
         Head {
-            item: (word % 4_294_967_296) as u32,
-            tag: (word / 4_294_967_296) as u32,
+            item: (word % ITEMS) as u32,
+            tag: (word / ITEMS) as u32,
         }
     }
 
@@ -37,7 +40,7 @@ impl Head {
     pub fn word(self) -> u64
         ensures { λ r. ⌜ r ≡ wordOf self ⌝ }
     {
-        (self.item as u64) + (self.tag as u64) * 4_294_967_296
+        (self.item as u64) + (self.tag as u64) * ITEMS
     }
 
     // The item on top. The read by which a pop finds its list empty is this one.

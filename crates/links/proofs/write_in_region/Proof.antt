@@ -3,6 +3,7 @@ use borrow.Author.Needs.{needs}
 use native.Mathlib.Omega.{arith}
 use Prim.Native.Nat.{_+_, _-_, _*_}
 use denote.Ref.{now}
+use Rattle.limits.specs.Limits.{REGION-BYTES}
 use Rattle.links.proofs.Links.{link-part}
 use Rattle.links.proofs.write_in_region.Statement.{statement}
 use Rattle.links.proofs.write_in_region.Tie as tie
@@ -10,8 +11,8 @@ use Rattle.links.proofs.write_in_region.Tie as tie
 returns : tie.Need-returns
 returns c =
     let a = c .before .before .before .before .before .args in
-    let s = 4096 * a .region in
-    cc (link-part (now (a .area)) (a .region) (s + 4096 - s) (a .unit) (a .to) (omega arith) (omega arith))
+    let s = REGION-BYTES * a .region in
+    cc (link-part (now (a .area)) (a .region) (s + REGION-BYTES - s) (a .unit) (a .to) (omega arith) (omega arith))
 
 pub write-in-region-spec : {M : Type 1} → statement M
 write-in-region-spec =
