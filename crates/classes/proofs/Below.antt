@@ -1,5 +1,4 @@
 -- A test at every number below a bound, which antt computes once, and what it gives at each of them.
--- Assumes nothing.
 use mathlib.Core.Path.{subst⁻¹}
 use mathlib.Core.Logic.{⊎-elim}
 use mathlib.Core.Bool.{Bool, true, false, _&&_}

@@ -1,5 +1,4 @@
 -- The rows of the bench table about sizes, as one statement; and the row about the end of a region.
--- Assumes nothing.
 use mathlib.Core.Bool.{false}
 use mathlib.Core.Path.{_≡_, refl}
 use mathlib.Core.List.{List, [], _∷_, map}

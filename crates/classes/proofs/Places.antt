@@ -1,5 +1,4 @@
 -- The laws of the places of blocks.
--- Assumes nothing.
 use mathlib.Core.Path.{_≡_, refl, sym, ap, _∙_}
 use mathlib.Core.Bool.{Bool, true, false, _&&_, false≢true}
 use Prim.Native.Nat.{ℕ, _+_, _*_, _%_, _≤_, _<_}
@@ -8,6 +7,7 @@ use native.Mathlib.Decide.{decLt}
 use native.Mathlib.Nat.{mul-le-mul-left, mul-div-cancel-left, mul-mod-right, div-add-mod}
 use lib.Dec.{ltb, eqb}
 use borrow.Author.Tests.{eq-eqb, lt-ltb, eqb-true, ltb-true}
+use Rattle.limits.specs.Limits.{UNIT-BYTES, REGION-BYTES, REGION-UNITS, REGIONS, UNITS}
 use Rattle.classes.specs.Classes.{units, block, perRegion}
 use Rattle.classes.specs.Places.{unitOf, regionOf, indexOf, isFirst, Block}
 use Rattle.classes.proofs.Tables.{units-low, fits}
@@ -17,15 +17,15 @@ abbrev pub block-at : (r c i : ℕ) → i < perRegion c → Block r c (unitOf r 
 block-at r c i h = record { at = i; below = h; is = refl }
 
 -- a block stays in its region
-pub inside : {r c u : ℕ} → Block r c u → (512 * r ≤ u) × (u + units c ≤ 512 * r + 512)
+pub inside : {r c u : ℕ} → Block r c u → (REGION-UNITS * r ≤ u) × (u + units c ≤ REGION-UNITS * r + REGION-UNITS)
 inside {c = c} b = omega (arith, mul-le-mul-left (units c) (b .below), b .is, fits c)
 
 -- .. and its bytes in the area
-pub in-area : {r c u : ℕ} (regions : ℕ) → Block r c u → r < regions → 8 * u + block c ≤ 4096 * regions
+pub in-area : {r c u : ℕ} (regions : ℕ) → Block r c u → r < regions → UNIT-BYTES * u + block c ≤ REGION-BYTES * regions
 in-area regions b h = omega (arith, inside b)
 
 -- its name is one of 0 to 8,191, as the area has at most 16 regions
-pub unit-below : {r c u : ℕ} → Block r c u → r < 16 → u < 8192
+pub unit-below : {r c u : ℕ} → Block r c u → r < REGIONS → u < UNITS
 unit-below {c = c} b h = omega (arith, inside b, units-low c)
 
 -- two blocks of one region do not overlap
@@ -37,7 +37,7 @@ apart {c = c} b d h = elim (decLt (b .at) (d .at)) [
 ]
 
 -- the units that stand before a block in its region
-offset-is : {r c u : ℕ} (b : Block r c u) → u % 512 ≡ units c * b .at
+offset-is : {r c u : ℕ} (b : Block r c u) → u % REGION-UNITS ≡ units c * b .at
 offset-is {c = c} b = omega (arith, inside b, units-low c, b .is)
 
 -- a block's first unit gives its region
@@ -81,17 +81,17 @@ both-true false b e = (e, absurd (false≢true e))
 pub first-block : (c u : ℕ) → isFirst c u ≡ true → Block (regionOf u) c u
 unfolding isFirst
 first-block c u e =
-    let t = both-true (eqb (u % 512 % units c) 0) (ltb (indexOf c u) (perRegion c)) e in
-    let z : u % 512 % units c ≡ 0 = eqb-true (u % 512 % units c) 0 (t .0) in
+    let t = both-true (eqb (u % REGION-UNITS % units c) 0) (ltb (indexOf c u) (perRegion c)) e in
+    let z : u % REGION-UNITS % units c ≡ 0 = eqb-true (u % REGION-UNITS % units c) 0 (t .0) in
     record {
       at = indexOf c u;
       below = ltb-true (indexOf c u) (perRegion c) (t .1);
-      is = omega (arith, div-add-mod (u % 512) (units c));
+      is = omega (arith, div-add-mod (u % REGION-UNITS) (units c));
     }
 
 -- .. and at every block
 pub block-first : {r c u : ℕ} → Block r c u → isFirst c u ≡ true
 unfolding isFirst
 block-first {c = c} {u} b =
-    let z : u % 512 % units c ≡ 0 = rw (offset-is b) (mul-mod-right (units c) (b .at)) in
-    rw (eq-eqb (u % 512 % units c) 0 z, lt-ltb (indexOf c u) (perRegion c) (index-below b))
+    let z : u % REGION-UNITS % units c ≡ 0 = rw (offset-is b) (mul-mod-right (units c) (b .at)) in
+    rw (eq-eqb (u % REGION-UNITS % units c) 0 z, lt-ltb (indexOf c u) (perRegion c) (index-below b))

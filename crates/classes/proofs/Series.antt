@@ -1,10 +1,10 @@
 -- The classes are members of a series: a power of two, and that plus a quarter, a half and three quarters.
--- Assumes nothing.
 use mathlib.Core.Path.{_≡_, refl}
 use mathlib.Core.Bool.{cond, _&&_}
 use mathlib.Core.List.{List, [], _∷_}
 use Prim.Native.Nat.{ℕ, zero, suc, _+_, _*_, _/_, _%_}
 use lib.Dec.{leb, eqb}
+use Rattle.limits.specs.Limits.{UNIT-BYTES, MOST-BYTES}
 use Rattle.classes.specs.Classes.{blocks}
 
 -- the series for the n powers of two from p on; a member that is no whole number is below 8, and rounded down
@@ -15,7 +15,7 @@ series p (suc n) = p ∷ (p + p / 4) ∷ (p + p / 2) ∷ (p + 3 * p / 4) ∷ ser
 -- the members that are multiples of 8, up to 256
 abbrev pub served : List ℕ → List ℕ
 served [] = []
-served (b ∷ bs) = cond (eqb (b % 8) 0 && leb b 256) (b ∷ served bs) (served bs)
+served (b ∷ bs) = cond (eqb (b % UNIT-BYTES) 0 && leb b MOST-BYTES) (b ∷ served bs) (served bs)
 
 -- of the powers from 1 to 256 these are the blocks
 pub in-series : served (series 1 9) ≡ blocks

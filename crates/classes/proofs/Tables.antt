@@ -1,35 +1,35 @@
 -- The laws of the table of classes.
--- Assumes nothing.
 use mathlib.Core.Path.{_≡_, refl, sym, ap, _∙_}
 use mathlib.Core.Logic.{_≢_}
 use mathlib.Core.Bool.{Bool}
 use mathlib.Core.List.{List}
-use Prim.Native.Nat.{ℕ, zero, suc, _*_, _/_, _≤_, _<_}
+use Prim.Native.Nat.{ℕ, zero, suc, _-_, _*_, _/_, _≤_, _<_}
 use native.Mathlib.Omega.{arith}
 use native.Mathlib.Decide.{decLt}
 use lib.Dec.{T, leb, ltb, eqb, leb→le, ltb→lt, eqb→eq}
 use lib.ListN.{getD, List·getD-eq-default}
-use Rattle.classes.specs.Classes.{blocks, counts, units, block, perRegion}
+use Rattle.limits.specs.Limits.{UNIT-BYTES, REGION-BYTES, REGION-UNITS, CLASSES, MOST-BLOCKS}
+use Rattle.classes.specs.Classes.{blocks, counts, SMALLEST, MOST-UNITS, LEAST-BLOCKS, units, block, perRegion}
 use Rattle.classes.proofs.Below.{all, at}
 
 -- a test of the two entries of class c, its block and its n; past the table they are those of class 0
 entry : (ℕ → ℕ → Bool) → ℕ → Bool
-entry f c = f (getD blocks c 8) (getD counts c 512)
+entry f c = f (getD blocks c SMALLEST) (getD counts c MOST-BLOCKS)
 
--- a test that passes at the sixteen classes, and at class 0 again, passes at every c
-every-class : (f : ℕ → ℕ → Bool) → T (all (entry f) 17) → (c : ℕ) → T (entry f c)
+-- a test that passes at the classes, and at class 0 again, passes at every c
+every-class : (f : ℕ → ℕ → Bool) → T (all (entry f) (suc CLASSES)) → (c : ℕ) → T (entry f c)
 unfolding entry
-every-class f t c = elim (decLt c 16) [
-  | yes h ↦ at (entry f) 17 t c (omega arith)
-  | no h ↦ (let past : 16 ≤ c = omega arith in
-      rw (List·getD-eq-default blocks 8 past, List·getD-eq-default counts 512 past)
-      (at (entry f) 17 t 16 (omega arith)))
+every-class f t c = elim (decLt c CLASSES) [
+  | yes h ↦ at (entry f) (suc CLASSES) t c (omega arith)
+  | no h ↦ (let past : CLASSES ≤ c = omega arith in
+      rw (List·getD-eq-default blocks SMALLEST past, List·getD-eq-default counts MOST-BLOCKS past)
+      (at (entry f) (suc CLASSES) t CLASSES (omega arith)))
 ]
 
 -- the definitions are the table's rows
-pub rows : (c : ℕ) → (block c ≡ getD blocks c 8) × (perRegion c ≡ getD counts c 512)
+pub rows : (c : ℕ) → (block c ≡ getD blocks c SMALLEST) × (perRegion c ≡ getD counts c MOST-BLOCKS)
 unfolding units perRegion entry
-rows c = (eqb→eq (block c) (getD blocks c 8) (every-class (λ b n. eqb (8 * (b / 8)) b) tt c), refl)
+rows c = (eqb→eq (block c) (getD blocks c SMALLEST) (every-class (λ b n. eqb (UNIT-BYTES * (b / UNIT-BYTES)) b) tt c), refl)
 
 -- a number that is none of the first n, as a match leaves it to its last arm
 abbrev pub Others : ℕ → ℕ → Type 0
@@ -52,47 +52,47 @@ units-at c k h e = h ∙ ap units (sym e)
 pub perRegion-at : (c k : ℕ) {x : ℕ} → x ≡ perRegion k → c ≡ k → x ≡ perRegion c
 perRegion-at c k h e = h ∙ ap perRegion (sym e)
 
--- n is the number of blocks that fit in the 4,096 bytes of a region
-pub perRegion-is : (c : ℕ) → perRegion c ≡ 4096 / block c
+-- n is the number of blocks that fit in the bytes of a region
+pub perRegion-is : (c : ℕ) → perRegion c ≡ REGION-BYTES / block c
 unfolding units perRegion entry
 perRegion-is c =
-    eqb→eq (perRegion c) (4096 / block c) (every-class (λ b n. eqb n (4096 / (8 * (b / 8)))) tt c)
+    eqb→eq (perRegion c) (REGION-BYTES / block c) (every-class (λ b n. eqb n (REGION-BYTES / (UNIT-BYTES * (b / UNIT-BYTES)))) tt c)
 
 -- a block has at least one unit
 pub units-low : (c : ℕ) → 1 ≤ units c
 unfolding units entry
-units-low c = leb→le 1 (units c) (every-class (λ b n. leb 1 (b / 8)) tt c)
+units-low c = leb→le 1 (units c) (every-class (λ b n. leb 1 (b / UNIT-BYTES)) tt c)
 
--- .. and at most 32
-pub units-high : (c : ℕ) → units c ≤ 32
+-- .. and at most those of the largest
+pub units-high : (c : ℕ) → units c ≤ MOST-UNITS
 unfolding units entry
-units-high c = leb→le (units c) 32 (every-class (λ b n. leb (b / 8) 32) tt c)
+units-high c = leb→le (units c) MOST-UNITS (every-class (λ b n. leb (b / UNIT-BYTES) MOST-UNITS) tt c)
 
--- a region has at least 16 blocks
-pub perRegion-low : (c : ℕ) → 16 ≤ perRegion c
+-- a region has at least the blocks of the largest class
+pub perRegion-low : (c : ℕ) → LEAST-BLOCKS ≤ perRegion c
 unfolding perRegion entry
-perRegion-low c = leb→le 16 (perRegion c) (every-class (λ b n. leb 16 n) tt c)
+perRegion-low c = leb→le LEAST-BLOCKS (perRegion c) (every-class (λ b n. leb LEAST-BLOCKS n) tt c)
 
--- .. and at most 512
-pub perRegion-high : (c : ℕ) → perRegion c ≤ 512
+-- .. and at most those of the smallest
+pub perRegion-high : (c : ℕ) → perRegion c ≤ MOST-BLOCKS
 unfolding perRegion entry
-perRegion-high c = leb→le (perRegion c) 512 (every-class (λ b n. leb n 512) tt c)
+perRegion-high c = leb→le (perRegion c) MOST-BLOCKS (every-class (λ b n. leb n MOST-BLOCKS) tt c)
 
--- its blocks fit into its 512 units
-pub fits : (c : ℕ) → units c * perRegion c ≤ 512
+-- its blocks fit into its units
+pub fits : (c : ℕ) → units c * perRegion c ≤ REGION-UNITS
 unfolding units perRegion entry
-fits c = leb→le (units c * perRegion c) 512 (every-class (λ b n. leb (b / 8 * n) 512) tt c)
+fits c = leb→le (units c * perRegion c) REGION-UNITS (every-class (λ b n. leb (b / UNIT-BYTES * n) REGION-UNITS) tt c)
 
 -- the block of the class after c is larger
 next : ℕ → Bool
 next c = ltb (units c) (units (suc c))
 
 -- blocks rise from class to class
-pub rise : (c d : ℕ) → c < d → d < 16 → units c < units d
+pub rise : (c d : ℕ) → c < d → d < CLASSES → units c < units d
 unfolding next units
 rise c zero h l = absurd (omega arith)
 rise c (suc d) h l =
-    let s : units d < units (suc d) = ltb→lt (units d) (units (suc d)) (at next 15 tt d (omega arith)) in
+    let s : units d < units (suc d) = ltb→lt (units d) (units (suc d)) (at next (CLASSES - 1) tt d (omega arith)) in
     elim (decLt c d) [
       | yes k ↦ omega (arith, rise c d k (omega arith))
       | no k ↦ (let e : c ≡ d = omega arith in rw e s)

@@ -1,8 +1,8 @@
 -- The sixteen classes of blocks.
--- Assumes nothing.
 use mathlib.Core.List.{List, [], _∷_}
 use Prim.Native.Nat.{ℕ, _*_, _/_}
 use lib.ListN.{getD}
+use Rattle.limits.specs.Limits.{UNIT-BYTES, REGION-BYTES, MOST-BYTES, MOST-BLOCKS}
 
 -- the table's row "block": the bytes of a block of each class
 abbrev pub blocks : List ℕ
@@ -12,14 +12,25 @@ blocks = 8 ∷ 16 ∷ 24 ∷ 32 ∷ 40 ∷ 48 ∷ 56 ∷ 64 ∷ 80 ∷ 96 ∷ 11
 abbrev pub counts : List ℕ
 counts = 512 ∷ 256 ∷ 170 ∷ 128 ∷ 102 ∷ 85 ∷ 73 ∷ 64 ∷ 51 ∷ 42 ∷ 36 ∷ 32 ∷ 25 ∷ 21 ∷ 18 ∷ 16 ∷ []
 
--- a block of class c in units of 8 bytes. Past the table it is that of class 0, so that laws hold for every c
+-- the block of class 0, the smallest
+abbrev pub SMALLEST : ℕ
+SMALLEST = 8
+
+-- the units of the largest block, and how many blocks of it a region has
+abbrev pub MOST-UNITS : ℕ
+MOST-UNITS = MOST-BYTES / UNIT-BYTES
+
+abbrev pub LEAST-BLOCKS : ℕ
+LEAST-BLOCKS = REGION-BYTES / MOST-BYTES
+
+-- a block of class c in units. Past the table it is that of class 0, so that laws hold for every c
 unfoldable pub units : ℕ → ℕ
-units c = getD blocks c 8 / 8
+units c = getD blocks c SMALLEST / UNIT-BYTES
 
 -- a block of class c in bytes
 abbrev pub block : ℕ → ℕ
-block c = 8 * units c
+block c = UNIT-BYTES * units c
 
 -- n of class c
 unfoldable pub perRegion : ℕ → ℕ
-perRegion c = getD counts c 512
+perRegion c = getD counts c MOST-BLOCKS

@@ -1,12 +1,18 @@
 -- The numbers by which a first unit is told without a division.
--- Assumes nothing.
 use mathlib.Core.Path.{_≡_}
 use Prim.Native.Nat.{ℕ, _*_, _%_, _<_}
 use lib.Dec.{ltb}
+use Rattle.limits.specs.Limits.{REGION-UNITS}
 use Rattle.classes.specs.Places.{isFirst}
 
--- f tells the first units of class c: of a region's 512 units these, and no others, have a product with f that is below
--- 65,536, modulo 2^32
+-- a product is taken modulo 2^32, and that of a first unit is below 2^16
+abbrev pub PRODUCTS : ℕ
+PRODUCTS = 4294967296
+
+abbrev pub FIRSTS : ℕ
+FIRSTS = 65536
+
+-- f tells the first units of class c: of a region's units these, and no others, have such a product with f
 pub record Factor (c f : ℕ) : Type 0 where
-  pub below : f < 4294967296
-  pub tells : (o : ℕ) → o < 512 → ltb (o * f % 4294967296) 65536 ≡ isFirst c o
+  pub below : f < PRODUCTS
+  pub tells : (o : ℕ) → o < REGION-UNITS → ltb (o * f % PRODUCTS) FIRSTS ≡ isFirst c o

@@ -1,26 +1,26 @@
--- The places of a class's blocks in a region, which is 512 units.
--- Assumes nothing.
+-- The places of a class's blocks in a region.
 use mathlib.Core.Path.{_≡_}
 use mathlib.Core.Bool.{Bool, _&&_}
 use Prim.Native.Nat.{ℕ, _+_, _*_, _/_, _%_, _<_}
 use lib.Dec.{ltb, eqb}
+use Rattle.limits.specs.Limits.{REGION-UNITS}
 use Rattle.classes.specs.Classes.{units, perRegion}
 
 -- a block is named by its first unit: that of block i of region r, whose blocks are of class c
 abbrev pub unitOf : ℕ → ℕ → ℕ → ℕ
-unitOf r c i = 512 * r + units c * i
+unitOf r c i = REGION-UNITS * r + units c * i
 
 -- the region that unit u lies in
 abbrev pub regionOf : ℕ → ℕ
-regionOf u = u / 512
+regionOf u = u / REGION-UNITS
 
 -- a block's index in its region, by which a chain links it, from its first unit
 abbrev pub indexOf : ℕ → ℕ → ℕ
-indexOf c u = u % 512 / units c
+indexOf c u = u % REGION-UNITS / units c
 
 -- u is the first unit of one of the n blocks of class c in its region; what is left over at the end is no block
 unfoldable pub isFirst : ℕ → ℕ → Bool
-isFirst c u = eqb (u % 512 % units c) 0 && ltb (indexOf c u) (perRegion c)
+isFirst c u = eqb (u % REGION-UNITS % units c) 0 && ltb (indexOf c u) (perRegion c)
 
 -- u names a block of class c in region r: the one at an index below n
 pub record Block (r c u : ℕ) : Type 0 where

@@ -1,6 +1,8 @@
 // From a size in bytes to the class that serves it.
 ghost use mathlib.Core.Path.{_≡_};
-ghost use Prim.Native.Nat.{_*_, _<_};
+ghost use Prim.Native.Nat.{_*_, _≤_};
+ghost use Rattle.limits.specs.Limits.{UNIT-BYTES};
+ghost use Rattle.classes.specs.Classes.{MOST-UNITS};
 ghost use Rattle.classes.specs.Sizes.{choice, classOf};
 
 // The class that serves a size, or the number that refuses it.
@@ -11,8 +13,8 @@ pub enum Choice {
 
 // The class of so many units, a block of which holds them. No size that is served is of 0 units. Caller: `size_class`.
 fn class_of(units: usize) -> u8
-    requires { ⌜ units < 33 ⌝ }
-    ensures { λ r. ⌜ r ≡ classOf (8 * units) ⌝ }
+    requires { ⌜ units ≤ MOST-UNITS ⌝ }
+    ensures { λ r. ⌜ r ≡ classOf (UNIT-BYTES * units) ⌝ }
 {
     match units {
         0 => 0,
@@ -51,17 +53,18 @@ fn class_of(units: usize) -> u8
     }
 }
 
-// The class of the smallest block that holds the size; 8 refuses size 0, and 9 a size above 256.
+// The class of the smallest block that holds the size; 8 refuses size 0, and 9 a size above the largest.
 // One look into a table, since each allocation begins with it.
 pub fn size_class(size: u64) -> Choice
     ensures { λ r. ⌜ r ≡ choice size ⌝ }
 {
-    if size == 0 {
+    let bytes = size as usize;
+    if bytes == 0 {
         return Choice::Refused(8);
     }
-    if 256 < size {
+    if limits::MOST_BYTES < bytes {
         return Choice::Refused(9);
     }
-    let units = ((size + 7) / 8) as usize;
+    let units = (bytes + limits::UNIT_BYTES - 1) / limits::UNIT_BYTES;
     Choice::Class(class_of(units))
 }

@@ -2,13 +2,14 @@
 // stack at each read.
 ghost use mathlib.Core.Path.{_≡_};
 ghost use Prim.Native.Nat.{_<_};
+ghost use Rattle.limits.specs.Limits.{CLASSES};
 ghost use Rattle.classes.specs.Classes.{units, perRegion};
 ghost use Rattle.classes.specs.Factors.{Factor};
 
 // The units of a block of the class. Callers have the class of a request, which its step has tested: `first_unit`, `index_of`,
 // and the steps that name a block by its index.
 pub fn units(class: usize) -> usize
-    requires { ⌜ class < 16 ⌝ }
+    requires { ⌜ class < CLASSES ⌝ }
     ensures { λ r. ⌜ r ≡ units class ⌝ }
 {
     match class {
@@ -34,7 +35,7 @@ pub fn units(class: usize) -> usize
 // How many blocks of the class a region has, n. Callers have the class as those of `units` do: the steps that compare an index,
 // or the count of a cache, a group or an anchor, with n.
 pub fn per_region(class: usize) -> usize
-    requires { ⌜ class < 16 ⌝ }
+    requires { ⌜ class < CLASSES ⌝ }
     ensures { λ r. ⌜ r ≡ perRegion class ⌝ }
 {
     match class {
@@ -60,7 +61,7 @@ pub fn per_region(class: usize) -> usize
 // A number that tells the first units of the class's blocks by one product, without a division. Any with its property
 // would do; docs/DECISIONS.md says how these were found. Caller: `is_first`.
 pub fn factor(class: usize) -> usize
-    requires { ⌜ class < 16 ⌝ }
+    requires { ⌜ class < CLASSES ⌝ }
     ensures { λ r. ⌜ Factor class r ⌝ }
 {
     match class {

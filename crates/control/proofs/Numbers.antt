@@ -1,4 +1,4 @@
--- The number of an answer is its code and 256 times its value. Assumes nothing.
+-- The number of an answer is its code and 256 times its value.
 use mathlib.Core.Path.{_≡_, refl}
 use Prim.Native.Nat.{_+_, _*_}
 use native.Mathlib.Omega.{arith}

@@ -1,4 +1,4 @@
--- What a write leaves as it was, each law over every width. Assumes nothing.
+-- What a write leaves as it was, each law over every width.
 use mathlib.Core.Path.{_≡_, refl, _∙_}
 use mathlib.Core.List.{List}
 use Prim.Native.Nat.{ℕ, zero, suc, _+_, _/_, _%_, _≤_, _<_}

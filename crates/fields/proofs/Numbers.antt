@@ -1,4 +1,4 @@
--- Laws of `getLE` and `setLE` at one place, each over every width. Assumes nothing.
+-- Laws of `getLE` and `setLE` at one place, each over every width.
 use mathlib.Core.Path.{_≡_, refl, _∙_}
 use mathlib.Core.List.{List}
 use Prim.Native.Nat.{ℕ, zero, suc, _+_, _*_, _/_, _%_, _^_, _≤_, _<_}

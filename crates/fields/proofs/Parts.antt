@@ -1,4 +1,4 @@
--- A number written through a part of a list that is lent by itself, as `&mut s[a..a + k]`. Assumes nothing.
+-- A number written through a part of a list that is lent by itself, as `&mut s[a..a + k]`.
 use mathlib.Core.Path.{_≡_}
 use mathlib.Core.List.{List}
 use Prim.Native.Nat.{ℕ, zero, suc, _+_, _/_, _%_, _≤_, _<_}

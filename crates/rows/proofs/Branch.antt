@@ -1,5 +1,4 @@
 -- Which branch a decided test takes.
--- Assumes nothing.
 use mathlib.Core.Path.{_≡_, refl}
 use Rattle.rows.specs.Branch.{if}
 

@@ -1,5 +1,4 @@
 -- Linked rows: read at the head, kept with their links, made longer at either end, and given by their links.
--- Assumes nothing.
 use mathlib.Core.Path.{_≡_, refl, sym, ap, _∙_}
 use mathlib.Core.Logic.{_≢_}
 use mathlib.Core.List.{List, [], _∷_, _++_}

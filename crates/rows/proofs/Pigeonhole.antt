@@ -1,5 +1,4 @@
 -- The pigeonhole law, for rows in which an item may stand more than once.
--- Assumes nothing.
 use mathlib.Core.Path.{_≡_, ap}
 use mathlib.Core.List.{List, [], _∷_, _++_}
 use Prim.Native.Nat.{ℕ, _≤_, _<_}

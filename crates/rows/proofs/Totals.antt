@@ -1,5 +1,4 @@
 -- A weight summed over the first n holders: bounds by its parts, and what one update changes.
--- Assumes nothing.
 use mathlib.Core.Path.{_≡_, refl, ap}
 use mathlib.Core.Logic.{_≢_}
 use Prim.Native.Nat.{ℕ, zero, suc, _+_, _≤_, _<_}

@@ -1,5 +1,4 @@
 -- Numbers that count only if a test holds: n if u is v, and 1 if u is below v.
--- Assumes nothing.
 use mathlib.Core.Path.{_≡_, refl, sym, _∙_}
 use mathlib.Core.Logic.{_≢_}
 use Prim.Native.Nat.{ℕ, _+_, _≤_, _<_}

@@ -1,5 +1,4 @@
 -- The branch that a decided test takes, and the test of two facts at once.
--- Assumes nothing.
 
 -- The first value if the fact holds, else the second.
 abbrev pub if {ℓ} : {A : Type ℓ} {P : Type 0} → Dec P → A → A → A

@@ -1,5 +1,4 @@
 -- How often a number stands in a row. A row is a list of numbers, its first item on top.
--- Assumes nothing.
 use mathlib.Core.Path.{_≡_}
 use mathlib.Core.List.{List, [], _∷_, _++_}
 use Prim.Native.Nat.{ℕ, _+_}

@@ -1,6 +1,5 @@
 -- A row linked from item to item: `next` gives an item's link, `code` is the number by which a link names an
 -- item, and `end` is the link of the last item.
--- Assumes nothing.
 use mathlib.Core.Path.{_≡_}
 use mathlib.Core.List.{List, [], _∷_}
 use Prim.Native.Nat.{ℕ, zero, suc, _≤_}

@@ -1,5 +1,4 @@
 -- Tests of numbers that hand on the fact they found, for use in a proof by cases.
--- Assumes nothing.
 use mathlib.Core.Path.{_≡_, refl}
 use mathlib.Core.Logic.{_≢_}
 use mathlib.Core.Bool.{Bool, true, false}

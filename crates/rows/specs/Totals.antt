@@ -1,5 +1,4 @@
 -- A weight summed over a number of holders.
--- Assumes nothing.
 use Prim.Native.Nat.{ℕ, zero, suc, _+_, _≤_, _<_}
 
 module _ {A : Type 0} where

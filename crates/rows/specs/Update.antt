@@ -1,5 +1,4 @@
 -- A function of numbers, changed at one place.
--- Assumes nothing.
 use Prim.Native.Nat.{ℕ}
 use native.Mathlib.Decide.{ℕ-discrete}
 use Rattle.rows.specs.Branch.{if}

@@ -1,5 +1,4 @@
 -- Numbers that count only where a test holds.
--- Assumes nothing.
 use Prim.Native.Nat.{ℕ}
 use native.Mathlib.Decide.{ℕ-discrete, decLt}
 use Rattle.rows.specs.Branch.{if}

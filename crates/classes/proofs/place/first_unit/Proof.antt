@@ -1,9 +1,9 @@
 -- `classes::place::first_unit` meets its contract: the block lies in its region, so no number is too large.
--- Assumes nothing.
 use mathlib.Core.Path.{_≡_}
 use Prim.Native.Nat.{ℕ, _+_, _*_, _<_}
 use borrow.Author.Needs.{needs}
 use native.Mathlib.Omega.{arith}
+use Rattle.limits.specs.Limits.{REGION-UNITS, REGIONS, UNITS}
 use Rattle.classes.specs.Classes.{units, perRegion}
 use Rattle.classes.proofs.Places.{block-at, unit-below}
 use Rattle.classes.proofs.place.first_unit.Statement.{statement}
@@ -12,8 +12,8 @@ use Rattle.classes.proofs.place.first_unit.Tie as tie
 returns : tie.Need-returns
 returns c = rw (c .units .ensures)
 
--- a block's first unit is below 8,192
-small : {u : ℕ} (r c i : ℕ) → u ≡ units c → r < 16 → i < perRegion c → 512 * r + u * i < 8192
+-- a block's first unit is one of the area's
+small : {u : ℕ} (r c i : ℕ) → u ≡ units c → r < REGIONS → i < perRegion c → REGION-UNITS * r + u * i < UNITS
 small r c i e k h = rw e (unit-below (block-at r c i h) k)
 
 mul-result-2 : tie.Need-mul-result-2

@@ -1,5 +1,4 @@
 -- `classes::place::index_of` meets its contract: a block has at least one unit, so the division is safe.
--- Assumes nothing.
 use borrow.Author.Needs.{needs}
 use native.Mathlib.Omega.{arith}
 use Rattle.classes.proofs.Tables.{units-low}

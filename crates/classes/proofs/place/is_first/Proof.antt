@@ -1,5 +1,4 @@
 -- `classes::place::is_first` meets its contract: the product does not overflow, and the factor tells a first unit by it.
--- Assumes nothing.
 use borrow.Author.Needs.{needs}
 use native.Mathlib.Omega.{arith}
 use Rattle.classes.proofs.Factors.{told, small}

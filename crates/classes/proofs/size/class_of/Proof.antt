@@ -1,5 +1,4 @@
 -- `classes::size::class_of` meets its contract: each arm has the class of the definition.
--- Assumes nothing.
 use mathlib.Core.Path.{refl}
 use borrow.Author.Needs.{needs}
 use native.Mathlib.Omega.{arith}

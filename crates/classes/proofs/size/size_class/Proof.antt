@@ -1,5 +1,4 @@
 -- `classes::size::size_class` meets its contract: a size has the class of its units rounded up.
--- Assumes nothing.
 use mathlib.Core.Path.{sym, ap, _∙_}
 use borrow.Author.Needs.{needs}
 use native.Mathlib.Omega.{arith}
@@ -20,4 +19,4 @@ returns-3 c =
     ap Class (c .class-of .ensures ∙ rounded size (omega arith)) ∙ sym (serves size (omega arith) (omega arith))
 
 pub size-class-spec : {M : Type 1} → statement M
-size-class-spec = tie.close (tie.spec returns returns-2 (λ c. search needs) (λ c κs. search needs) returns-3)
+size-class-spec = tie.close (tie.spec returns returns-2 (λ c. search needs) (λ c. search needs) (λ c κs. search needs) returns-3)

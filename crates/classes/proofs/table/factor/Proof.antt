@@ -1,5 +1,4 @@
 -- `classes::table::factor` meets its contract: each arm's number passes the test of its class.
--- Assumes nothing.
 use borrow.Author.Needs.{needs}
 use native.Mathlib.Omega.{arith}
 use Rattle.classes.specs.Classes.{units, perRegion}

@@ -1,5 +1,4 @@
 -- `classes::table::per_region` meets its contract: each arm has the number of the definition.
--- Assumes nothing.
 use mathlib.Core.Path.{refl}
 use borrow.Author.Needs.{needs}
 use native.Mathlib.Omega.{arith}
