@@ -1,17 +1,19 @@
 -- The outcome of the steps that fill the cache or open a region, on each of their ways, from the tests that lead there.
--- Assumes nothing.
 use mathlib.Core.Path.{_≡_}
 use mathlib.Core.Bool.{true, false}
 use mathlib.Core.List.{[], _∷_}
 use Prim.Native.Nat.{ℕ, _+_, _-_, _*_, _≤_, _<_}
 use borrow.Author.Tests.{lt-ltb, le-ltb, le-leb, lt-leb, eq-eqb, ne-eqb}
+use Rattle.limits.specs.Limits.{REGION-UNITS, DESCRIPTORS}
 use Rattle.fields.specs.Columns.{View, _:=_}
 use Rattle.links.specs.Link.{_⇒_}
 use Rattle.classes.specs.Classes.{units, perRegion}
 use Rattle.classes.specs.Places.{unitOf}
 use Rattle.plain.specs.Moves.{nothing}
-use Rattle.control.specs.Layout.{Anchor, CacheTop, CacheCount, TaskIndex, TaskLeft, TaskPlace, TaskDescriptor, TaskRegion}
+use Rattle.control.specs.Layout.{Anchor, CacheTop, CacheCount, TaskIndex, TaskLeft, TaskPlace, TaskDescriptor}
+use Rattle.control.specs.Layout.{TaskRegion}
 use Rattle.control.specs.Layout.{DescriptorRegion, DescriptorClass, Map}
+use Rattle.control.specs.Places.{A1, A8}
 use Rattle.stepped.specs.Outcome.{bad, accept}
 use Rattle.stepped.specs.Ranges.{isTop}
 use Rattle.stepped.specs.Allocate.{a4, a4Move, a7, a8, a8Put}
@@ -23,7 +25,7 @@ module _ (v : View) (link : ℕ → ℕ) (regions t c : ℕ) where
   module _ (u left k top : ℕ) where
     pub a4Move-last : left ≡ 1
         → a4Move v link regions t c u left k top
-        ≡ accept nothing (TaskPlace t := 1 ∷ CacheTop t c := u ∷ CacheCount t c := (k + 1) ∷ []) (u ⇒ top ∷ [])
+        ≡ accept nothing (TaskPlace t := A1 ∷ CacheTop t c := u ∷ CacheCount t c := (k + 1) ∷ []) (u ⇒ top ∷ [])
     unfolding a4Move
     a4Move-last h = rw (eq-eqb _ _ h)
 
@@ -33,7 +35,8 @@ module _ (v : View) (link : ℕ → ℕ) (regions t c : ℕ) where
 
     pub a4Move-on : {x m : ℕ} → x ≡ link u → m ≡ left - 1 → (left ≡ 1 → ⊥) → x < perRegion c
         → a4Move v link regions t c u left k top
-        ≡ accept nothing (TaskIndex t := x ∷ TaskLeft t := m ∷ CacheTop t c := u ∷ CacheCount t c := (k + 1) ∷ []) (u ⇒ top ∷ [])
+        ≡ accept nothing (TaskIndex t := x ∷ TaskLeft t := m ∷ CacheTop t c := u ∷ CacheCount t c := (k + 1) ∷ [])
+        (u ⇒ top ∷ [])
     unfolding a4Move
     a4Move-on e f s h = rw (← e, ne-eqb _ _ s, lt-ltb _ _ h, f)
 
@@ -66,7 +69,8 @@ module _ (v : View) (link : ℕ → ℕ) (regions t c : ℕ) where
             unfolding a4
             a4-top h = rw (h, lt-ltb _ _ r, lt-ltb _ _ i, le-leb _ _ s, le-leb _ _ m, lt-ltb _ _ k)
 
-            pub a4-moves : {u left n top : ℕ} → u ≡ unitOf (v (TaskRegion t)) c (v (TaskIndex t)) → left ≡ v (TaskLeft t)
+            pub a4-moves : {u left n top : ℕ} → u ≡ unitOf (v (TaskRegion t)) c (v (TaskIndex t))
+                → left ≡ v (TaskLeft t)
                 → n ≡ v (CacheCount t c) → top ≡ v (CacheTop t c)
                 → isTop regions c (v (CacheCount t c)) (v (CacheTop t c)) ≡ true
                 → a4 v link regions t c ≡ a4Move v link regions t c u left n top
@@ -76,18 +80,19 @@ module _ (v : View) (link : ℕ → ℕ) (regions t c : ℕ) where
 
   -- ---- step 7
 
-  pub a7-none : 64 ≤ v (TaskDescriptor t) → a7 v link regions t c ≡ bad
+  pub a7-none : DESCRIPTORS ≤ v (TaskDescriptor t) → a7 v link regions t c ≡ bad
   unfolding a7
   a7-none h = rw (le-ltb _ _ h)
 
-  pub a7-region : v (TaskDescriptor t) < 64 → regions ≤ v (TaskRegion t) → a7 v link regions t c ≡ bad
+  pub a7-region : v (TaskDescriptor t) < DESCRIPTORS → regions ≤ v (TaskRegion t) → a7 v link regions t c ≡ bad
   unfolding a7
   a7-region s h = rw (lt-ltb _ _ s, le-ltb _ _ h)
 
-  pub a7-opens : {d r f : ℕ} → d ≡ v (TaskDescriptor t) → r ≡ v (TaskRegion t) → f ≡ fullWord c → d < 64 → r < regions
+  pub a7-opens : {d r f : ℕ} → d ≡ v (TaskDescriptor t) → r ≡ v (TaskRegion t) → f ≡ fullWord c → d < DESCRIPTORS
+      → r < regions
       → a7 v link regions t c
       ≡ accept nothing
-      (TaskPlace t := 27
+      (TaskPlace t := A8
       ∷ TaskIndex t := 0
       ∷ Anchor d := f
       ∷ DescriptorRegion d := r
@@ -103,7 +108,7 @@ module _ (v : View) (link : ℕ → ℕ) (regions t c : ℕ) where
   module _ (u i k top : ℕ) where
     pub a8Put-last : i + 1 ≡ perRegion c
         → a8Put v link regions t c u i k top
-        ≡ accept nothing (TaskPlace t := 1 ∷ CacheTop t c := u ∷ CacheCount t c := (k + 1) ∷ []) (u ⇒ top ∷ [])
+        ≡ accept nothing (TaskPlace t := A1 ∷ CacheTop t c := u ∷ CacheCount t c := (k + 1) ∷ []) (u ⇒ top ∷ [])
     unfolding a8Put
     a8Put-last h = rw (eq-eqb _ _ h)
 
@@ -133,7 +138,8 @@ module _ (v : View) (link : ℕ → ℕ) (regions t c : ℕ) where
         a8-top h = rw (h, lt-ltb _ _ s, lt-ltb _ _ l, lt-ltb _ _ m)
 
         pub a8-puts : {r o i k top : ℕ} → o ≡ units c * i → r ≡ v (TaskRegion t) → i ≡ v (TaskIndex t)
-            → k ≡ v (CacheCount t c) → top ≡ v (CacheTop t c) → isTop regions c (v (CacheCount t c)) (v (CacheTop t c)) ≡ true
-            → a8 v link regions t c ≡ a8Put v link regions t c (512 * r + o) i k top
+            → k ≡ v (CacheCount t c) → top ≡ v (CacheTop t c)
+            → isTop regions c (v (CacheCount t c)) (v (CacheTop t c)) ≡ true
+            → a8 v link regions t c ≡ a8Put v link regions t c (REGION-UNITS * r + o) i k top
         unfolding a8
         a8-puts o e f g j h = rw (h, lt-ltb _ _ s, lt-ltb _ _ l, lt-ltb _ _ m, o, e, f, g, j)

@@ -1,5 +1,4 @@
 -- The block of a taken chain that a task moves next.
--- Assumes nothing.
 use Prim.Native.Nat.{ℕ, _≤_, _<_}
 use mathlib.Core.Path.{_≡_}
 use Rattle.fields.specs.Columns.{View}
@@ -7,7 +6,8 @@ use Rattle.classes.specs.Classes.{perRegion}
 use Rattle.classes.specs.Places.{unitOf}
 use Rattle.control.specs.Layout.{TaskIndex, TaskLeft, TaskRegion}
 
--- u is the block's unit, by the task's region and index; `left` blocks of the chain are left, with this one; all are in range
+-- u is the block's unit, by the task's region and index; `left` blocks of the chain are left, with this one; all are in
+-- range
 pub record Moving (v : View) (regions t c u left : ℕ) : Type 0 where
   pub region : v (TaskRegion t) < regions
   pub index : v (TaskIndex t) < perRegion c

@@ -9,6 +9,7 @@ ghost use mathlib.Core.Path.{_≡_};
 ghost use mathlib.Core.List.{[], _∷_};
 ghost use Prim.Native.Nat.{ℕ, _+_, _*_, _≤_, _<_};
 ghost use lib.ListN.{length};
+ghost use Rattle.limits.specs.Limits.{UNIT-BYTES, TASKS, CLASSES, MOST-BLOCKS};
 ghost use Rattle.fields.specs.Columns.{_:=_};
 ghost use Rattle.links.specs.Link.{link, _⇒_};
 ghost use Rattle.plain.specs.Moves.{nothing};
@@ -18,8 +19,8 @@ ghost use Rattle.stepped.specs.Done.{Lent, DoneIn};
 ghost use Rattle.steps_fill.specs.Chains.{Moving};
 ghost use Rattle.stepped.specs.Allocate.{a4, a4Move};
 
-// Puts the block at `unit` on top of a cache of `count` blocks and goes on with the chain: `left` blocks are left to move, the first
-// of them `next`. Caller: `move_on`.
+// Puts the block at `unit` on top of a cache of `count` blocks and goes on with the chain: `left` blocks are left to
+// move, the first of them `next`. Caller: `move_on`.
 fn push_next(
     control: &mut [u8],
     task: usize,
@@ -29,8 +30,9 @@ fn push_next(
     left: u16,
     count: u16,
 )
-    requires { ⌜ Control (now control) × (task < 8) × (class < 16) × (count < 512) ⌝ }
-    ensures { λ r. ⌜ now (control .exit) ≡ changed (TaskIndex task := next ∷ TaskLeft task := left ∷ CacheTop task class := unit ∷ CacheCount task class := (count + 1) ∷ []) (now (control .entry)) ⌝ }
+    requires { ⌜ Control (now control) × (task < TASKS) × (class < CLASSES) × (count < MOST-BLOCKS) ⌝ }
+    ensures { λ r. ⌜ now (control .exit) ≡ changed (TaskIndex task := next ∷ TaskLeft task := left
+        ∷ CacheTop task class := unit ∷ CacheCount task class := (count + 1) ∷ []) (now (control .entry)) ⌝ }
 {
     notes::set_task_index(control, task, next);
     notes::set_task_left(control, task, left);
@@ -50,17 +52,20 @@ fn move_on(
     count: u16,
     top: u16,
 ) -> Answer
-    requires { ⌜ Control (now control) × (task < 8) × (class < 16) × (8 * unit + 8 ≤ length (now area)) × (count < 512) ⌝ }
-    ensures { λ r. ⌜ DoneIn (accept nothing (TaskIndex task := next ∷ TaskLeft task := left ∷ CacheTop task class := unit ∷ CacheCount task class := (count + 1) ∷ []) (unit ⇒ top ∷ [])) (now (control .entry)) (now (area .entry)) (now (control .exit)) (now (area .exit)) r ⌝ }
+    requires { ⌜ Control (now control) × (task < TASKS) × (class < CLASSES)
+        × (UNIT-BYTES * unit + UNIT-BYTES ≤ length (now area)) × (count < MOST-BLOCKS) ⌝ }
+    ensures { λ r. ⌜ DoneIn (accept nothing (TaskIndex task := next ∷ TaskLeft task := left
+        ∷ CacheTop task class := unit ∷ CacheCount task class := (count + 1) ∷ []) (unit ⇒ top ∷ []))
+        (now (control .entry)) (now (area .entry)) (now (control .exit)) (now (area .exit)) r ⌝ }
 {
     push_next(control, task, class, unit, next, left, count);
     links::write(area, unit as usize, top as u32);
     Answer::Accepted
 }
 
-// Moves the block at `unit` to the top of a cache of `count` blocks whose top is `top`; `left` blocks of the chain, with this one,
-// were still to move. The block's own link, the next index of the chain, is read before it is overwritten. Caller: `move_at`, which
-// has tested these numbers.
+// Moves the block at `unit` to the top of a cache of `count` blocks whose top is `top`; `left` blocks of the chain,
+// with this one, were still to move. The block's own link, the next index of the chain, is read before it is
+// overwritten. Caller: `move_at`, which has tested these numbers.
 fn move_block(
     control: &mut [u8],
     area: &mut [u8],
@@ -71,8 +76,12 @@ fn move_block(
     count: u16,
     top: u16,
 ) -> Answer
-    requires { ⌜ Control (now control) × (task < 8) × (class < 16) × (8 * unit + 8 ≤ length (now area)) × (1 ≤ left) × (count < 512) ⌝ }
-    ensures { λ r. ⌜ ((regions : ℕ) → DoneIn (a4Move (seen (now (control .entry))) (link (now (area .entry))) regions task class unit left count top) (now (control .entry)) (now (area .entry)) (now (control .exit)) (now (area .exit)) r) ⌝ }
+    requires { ⌜ Control (now control) × (task < TASKS) × (class < CLASSES)
+        × (UNIT-BYTES * unit + UNIT-BYTES ≤ length (now area)) × (1 ≤ left) × (count < MOST-BLOCKS) ⌝ }
+    ensures { λ r. ⌜ ((regions : ℕ)
+        → DoneIn (a4Move (seen (now (control .entry))) (link (now (area .entry))) regions task class unit left count
+        top)
+        (now (control .entry)) (now (area .entry)) (now (control .exit)) (now (area .exit)) r) ⌝ }
 {
     let at = unit as usize;
     if left == 1 {
@@ -97,8 +106,8 @@ fn move_block(
     )
 }
 
-// Moves the block at `unit`, by the task's region and index, with `left` blocks still to move. Caller: `step`, which has read and
-// tested them.
+// Moves the block at `unit`, by the task's region and index, with `left` blocks still to move. Caller: `step`, which
+// has read and tested them.
 fn move_at(
     control: &mut [u8],
     area: &mut [u8],
@@ -108,8 +117,11 @@ fn move_at(
     unit: u16,
     left: u16,
 ) -> Answer
-    requires { ⌜ Lent (now control) (now area) regions task class × Moving (seen (now control)) regions task class unit left × (8 * unit + 8 ≤ length (now area)) ⌝ }
-    ensures { λ r. ⌜ DoneIn (a4 (seen (now (control .entry))) (link (now (area .entry))) regions task class) (now (control .entry)) (now (area .entry)) (now (control .exit)) (now (area .exit)) r ⌝ }
+    requires { ⌜ Lent (now control) (now area) regions task class
+        × Moving (seen (now control)) regions task class unit left
+        × (UNIT-BYTES * unit + UNIT-BYTES ≤ length (now area)) ⌝ }
+    ensures { λ r. ⌜ DoneIn (a4 (seen (now (control .entry))) (link (now (area .entry))) regions task class)
+        (now (control .entry)) (now (area .entry)) (now (control .exit)) (now (area .exit)) r ⌝ }
 {
     let count = caches::cache_count(control, task, class);
     if place::blocks(class) <= count {
@@ -122,7 +134,7 @@ fn move_at(
     move_block(control, area, task, class, unit, left, count, top)
 }
 
-// The step. Caller: the step of a task whose place is 25.
+// The step. Caller: the step of a task at that place.
 pub fn step(
     control: &mut [u8],
     area: &mut [u8],
@@ -131,7 +143,8 @@ pub fn step(
     class: usize,
 ) -> Answer
     requires { ⌜ Lent (now control) (now area) regions task class ⌝ }
-    ensures { λ r. ⌜ DoneIn (a4 (seen (now (control .entry))) (link (now (area .entry))) regions task class) (now (control .entry)) (now (area .entry)) (now (control .exit)) (now (area .exit)) r ⌝ }
+    ensures { λ r. ⌜ DoneIn (a4 (seen (now (control .entry))) (link (now (area .entry))) regions task class)
+        (now (control .entry)) (now (area .entry)) (now (control .exit)) (now (area .exit)) r ⌝ }
 {
     let n = place::blocks(class);
     let region = tasks::task_region(control, task) as usize;

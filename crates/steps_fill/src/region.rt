@@ -1,10 +1,11 @@
-// Steps 7 and 8, by which a region is opened for the class: "One step writes the descriptor (FULL, n, 0) and the map. Put blocks 0 to
-// n − 1 on the cache, one a step; then 1."
+// Steps 7 and 8, by which a region is opened for the class: "One step writes the descriptor (FULL, n, 0) and the map.
+// Put blocks 0 to n − 1 on the cache, one a step; then 1."
 use crate::cache;
 use crate::place;
 use control::answer::Answer;
 use control::caches;
 use control::notes;
+use control::places;
 use control::regions;
 use control::tasks;
 use steps_allocate::anchor;
@@ -12,15 +13,19 @@ ghost use mathlib.Core.Path.{_≡_};
 ghost use mathlib.Core.List.{[], _∷_};
 ghost use Prim.Native.Nat.{ℕ, _+_, _*_, _≤_, _<_};
 ghost use lib.ListN.{length};
+ghost use Rattle.limits.specs.Limits.{REGION-BYTES, REGION-UNITS, TASKS, REGIONS, CLASSES, DESCRIPTORS, MOST-BLOCKS};
 ghost use Rattle.fields.specs.Columns.{_:=_};
 ghost use Rattle.links.specs.Link.{link};
 ghost use Rattle.plain.specs.Moves.{nothing};
-ghost use Rattle.control.specs.Layout.{Control, seen, changed, Anchor, CacheTop, CacheCount, TaskIndex, TaskPlace, DescriptorRegion, DescriptorClass, Map};
+ghost use Rattle.control.specs.Layout.{Control, seen, changed, Anchor, CacheTop, CacheCount, TaskIndex, TaskPlace};
+ghost use Rattle.control.specs.Layout.{DescriptorRegion, DescriptorClass, Map};
+ghost use Rattle.control.specs.Places.{A8};
 ghost use Rattle.stepped.specs.Outcome.{accept};
 ghost use Rattle.stepped.specs.Done.{Given, Lent, Done, DoneIn};
 ghost use Rattle.stepped.specs.Allocate.{a7, a8, a8Put};
 
-// Writes a descriptor, with the anchor `full`, and the map's entry of its region. Caller: `open`, which has tested both.
+// Writes a descriptor, with the anchor `full`, and the map's entry of its region. Caller: `open`, which has tested
+// both.
 fn write_descriptor(
     control: &mut [u8],
     task: usize,
@@ -29,11 +34,15 @@ fn write_descriptor(
     region: u8,
     full: u64,
 ) -> Answer
-    requires { ⌜ Control (now control) × (task < 8) × (class < 16) × (descriptor < 64) × (region < 16) ⌝ }
-    ensures { λ r. ⌜ Done (accept nothing (TaskPlace task := 27 ∷ TaskIndex task := 0 ∷ Anchor descriptor := full ∷ DescriptorRegion descriptor := region ∷ DescriptorClass descriptor := class ∷ Map region := (descriptor + 1) ∷ []) []) (now (control .entry)) (now (control .exit)) r ⌝ }
+    requires { ⌜ Control (now control) × (task < TASKS) × (class < CLASSES) × (descriptor < DESCRIPTORS)
+        × (region < REGIONS) ⌝ }
+    ensures { λ r. ⌜ Done (accept nothing (TaskPlace task := A8 ∷ TaskIndex task := 0 ∷ Anchor descriptor := full
+        ∷ DescriptorRegion descriptor := region ∷ DescriptorClass descriptor := class ∷ Map region := (descriptor + 1)
+        ∷ []) [])
+        (now (control .entry)) (now (control .exit)) r ⌝ }
 {
     let at = descriptor as usize;
-    tasks::set_task_place(control, task, 27);
+    tasks::set_task_place(control, task, places::A8);
     notes::set_task_index(control, task, 0);
     regions::set_anchor(control, at, full);
     regions::set_descriptor_region(control, at, region);
@@ -42,13 +51,14 @@ fn write_descriptor(
     Answer::Accepted
 }
 
-// Step 7. Caller: the step of a task whose place is 26.
+// Step 7. Caller: the step of a task at that place.
 pub fn open(control: &mut [u8], regions: usize, task: usize, class: usize) -> Answer
     requires { ⌜ Given (now control) regions task class ⌝ }
-    ensures { λ r. ⌜ ((link : ℕ → ℕ) → Done (a7 (seen (now (control .entry))) link regions task class) (now (control .entry)) (now (control .exit)) r) ⌝ }
+    ensures { λ r. ⌜ ((link : ℕ → ℕ) → Done (a7 (seen (now (control .entry))) link regions task class)
+        (now (control .entry)) (now (control .exit)) r) ⌝ }
 {
     let descriptor = tasks::task_descriptor(control, task);
-    if 64 <= descriptor {
+    if limits::DESCRIPTORS <= (descriptor as usize) {
         return Answer::Refused(14);
     }
     let region = tasks::task_region(control, task);
@@ -61,16 +71,18 @@ pub fn open(control: &mut [u8], regions: usize, task: usize, class: usize) -> An
 
 // Puts the block at `unit` on top of a cache of `count` blocks and goes on with the block `next`. Caller: `put`.
 fn push_next(control: &mut [u8], task: usize, class: usize, unit: u16, next: u16, count: u16)
-    requires { ⌜ Control (now control) × (task < 8) × (class < 16) × (count < 512) ⌝ }
-    ensures { λ r. ⌜ now (control .exit) ≡ changed (TaskIndex task := next ∷ CacheTop task class := unit ∷ CacheCount task class := (count + 1) ∷ []) (now (control .entry)) ⌝ }
+    requires { ⌜ Control (now control) × (task < TASKS) × (class < CLASSES) × (count < MOST-BLOCKS) ⌝ }
+    ensures { λ r. ⌜ now (control .exit) ≡ changed (TaskIndex task := next ∷ CacheTop task class := unit
+        ∷ CacheCount task class := (count + 1) ∷ []) (now (control .entry)) ⌝ }
 {
     notes::set_task_index(control, task, next);
     caches::set_cache_top(control, task, class, unit);
     caches::set_cache_count(control, task, class, count + 1);
 }
 
-// Puts the block `index` of a region, `offset` units from the region's first, on top of a cache of `count` blocks whose top is `top`.
-// Its link is written in the region's own part of the area. Caller: `carve`, which has tested these numbers.
+// Puts the block `index` of a region, `offset` units from the region's first, on top of a cache of `count` blocks whose
+// top is `top`. Its link is written in the region's own part of the area. Caller: `carve`, which has tested these
+// numbers.
 fn put(
     control: &mut [u8],
     area: &mut [u8],
@@ -82,10 +94,15 @@ fn put(
     count: u16,
     top: u16,
 ) -> Answer
-    requires { ⌜ Control (now control) × (task < 8) × (class < 16) × (region < 16) × (4096 * region + 4096 ≤ length (now area)) × (offset < 512) × (index < 512) × (count < 512) ⌝ }
-    ensures { λ r. ⌜ ((regions : ℕ) → DoneIn (a8Put (seen (now (control .entry))) (link (now (area .entry))) regions task class (512 * region + offset) index count top) (now (control .entry)) (now (area .entry)) (now (control .exit)) (now (area .exit)) r) ⌝ }
+    requires { ⌜ Control (now control) × (task < TASKS) × (class < CLASSES) × (region < REGIONS)
+        × (REGION-BYTES * region + REGION-BYTES ≤ length (now area)) × (offset < REGION-UNITS) × (index < MOST-BLOCKS)
+        × (count < MOST-BLOCKS) ⌝ }
+    ensures { λ r. ⌜ ((regions : ℕ)
+        → DoneIn (a8Put (seen (now (control .entry))) (link (now (area .entry))) regions task class
+        (REGION-UNITS * region + offset) index count top)
+        (now (control .entry)) (now (area .entry)) (now (control .exit)) (now (area .exit)) r) ⌝ }
 {
-    let unit = (512 * region + offset) as u16;
+    let unit = (limits::REGION_UNITS * region + offset) as u16;
     let next = index + 1;
     if next == place::blocks(class) {
         cache::push_last(control, task, class, unit, count);
@@ -97,7 +114,7 @@ fn put(
     Answer::Accepted
 }
 
-// Step 8, of one block. Caller: the step of a task whose place is 27.
+// Step 8, of one block. Caller: the step of a task at that place.
 pub fn carve(
     control: &mut [u8],
     area: &mut [u8],
@@ -106,7 +123,8 @@ pub fn carve(
     class: usize,
 ) -> Answer
     requires { ⌜ Lent (now control) (now area) regions task class ⌝ }
-    ensures { λ r. ⌜ DoneIn (a8 (seen (now (control .entry))) (link (now (area .entry))) regions task class) (now (control .entry)) (now (area .entry)) (now (control .exit)) (now (area .exit)) r ⌝ }
+    ensures { λ r. ⌜ DoneIn (a8 (seen (now (control .entry))) (link (now (area .entry))) regions task class)
+        (now (control .entry)) (now (area .entry)) (now (control .exit)) (now (area .exit)) r ⌝ }
 {
     let n = place::blocks(class);
     let region = tasks::task_region(control, task) as usize;

@@ -4,7 +4,10 @@ use Rattle.steps_fill.proofs.cache.push_last.Statement.{statement}
 use Rattle.steps_fill.proofs.cache.push_last.Tie as tie
 
 returns : tie.Need-returns
-returns c = rw (c .before .before .before .before .before .before .before .before .before .before .set-task-place .ensures) at (rw (c .before .before .before .before .before .before .set-cache-top .ensures) at (c .before .before .set-cache-count .ensures))
+returns c =
+    let at-set-cache-top = c .before .before .before .before .before .before in
+    rw (at-set-cache-top .before .before .before .before .set-task-place .ensures) at
+    (rw (at-set-cache-top .set-cache-top .ensures) at (c .before .before .set-cache-count .ensures))
 
 pub push-last-spec : {M : Type 1} → statement M
 push-last-spec =

@@ -9,7 +9,9 @@ use Rattle.steps_fill.proofs.chain.move_block.Statement.{statement}
 use Rattle.steps_fill.proofs.chain.move_block.Tie as tie
 
 returns : tie.Need-returns
-returns c regions = done-in (a4Move-last _ _ _ _ _ _ _ _ _ (omega arith)) refl (c .before .before .before .before .before .before .push-last .ensures) (c .before .before .write .ensures)
+returns c regions =
+    done-in (a4Move-last _ _ _ _ _ _ _ _ _ (omega arith)) refl
+    (c .before .before .before .before .before .before .push-last .ensures) (c .before .before .write .ensures)
 
 returns-2 : tie.Need-returns-2
 returns-2 c regions = done-in (a4Move-bad _ _ _ _ _ _ _ _ _ (omega arith) (omega arith)) refl refl refl

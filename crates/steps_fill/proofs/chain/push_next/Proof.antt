@@ -9,7 +9,8 @@ returns c =
     let c6 = c2 .before .before .before .before in
     let c10 = c6 .before .before .before .before in
     let c14 = c10 .before .before .before .before in
-    rw (c14 .set-task-index .ensures) at (rw (c10 .set-task-left .ensures) at (rw (c6 .set-cache-top .ensures) at (c2 .set-cache-count .ensures)))
+    rw (c14 .set-task-index .ensures) at (rw (c10 .set-task-left .ensures) at
+    (rw (c6 .set-cache-top .ensures) at (c2 .set-cache-count .ensures)))
 
 pub push-next-spec : {M : Type 1} → statement M
 push-next-spec =

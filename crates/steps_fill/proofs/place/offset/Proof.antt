@@ -8,7 +8,9 @@ use Rattle.steps_fill.proofs.place.offset.Statement.{statement}
 use Rattle.steps_fill.proofs.place.offset.Tie as tie
 
 mul-result : tie.Need-mul-result
-mul-result c = let a = c .before .args in rw (c .units .ensures) (omega (arith, unit-inside 0 (a .class) (a .index) (search needs)))
+mul-result c =
+    let a = c .before .args in rw (c .units .ensures)
+    (omega (arith, unit-inside 0 (a .class) (a .index) (search needs)))
 
 returns : tie.Need-returns
 returns c =

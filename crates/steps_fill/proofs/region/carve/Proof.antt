@@ -24,7 +24,8 @@ returns-4 c = done-in (a8-top _ _ _ _ _ (omega arith) (omega arith) (omega arith
 returns-5 : tie.Need-returns-5
 returns-5 c =
     by-in (c .before .before .before .before .put .ensures _)
-    (a8-puts _ _ _ _ _ (omega arith) (omega arith) (omega arith) (search needs) (search needs) (search needs) (search needs) (search needs)
+    (a8-puts _ _ _ _ _ (omega arith) (omega arith) (omega arith) (search needs) (search needs) (search needs)
+    (search needs) (search needs)
     (search passed-top))
 
 pub carve-spec : {M : Type 1} → statement M

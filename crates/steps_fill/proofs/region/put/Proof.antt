@@ -10,12 +10,14 @@ use Rattle.steps_fill.proofs.region.put.Tie as tie
 returns : tie.Need-returns
 returns c regions =
     let p = c .before .before .before .before .before .before in
-    done-in (a8Put-last _ _ _ _ _ _ _ _ _ (omega arith)) refl (p .push-last .ensures) (c .before .before .write-in-region .ensures)
+    done-in (a8Put-last _ _ _ _ _ _ _ _ _ (omega arith)) refl (p .push-last .ensures)
+    (c .before .before .write-in-region .ensures)
 
 returns-2 : tie.Need-returns-2
 returns-2 c regions =
     let p = c .before .before .before .before .before .before in
-    done-in (a8Put-next _ _ _ _ _ _ _ _ _ (omega arith)) refl (p .push-next .ensures) (c .before .before .write-in-region2 .ensures)
+    done-in (a8Put-next _ _ _ _ _ _ _ _ _ (omega arith)) refl (p .push-next .ensures)
+    (c .before .before .write-in-region2 .ensures)
 
 pub put-spec : {M : Type 1} → statement M
 put-spec =

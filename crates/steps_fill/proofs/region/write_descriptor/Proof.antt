@@ -12,7 +12,14 @@ returns c =
     let c14 = c10 .before .before .before .before in
     let c18 = c14 .before .before .before .before in
     let c22 = c18 .before .before .before .before in
-    record { answer = refl; control = (rw (c22 .set-task-place .ensures) at (rw (c18 .set-task-index .ensures) at (rw (c14 .set-anchor .ensures) at (rw (c10 .set-descriptor-region .ensures) at (rw (c6 .set-descriptor-class .ensures) at (c2 .set-map .ensures)))))); links = refl }
+    record {
+      answer = refl;
+      control = (rw (c22 .set-task-place .ensures) at
+          (rw (c18 .set-task-index .ensures) at (rw (c14 .set-anchor .ensures) at
+          (rw (c10 .set-descriptor-region .ensures) at
+          (rw (c6 .set-descriptor-class .ensures) at (c2 .set-map .ensures))))));
+      links = refl;
+    }
 
 pub write-descriptor-spec : {M : Type 1} → statement M
 write-descriptor-spec =
