@@ -1,4 +1,4 @@
--- The ways out of step 2. Assumes nothing.
+-- The ways out of step 2.
 use mathlib.Core.Path.{_≡_}
 use mathlib.Core.Bool.{true, false}
 use mathlib.Core.List.{[], _∷_}
@@ -98,7 +98,8 @@ module _ (v : View) (link : ℕ → ℕ) (regions t c : ℕ) where
       last-bad l = rw (lt-ltb _ _ h, le-ltb _ _ l)
 
       module _ (l : v (GroupLast t) < perRegion c) where
-        pub below-bad : {b : ℕ} → b ≡ link u → isTop regions c (k - 1) b ≡ false → f2More v link regions t c k u g r ≡ bad
+        pub below-bad : {b : ℕ} → b ≡ link u → isTop regions c (k - 1) b ≡ false
+            → f2More v link regions t c k u g r ≡ bad
         unfolding f2More
         below-bad p s = rw (← p, lt-ltb _ _ h, lt-ltb _ _ l, s)
 

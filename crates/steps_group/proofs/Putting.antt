@@ -1,4 +1,4 @@
--- The ways out of step 1. Assumes nothing.
+-- The ways out of step 1.
 use mathlib.Core.Path.{_≡_}
 use mathlib.Core.Bool.{true, false}
 use mathlib.Core.List.{[], _∷_}
@@ -11,6 +11,7 @@ use Rattle.classes.specs.Classes.{perRegion}
 use Rattle.plain.specs.Moves.{nothing}
 use Rattle.control.specs.Layout.{CacheTop, CacheCount, TaskUnit, GroupCount, TaskPlace}
 use Rattle.control.specs.declared.answer.Answer.the-variants.{Freed}
+use Rattle.control.specs.Places.{IDLE, F2}
 use Rattle.stepped.specs.Outcome.{bad, accept, close}
 use Rattle.stepped.specs.Ranges.{isBlock, isTop}
 use Rattle.stepped.specs.Free.{f1, f1Put}
@@ -23,7 +24,7 @@ module _ (v : View) (link : ℕ → ℕ) (regions t c : ℕ) where
   put-large h = rw (lt-leb _ _ h)
 
   pub put-full : v (CacheCount t c) ≤ perRegion c → perRegion c ≤ v (CacheCount t c)
-      → f1 v link regions t c ≡ accept nothing (TaskPlace t := 29 ∷ GroupCount t := 0 ∷ []) []
+      → f1 v link regions t c ≡ accept nothing (TaskPlace t := F2 ∷ GroupCount t := 0 ∷ []) []
   unfolding f1
   put-full h k = rw (le-leb _ _ h, le-ltb _ _ k)
 
@@ -46,6 +47,6 @@ module _ (v : View) (link : ℕ → ℕ) (regions t c : ℕ) where
 
     pub is-put : isBlock regions c u ≡ true → isTop regions c k top ≡ true
         → f1Put v link regions t c u k top
-        ≡ close Freed nothing (TaskPlace t := 0 ∷ CacheTop t c := u ∷ CacheCount t c := (k + 1) ∷ []) (u ⇒ top ∷ [])
+        ≡ close Freed nothing (TaskPlace t := IDLE ∷ CacheTop t c := u ∷ CacheCount t c := (k + 1) ∷ []) (u ⇒ top ∷ [])
     unfolding f1Put
     is-put h l = rw (h, l)

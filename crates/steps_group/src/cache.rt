@@ -1,9 +1,11 @@
 // Step 1: the block goes on the cache, unless the cache is full.
 use crate::group;
 use control::answer::Answer;
+use control::places;
 ghost use mathlib.Core.Path.{_≡_};
 ghost use mathlib.Core.List.{[], _∷_};
 ghost use Prim.Native.Nat.{_<_};
+ghost use Rattle.limits.specs.Limits.{TASKS, CLASSES};
 ghost use Rattle.fields.specs.Columns.{_:=_};
 ghost use Rattle.links.specs.Link.{link};
 ghost use Rattle.classes.specs.Classes.{perRegion};
@@ -13,8 +15,9 @@ ghost use Rattle.stepped.specs.Free.{f1, f1Put};
 
 // A cache's top and count. Callers: `put_block`, and the steps that take a block into a group.
 pub fn set(control: &mut [u8], task: usize, class: usize, top: u16, count: u16)
-    requires { ⌜ Control (now control) × (task < 8) × (class < 16) ⌝ }
-    ensures { λ r. ⌜ now (control .exit) ≡ changed (CacheTop task class := top ∷ CacheCount task class := count ∷ []) (now (control .entry)) ⌝ }
+    requires { ⌜ Control (now control) × (task < TASKS) × (class < CLASSES) ⌝ }
+    ensures { λ r. ⌜ now (control .exit) ≡ changed (CacheTop task class := top ∷ CacheCount task class := count ∷ [])
+        (now (control .entry)) ⌝ }
 {
     control::caches::set_cache_top(control, task, class, top);
     control::caches::set_cache_count(control, task, class, count);
@@ -32,7 +35,9 @@ fn put_block(
     top: u16,
 ) -> Answer
     requires { ⌜ Lent (now control) (now area) regions task class × (count < perRegion class) ⌝ }
-    ensures { λ r. ⌜ DoneIn (f1Put (seen (now (control .entry))) (link (now (area .entry))) regions task class unit count top) (now (control .entry)) (now (area .entry)) (now (control .exit)) (now (area .exit)) r ⌝ }
+    ensures { λ r. ⌜ DoneIn
+        (f1Put (seen (now (control .entry))) (link (now (area .entry))) regions task class unit count top)
+        (now (control .entry)) (now (area .entry)) (now (control .exit)) (now (area .exit)) r ⌝ }
 {
     if !ranges::is_block(regions, class, unit as usize) {
         return Answer::Refused(14);
@@ -41,7 +46,7 @@ fn put_block(
         return Answer::Refused(14);
     }
     links::write(area, unit as usize, top as u32);
-    control::tasks::set_task_place(control, task, 0);
+    control::tasks::set_task_place(control, task, places::IDLE);
     set(control, task, class, unit, count + 1);
     Answer::Freed
 }
@@ -49,7 +54,8 @@ fn put_block(
 // Step 1.
 pub fn put(control: &mut [u8], area: &mut [u8], regions: usize, task: usize, class: usize) -> Answer
     requires { ⌜ Lent (now control) (now area) regions task class ⌝ }
-    ensures { λ r. ⌜ DoneIn (f1 (seen (now (control .entry))) (link (now (area .entry))) regions task class) (now (control .entry)) (now (area .entry)) (now (control .exit)) (now (area .exit)) r ⌝ }
+    ensures { λ r. ⌜ DoneIn (f1 (seen (now (control .entry))) (link (now (area .entry))) regions task class)
+        (now (control .entry)) (now (area .entry)) (now (control .exit)) (now (area .exit)) r ⌝ }
 {
     let n = classes::table::per_region(class);
     let count = control::caches::cache_count(control, task, class);

@@ -1,28 +1,34 @@
 // Step 2: the cache is taken, a group of blocks of one region at a time.
 use crate::cache;
 use control::answer::Answer;
+use control::places;
 ghost use mathlib.Core.Path.{_≡_};
 ghost use mathlib.Core.List.{[], _∷_};
 ghost use Prim.Native.Nat.{_*_, _≤_, _<_};
+ghost use Rattle.limits.specs.Limits.{REGION-UNITS, TASKS};
 ghost use Rattle.fields.specs.Columns.{_:=_};
 ghost use Rattle.links.specs.Link.{link};
-ghost use Rattle.control.specs.Layout.{Control, seen, changed, GroupFirst, GroupLast, GroupCount, TaskPlace, TaskRegion};
+ghost use Rattle.control.specs.Layout.{Control, seen, changed, GroupFirst, GroupLast, GroupCount, TaskPlace};
+ghost use Rattle.control.specs.Layout.{TaskRegion};
+ghost use Rattle.control.specs.Places.{F2};
 ghost use Rattle.stepped.specs.Done.{Lent, Done, DoneIn};
 ghost use Rattle.stepped.specs.Free.{f2, f2Top, f2First, f2More};
 
 // A new group is due: step 2, with none taken. Callers: step 1 with a full cache, and a won exchange that goes on to 2.
 pub fn begin(control: &mut [u8], task: usize)
-    requires { ⌜ Control (now control) × (task < 8) ⌝ }
-    ensures { λ r. ⌜ now (control .exit) ≡ changed (TaskPlace task := 29 ∷ GroupCount task := 0 ∷ []) (now (control .entry)) ⌝ }
+    requires { ⌜ Control (now control) × (task < TASKS) ⌝ }
+    ensures { λ r. ⌜ now (control .exit) ≡ changed (TaskPlace task := F2 ∷ GroupCount task := 0 ∷ [])
+        (now (control .entry)) ⌝ }
 {
-    control::tasks::set_task_place(control, task, 29);
+    control::tasks::set_task_place(control, task, places::F2);
     control::notes::set_group_count(control, task, 0);
 }
 
 // A group of one block, of this region and index. Caller: `take_first`.
 fn start_with(control: &mut [u8], task: usize, region: u8, index: u16)
-    requires { ⌜ Control (now control) × (task < 8) ⌝ }
-    ensures { λ r. ⌜ now (control .exit) ≡ changed (TaskRegion task := region ∷ GroupFirst task := index ∷ GroupLast task := index ∷ GroupCount task := 1 ∷ []) (now (control .entry)) ⌝ }
+    requires { ⌜ Control (now control) × (task < TASKS) ⌝ }
+    ensures { λ r. ⌜ now (control .exit) ≡ changed (TaskRegion task := region ∷ GroupFirst task := index
+        ∷ GroupLast task := index ∷ GroupCount task := 1 ∷ []) (now (control .entry)) ⌝ }
 {
     control::tasks::set_task_region(control, task, region);
     control::notes::set_group_first(control, task, index);
@@ -32,14 +38,16 @@ fn start_with(control: &mut [u8], task: usize, region: u8, index: u16)
 
 // A group with another last block. Caller: `take_more`.
 fn extend(control: &mut [u8], task: usize, index: u16, count: u16)
-    requires { ⌜ Control (now control) × (task < 8) ⌝ }
-    ensures { λ r. ⌜ now (control .exit) ≡ changed (GroupLast task := index ∷ GroupCount task := count ∷ []) (now (control .entry)) ⌝ }
+    requires { ⌜ Control (now control) × (task < TASKS) ⌝ }
+    ensures { λ r. ⌜ now (control .exit) ≡ changed (GroupLast task := index ∷ GroupCount task := count ∷ [])
+        (now (control .entry)) ⌝ }
 {
     control::notes::set_group_last(control, task, index);
     control::notes::set_group_count(control, task, count);
 }
 
-// The first block of a group: the top of a cache of `count` blocks. Caller: `take_top`, which has found it a block of the area.
+// The first block of a group: the top of a cache of `count` blocks. Caller: `take_top`, which has found it a block of
+// the area.
 fn take_first(
     control: &mut [u8],
     area: &[u8],
@@ -49,8 +57,10 @@ fn take_first(
     count: u16,
     unit: u16,
 ) -> Answer
-    requires { ⌜ Lent (now control) (now area) regions task class × (1 ≤ count) × (unit < 512 * regions) ⌝ }
-    ensures { λ r. ⌜ Done (f2First (seen (now (control .entry))) (link (now (area .entry))) regions task class count unit) (now (control .entry)) (now (control .exit)) r ⌝ }
+    requires { ⌜ Lent (now control) (now area) regions task class × (1 ≤ count) × (unit < REGION-UNITS * regions) ⌝ }
+    ensures { λ r. ⌜ Done
+        (f2First (seen (now (control .entry))) (link (now (area .entry))) regions task class count unit)
+        (now (control .entry)) (now (control .exit)) r ⌝ }
 {
     let below = links::read(area, unit as usize);
     if !ranges::is_top(regions, class, (count - 1) as usize, below as usize) {
@@ -63,8 +73,8 @@ fn take_first(
     Answer::Accepted
 }
 
-// A further block of a group of `group` blocks of the region: the top of a cache of `count` blocks, linked behind the last.
-// Caller: `take_top`, which has found it a block of the area and of the region.
+// A further block of a group of `group` blocks of the region: the top of a cache of `count` blocks, linked behind the
+// last. Caller: `take_top`, which has found it a block of the area and of the region.
 fn take_more(
     control: &mut [u8],
     area: &mut [u8],
@@ -76,8 +86,11 @@ fn take_more(
     group: u16,
     region: usize,
 ) -> Answer
-    requires { ⌜ Lent (now control) (now area) regions task class × (1 ≤ count) × (unit < 512 * regions) × (region < regions) ⌝ }
-    ensures { λ r. ⌜ DoneIn (f2More (seen (now (control .entry))) (link (now (area .entry))) regions task class count unit group region) (now (control .entry)) (now (area .entry)) (now (control .exit)) (now (area .exit)) r ⌝ }
+    requires { ⌜ Lent (now control) (now area) regions task class × (1 ≤ count) × (unit < REGION-UNITS * regions)
+        × (region < regions) ⌝ }
+    ensures { λ r. ⌜ DoneIn
+        (f2More (seen (now (control .entry))) (link (now (area .entry))) regions task class count unit group region)
+        (now (control .entry)) (now (area .entry)) (now (control .exit)) (now (area .exit)) r ⌝ }
 {
     let n = classes::table::per_region(class);
     if n <= (group as usize) {
@@ -112,7 +125,9 @@ fn take_top(
     group: u16,
 ) -> Answer
     requires { ⌜ Lent (now control) (now area) regions task class × (1 ≤ count) ⌝ }
-    ensures { λ r. ⌜ DoneIn (f2Top (seen (now (control .entry))) (link (now (area .entry))) regions task class count unit group) (now (control .entry)) (now (area .entry)) (now (control .exit)) (now (area .exit)) r ⌝ }
+    ensures { λ r. ⌜ DoneIn
+        (f2Top (seen (now (control .entry))) (link (now (area .entry))) regions task class count unit group)
+        (now (control .entry)) (now (area .entry)) (now (control .exit)) (now (area .exit)) r ⌝ }
 {
     if !ranges::is_block(regions, class, unit as usize) {
         return Answer::Refused(14);
@@ -125,7 +140,7 @@ fn take_top(
         return Answer::Refused(14);
     }
     if classes::place::region_of(unit as usize) != region {
-        control::tasks::set_task_place(control, task, 30);
+        control::tasks::set_task_place(control, task, places::F3_READ);
         return Answer::Accepted;
     }
     take_more(
@@ -150,7 +165,8 @@ pub fn take(
     class: usize,
 ) -> Answer
     requires { ⌜ Lent (now control) (now area) regions task class ⌝ }
-    ensures { λ r. ⌜ DoneIn (f2 (seen (now (control .entry))) (link (now (area .entry))) regions task class) (now (control .entry)) (now (area .entry)) (now (control .exit)) (now (area .exit)) r ⌝ }
+    ensures { λ r. ⌜ DoneIn (f2 (seen (now (control .entry))) (link (now (area .entry))) regions task class)
+        (now (control .entry)) (now (area .entry)) (now (control .exit)) (now (area .exit)) r ⌝ }
 {
     let n = classes::table::per_region(class);
     let count = control::caches::cache_count(control, task, class);
@@ -162,7 +178,7 @@ pub fn take(
         return Answer::Refused(14);
     }
     if count == 0 {
-        control::tasks::set_task_place(control, task, 30);
+        control::tasks::set_task_place(control, task, places::F3_READ);
         return Answer::Accepted;
     }
     let top = control::caches::cache_top(control, task, class);

@@ -14,7 +14,13 @@ returns-2 : tie.Need-returns-2
 returns-2 c = done-in (put-full _ _ _ _ _ (omega arith) (omega arith)) refl (c .before .before .begin .ensures) refl
 
 returns-3 : tie.Need-returns-3
-returns-3 c = does-in (put-on _ _ _ _ _ (c .before .before .before .before .before .before .before .before .before .task-unit .ensures) (c .before .before .before .before .before .before .before .before .before .before .before .before .before .cache-count .ensures) (c .before .before .before .before .before .before .before .cache-top .ensures) (omega arith)) (c .before .before .before .before .put-block .ensures)
+returns-3 c =
+    let task-unit = c .before .before .before .before .before .before .before .before .before .task-unit .ensures in
+    let cache-count = c .before .before .before .before .before .before .before .before .before .before .before .before
+    .before .cache-count .ensures in
+    let cache-top = c .before .before .before .before .before .before .before .cache-top .ensures in
+    does-in (put-on _ _ _ _ _ task-unit cache-count cache-top (omega arith))
+    (c .before .before .before .before .put-block .ensures)
 
 pub put-spec : {M : Type 1} → statement M
 put-spec =

@@ -13,13 +13,22 @@ returns : tie.Need-returns
 returns c = done-in (no-block _ _ _ _ _ _ _ _ (failed (c .before .is-block .ensures) (c .if1 .taken))) refl refl refl
 
 returns-2 : tie.Need-returns-2
-returns-2 c = done-in (no-top _ _ _ _ _ _ _ _ (passed (c .before .before .before .is-block .ensures) (c .before .before .if1 .left)) (failed (c .before .is-top .ensures) (c .if2 .taken))) refl refl refl
+returns-2 c =
+    done-in (no-top _ _ _ _ _ _ _ _ (passed (c .before .before .before .is-block .ensures)
+    (c .before .before .if1 .left)) (failed (c .before .is-top .ensures) (c .if2 .taken))) refl refl refl
 
 write-requires : tie.Need-write-requires
-write-requires c κs = let h = block-passed (c .before .before .before .before .before .before .before .args .regions) (c .before .before .before .before .before .before .before .args .class) (c .before .before .before .before .before .before .before .args .unit) (passed (c .before .before .before .before .is-block .ensures) (c .before .before .before .if1 .left)) in omega arith
+write-requires c κs =
+    let a = c .before .before .before .before .before .before .before .args in
+    let h = block-passed (a .regions) (a .class) (a .unit)
+    (passed (c .before .before .before .before .is-block .ensures) (c .before .before .before .if1 .left)) in
+    omega arith
 
 add-set : tie.Need-add-set
-add-set c = omega (arith, perRegion-high (c .before .before .before .before .before .before .before .before .before .before .before .before .before .before .before .args .class))
+add-set c =
+    let a = c .before .before .before .before .before .before .before .before .before .before .before .before .before
+    .before .before .args in
+    omega (arith, perRegion-high (a .class))
 
 returns-3 : tie.Need-returns-3
 returns-3 c =
@@ -30,7 +39,9 @@ returns-3 c =
     let c13 = c12 .before in
     let c14 = c13 .before in
     let c15 = c14 .before in
-    done-in (is-put _ _ _ _ _ _ _ _ (passed (c15 .is-block .ensures) (c14 .if1 .left)) (passed (c13 .is-top .ensures) (c12 .if2 .left))) refl (rw (c6 .set-task-place .ensures) at (c2 .set .ensures)) (c10 .write .ensures)
+    done-in (is-put _ _ _ _ _ _ _ _ (passed (c15 .is-block .ensures) (c14 .if1 .left))
+    (passed (c13 .is-top .ensures) (c12 .if2 .left))) refl (rw (c6 .set-task-place .ensures) at (c2 .set .ensures))
+    (c10 .write .ensures)
 
 pub put-block-spec : {M : Type 1} → statement M
 put-block-spec =

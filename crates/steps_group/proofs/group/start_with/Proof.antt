@@ -9,7 +9,8 @@ returns c =
     let c6 = c2 .before .before .before .before in
     let c10 = c6 .before .before .before .before in
     let c14 = c10 .before .before .before .before in
-    rw (c14 .set-task-region .ensures) at (rw (c10 .set-group-first .ensures) at (rw (c6 .set-group-last .ensures) at (c2 .set-group-count .ensures)))
+    rw (c14 .set-task-region .ensures) at (rw (c10 .set-group-first .ensures) at
+    (rw (c6 .set-group-last .ensures) at (c2 .set-group-count .ensures)))
 
 pub start-with-spec : {M : Type 1} → statement M
 start-with-spec =

@@ -14,10 +14,19 @@ returns-2 : tie.Need-returns-2
 returns-2 c = done-in (group-large _ _ _ _ _ (omega arith) (omega arith)) refl refl refl
 
 returns-3 : tie.Need-returns-3
-returns-3 c = done-in (cache-empty _ _ _ _ _ (omega arith) (omega arith) (omega arith)) refl (c .before .before .set-task-place .ensures) refl
+returns-3 c =
+    done-in (cache-empty _ _ _ _ _ (omega arith) (omega arith) (omega arith)) refl
+    (c .before .before .set-task-place .ensures) refl
 
 returns-4 : tie.Need-returns-4
-returns-4 c = does-in (cache-some _ _ _ _ _ (c .before .before .before .before .before .before .before .before .before .before .before .before .before .before .cache-count .ensures) (c .before .before .before .before .before .before .before .cache-top .ensures) (c .before .before .before .before .before .before .before .before .before .before .before .group-count .ensures) (omega arith) (omega arith) (omega arith)) (c .before .before .before .before .take-top .ensures)
+returns-4 c =
+    let cache-count = c .before .before .before .before .before .before .before .before .before .before .before .before
+    .before .before .cache-count .ensures in
+    let cache-top = c .before .before .before .before .before .before .before .cache-top .ensures in
+    let group-count = c .before .before .before .before .before .before .before .before .before .before .before
+    .group-count .ensures in
+    does-in (cache-some _ _ _ _ _ cache-count cache-top group-count (omega arith) (omega arith) (omega arith))
+    (c .before .before .before .before .take-top .ensures)
 
 pub take-spec : {M : Type 1} → statement M
 take-spec =

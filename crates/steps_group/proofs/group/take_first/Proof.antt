@@ -11,13 +11,21 @@ use Rattle.steps_group.proofs.group.take_first.Statement.{statement}
 use Rattle.steps_group.proofs.group.take_first.Tie as tie
 
 returns : tie.Need-returns
-returns c = done (first-bad _ _ _ _ _ _ _ (c .before .before .read .ensures) (failed (c .before .is-top .ensures) (c .if1 .taken))) refl refl refl
+returns c =
+    done (first-bad _ _ _ _ _ _ _ (c .before .before .read .ensures)
+    (failed (c .before .is-top .ensures) (c .if1 .taken))) refl refl refl
 
 cast-index : tie.Need-cast-index
 cast-index c = let h = index-small _ _ (c .index-of .ensures) in omega arith
 
 cast-set : tie.Need-cast-set
-cast-set c = let h = top-small (c .before .before .before .before .before .before .before .before .before .before .before .before .args .regions) (c .before .before .before .before .before .before .before .before .before .before .before .before .args .class) (c .before .before .before .before .before .before .before .before .before .before .before .before .args .count - 1) (c .before .before .before .before .before .before .before .before .before .read .result) (omega arith) (passed (c .before .before .before .before .before .before .before .before .is-top .ensures) (c .before .before .before .before .before .before .before .if1 .left)) in omega arith
+cast-set c =
+    let a = c .before .before .before .before .before .before .before .before .before .before .before .before .args in
+    let read-result = c .before .before .before .before .before .before .before .before .before .read .result in
+    let is-top = c .before .before .before .before .before .before .before .before .is-top .ensures in
+    let passed-by = c .before .before .before .before .before .before .before .if1 .left in
+    let h = top-small (a .regions) (a .class) (a .count - 1) read-result (omega arith) (passed is-top passed-by) in
+    omega arith
 
 returns-2 : tie.Need-returns-2
 returns-2 c =
@@ -29,7 +37,8 @@ returns-2 c =
     let c11 = c10 .before in
     let c12 = c11 .before in
     done
-    (first-taken _ _ _ _ _ _ _ (c12 .read .ensures) (c9 .region-of .ensures) (c8 .index-of .ensures) (passed (c11 .is-top .ensures) (c10 .if1 .left)))
+    (first-taken _ _ _ _ _ _ _ (c12 .read .ensures) (c9 .region-of .ensures) (c8 .index-of .ensures)
+    (passed (c11 .is-top .ensures) (c10 .if1 .left)))
     refl (rw (c6 .start-with .ensures) at (c2 .set .ensures)) refl
 
 pub take-first-spec : {M : Type 1} → statement M

@@ -20,7 +20,8 @@ returns-2 c = done-in (last-bad _ _ _ _ _ _ _ _ _ (omega arith) (omega arith)) r
 returns-3 : tie.Need-returns-3
 returns-3 c =
     done-in
-    (below-bad _ _ _ _ _ _ _ _ _ (omega arith) (omega arith) (c .before .before .read .ensures) (failed (c .before .is-top .ensures) (c .if3 .taken))) refl refl refl
+    (below-bad _ _ _ _ _ _ _ _ _ (omega arith) (omega arith) (c .before .before .read .ensures)
+    (failed (c .before .is-top .ensures) (c .if3 .taken))) refl refl refl
 
 cast-index : tie.Need-cast-index
 cast-index c = let h = index-small _ _ (c .index-of .ensures) in omega arith
@@ -29,20 +30,52 @@ cast-write : tie.Need-cast-write
 cast-write c = let h = index-small _ _ (c .before .before .index-of .ensures) in omega arith
 
 write-requires : tie.Need-write-requires
-write-requires c κs = link-inside (c .before .before .before .before .before .before .before .before .before .before .before .before .before .before .args .regions) (c .before .before .before .before .before .before .before .before .before .before .before .before .before .before .args .region) (c .before .before .before .before .before .before .before .before .before .before .before .before .before .before .args .class) (c .before .before .before .before .before .before .before .before .group-last .result) (c .before .first-unit .ensures) (omega arith) (omega arith) (search needs)
+write-requires c κs =
+    let a = c .before .before .before .before .before .before .before .before .before .before .before .before .before
+    .before .args in
+    let group-last-result = c .before .before .before .before .before .before .before .before .group-last .result in
+    link-inside (a .regions) (a .region) (a .class) group-last-result (c .before .first-unit .ensures) (omega arith)
+    (omega arith) (search needs)
 
 add-extend : tie.Need-add-extend
-add-extend c = omega (arith, perRegion-high (c .before .before .before .before .before .before .before .before .before .before .before .before .before .before .before .before .before .before .args .class))
+add-extend c =
+    let a = c .before .before .before .before .before .before .before .before .before .before .before .before .before
+    .before .before .before .before .before .args in
+    omega (arith, perRegion-high (a .class))
 
 cast-set : tie.Need-cast-set
-cast-set c = let h = top-small (c .before .before .before .before .before .before .before .before .before .before .before .before .before .before .before .before .before .before .before .before .before .before .args .regions) (c .before .before .before .before .before .before .before .before .before .before .before .before .before .before .before .before .before .before .before .before .before .before .args .class) (c .before .before .before .before .before .before .before .before .before .before .before .before .before .before .before .before .before .before .before .before .before .before .args .count - 1) (c .before .before .before .before .before .before .before .before .before .before .before .before .before .read .result) (omega arith) (passed (c .before .before .before .before .before .before .before .before .before .before .before .before .is-top .ensures) (c .before .before .before .before .before .before .before .before .before .before .before .if3 .left)) in omega arith
+cast-set c =
+    let a = c .before .before .before .before .before .before .before .before .before .before .before .before .before
+    .before .before .before .before .before .before .before .before .before .args in
+    let read-result = c .before .before .before .before .before .before .before .before .before .before .before .before
+    .before .read .result in
+    let is-top = c .before .before .before .before .before .before .before .before .before .before .before .before
+    .is-top .ensures in
+    let passed-by = c .before .before .before .before .before .before .before .before .before .before .before .if3
+    .left in
+    let h = top-small (a .regions) (a .class) (a .count - 1) read-result (omega arith) (passed is-top passed-by) in
+    omega arith
 
 returns-4 : tie.Need-returns-4
 returns-4 c =
+    let read = c .before .before .before .before .before .before .before .before .before .before .before .before .before
+    .before .before .before .read .ensures in
+    let index-of = c .before .before .before .before .before .before .before .before .before .before .before .before
+    .before .index-of .ensures in
+    let group-last = c .before .before .before .before .before .before .before .before .before .before .before .before
+    .before .before .before .before .before .before .before .group-last .ensures in
+    let first-unit = c .before .before .before .before .before .before .before .before .before .before .before .before
+    .first-unit .ensures in
+    let is-top = c .before .before .before .before .before .before .before .before .before .before .before .before
+    .before .before .before .is-top .ensures in
+    let passed-by = c .before .before .before .before .before .before .before .before .before .before .before .before
+    .before .before .if3 .left in
+    let write = c .before .before .before .before .before .before .before .before .before .before .write .ensures in
     done-in
-    (more-taken _ _ _ _ _ _ _ _ _ (omega arith) (omega arith) (c .before .before .before .before .before .before .before .before .before .before .before .before .before .before .before .before .read .ensures) (c .before .before .before .before .before .before .before .before .before .before .before .before .before .index-of .ensures) (c .before .before .before .before .before .before .before .before .before .before .before .before .before .before .before .before .before .before .before .group-last .ensures) (c .before .before .before .before .before .before .before .before .before .before .before .before .first-unit .ensures)
-    (passed (c .before .before .before .before .before .before .before .before .before .before .before .before .before .before .before .is-top .ensures) (c .before .before .before .before .before .before .before .before .before .before .before .before .before .before .if3 .left)))
-    refl (rw (c .before .before .before .before .before .before .extend .ensures) at (c .before .before .set .ensures)) (c .before .before .before .before .before .before .before .before .before .before .write .ensures)
+    (more-taken _ _ _ _ _ _ _ _ _ (omega arith) (omega arith) read index-of group-last first-unit
+    (passed is-top passed-by))
+    refl (rw (c .before .before .before .before .before .before .extend .ensures) at (c .before .before .set .ensures))
+    write
 
 pub take-more-spec : {M : Type 1} → statement M
 take-more-spec =
