@@ -40,7 +40,8 @@ factor-at c k {f} h e = subst⁻¹ (λ (n : ℕ). Factor n f) e h
 pub told : (c f u : ℕ) → Factor c f → ltb (u % REGION-UNITS * f % PRODUCTS) FIRSTS ≡ isFirst c u
 unfolding isFirst
 told c f u h =
-    h .tells (u % REGION-UNITS) (omega arith) ∙ (let e : u % REGION-UNITS % REGION-UNITS ≡ u % REGION-UNITS = omega arith in rw e refl)
+    h .tells (u % REGION-UNITS) (omega arith)
+    ∙ (let e : u % REGION-UNITS % REGION-UNITS ≡ u % REGION-UNITS = omega arith in rw e refl)
 
 -- the product of a unit's place and a factor fits in a word
 pub small : (c f u : ℕ) → Factor c f → u % REGION-UNITS * f < REGION-UNITS * PRODUCTS

@@ -29,7 +29,8 @@ every-class f t c = elim (decLt c CLASSES) [
 -- the definitions are the table's rows
 pub rows : (c : ℕ) → (block c ≡ getD blocks c SMALLEST) × (perRegion c ≡ getD counts c MOST-BLOCKS)
 unfolding units perRegion entry
-rows c = (eqb→eq (block c) (getD blocks c SMALLEST) (every-class (λ b n. eqb (UNIT-BYTES * (b / UNIT-BYTES)) b) tt c), refl)
+rows c =
+    (eqb→eq (block c) (getD blocks c SMALLEST) (every-class (λ b n. eqb (UNIT-BYTES * (b / UNIT-BYTES)) b) tt c), refl)
 
 -- a number that is none of the first n, as a match leaves it to its last arm
 abbrev pub Others : ℕ → ℕ → Type 0
@@ -56,7 +57,8 @@ perRegion-at c k h e = h ∙ ap perRegion (sym e)
 pub perRegion-is : (c : ℕ) → perRegion c ≡ REGION-BYTES / block c
 unfolding units perRegion entry
 perRegion-is c =
-    eqb→eq (perRegion c) (REGION-BYTES / block c) (every-class (λ b n. eqb n (REGION-BYTES / (UNIT-BYTES * (b / UNIT-BYTES)))) tt c)
+    eqb→eq (perRegion c) (REGION-BYTES / block c)
+    (every-class (λ b n. eqb n (REGION-BYTES / (UNIT-BYTES * (b / UNIT-BYTES)))) tt c)
 
 -- a block has at least one unit
 pub units-low : (c : ℕ) → 1 ≤ units c

@@ -36,8 +36,8 @@ const PRODUCTS: usize = 4294967296;
 
 const FIRSTS: usize = 65536;
 
-// Whether a unit is the first of a block of the class. Callers have the class of the unit's region, or of the cache: the
-// beginning of a free, and the steps that take a block from a cache or put one on it.
+// Whether a unit is the first of a block of the class. Callers have the class of the unit's region, or of the cache:
+// the beginning of a free, and the steps that take a block from a cache or put one on it.
 pub fn is_first(class: usize, unit: usize) -> bool
     requires { ⌜ class < CLASSES ⌝ }
     ensures { λ r. ⌜ r ≡ isFirst class unit ⌝ }

@@ -1,13 +1,13 @@
-// The table of classes. Each row is a match, which becomes one read from a table; a constant array would be copied to the
-// stack at each read.
+// The table of classes. Each row is a match, which becomes one read from a table; a constant array would be copied to
+// the stack at each read.
 ghost use mathlib.Core.Path.{_≡_};
 ghost use Prim.Native.Nat.{_<_};
 ghost use Rattle.limits.specs.Limits.{CLASSES};
 ghost use Rattle.classes.specs.Classes.{units, perRegion};
 ghost use Rattle.classes.specs.Factors.{Factor};
 
-// The units of a block of the class. Callers have the class of a request, which its step has tested: `first_unit`, `index_of`,
-// and the steps that name a block by its index.
+// The units of a block of the class. Callers have the class of a request, which its step has tested: `first_unit`,
+// `index_of`, and the steps that name a block by its index.
 pub fn units(class: usize) -> usize
     requires { ⌜ class < CLASSES ⌝ }
     ensures { λ r. ⌜ r ≡ units class ⌝ }
@@ -32,8 +32,8 @@ pub fn units(class: usize) -> usize
     }
 }
 
-// How many blocks of the class a region has, n. Callers have the class as those of `units` do: the steps that compare an index,
-// or the count of a cache, a group or an anchor, with n.
+// How many blocks of the class a region has, n. Callers have the class as those of `units` do: the steps that compare
+// an index, or the count of a cache, a group or an anchor, with n.
 pub fn per_region(class: usize) -> usize
     requires { ⌜ class < CLASSES ⌝ }
     ensures { λ r. ⌜ r ≡ perRegion class ⌝ }

@@ -4,7 +4,8 @@ use Prim.Native.Nat.{_+_, _*_}
 use native.Mathlib.Omega.{arith}
 use Rattle.control.specs.Answers.{codeOf, valueOf, numberOf}
 use Rattle.control.specs.declared.answer.Answer.{Answer}
-use Rattle.control.specs.declared.answer.Answer.the-variants.{Accepted, Allocated, Freed, NoDescriptor, NoRegion, Refused}
+use Rattle.control.specs.declared.answer.Answer.the-variants.{Accepted, Allocated, Freed, Refused}
+use Rattle.control.specs.declared.answer.Answer.the-variants.{NoDescriptor, NoRegion}
 
 pub number-is : (a : Answer) → numberOf a ≡ codeOf a + 256 * valueOf a
 number-is Accepted = refl

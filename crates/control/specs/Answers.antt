@@ -1,9 +1,11 @@
 -- The paper's number and value for each answer.
 use Prim.Native.Nat.{ℕ, _+_, _*_}
 use Rattle.control.specs.declared.answer.Answer.{Answer}
-use Rattle.control.specs.declared.answer.Answer.the-variants.{Accepted, Allocated, Freed, NoDescriptor, NoRegion, Refused}
+use Rattle.control.specs.declared.answer.Answer.the-variants.{Accepted, Allocated, Freed, Refused}
+use Rattle.control.specs.declared.answer.Answer.the-variants.{NoDescriptor, NoRegion}
 
--- "Code 0 is accepted or still under way, 20 finished"; "12 no descriptor; 13 no region"; "A refused call answers the number"
+-- "Code 0 is accepted or still under way, 20 finished"; "12 no descriptor; 13 no region"; "A refused call answers the
+-- number"
 abbrev pub codeOf : Answer → ℕ
 codeOf Accepted = 0
 codeOf (Allocated u) = 20

@@ -1,5 +1,5 @@
--- The places of the step list, by number: `TaskPlace` of a task holds one of them. A move of a list has three in a row: its head
--- read, its next and its exchange. docs/LAYOUT.md has the same table in words.
+-- The places of the step list, by number: `TaskPlace` of a task holds one of them. A move of a list has three in a row:
+-- its head read, its next and its exchange. docs/LAYOUT.md has the same table in words.
 use Prim.Native.Nat.{ℕ}
 
 abbrev pub IDLE : ℕ

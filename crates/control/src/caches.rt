@@ -1,5 +1,5 @@
-// The caches: of each task and class the top block and how many there are. The callers are the steps that take a block from a
-// cache or put one on it.
+// The caches: of each task and class the top block and how many there are. The callers are the steps that take a block
+// from a cache or put one on it.
 use crate::layout;
 ghost use mathlib.Core.Path.{_≡_};
 ghost use mathlib.Core.List.{[], _∷_};
@@ -27,8 +27,8 @@ pub fn set_cache_top(c: &mut [u8], task: usize, class: usize, value: u16)
     );
 }
 
-// The top block of the cache at an index: 16 caches of each task, one after the other. The caller is a start, which stores them
-// in a row.
+// The top block of the cache at an index: 16 caches of each task, one after the other. The caller is a start, which
+// stores them in a row.
 pub fn set_top(c: &mut [u8], index: usize, value: u16)
     requires { ⌜ Control (now c) × (index < CACHES) ⌝ }
     ensures { λ r. ⌜ now (c .exit) ≡ changed (Top index := value ∷ []) (now (c .entry)) ⌝ }

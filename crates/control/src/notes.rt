@@ -1,4 +1,5 @@
-// What a task noted and what it has under way, in words and numbers of two bytes. The callers are the steps of its request.
+// What a task noted and what it has under way, in words and numbers of two bytes. The callers are the steps of its
+// request.
 use crate::layout;
 ghost use mathlib.Core.Path.{_≡_};
 ghost use mathlib.Core.List.{[], _∷_};

@@ -1,5 +1,5 @@
-// The places of the step list, by number: those of specs/Places.antt. A move of a list has three in a row: its head read, its
-// next and its exchange.
+// The places of the step list, by number: those of specs/Places.antt. A move of a list has three in a row: its head
+// read, its next and its exchange.
 pub const IDLE: u8 = 0;
 
 // Allocate 1: the cache.
@@ -27,7 +27,8 @@ pub const A3_READ: u8 = 23;
 
 pub const A3_EXCHANGE: u8 = 24;
 
-// Allocate 4, 7 and 8: a block of the taken chain goes to the cache; descriptor, map and anchor of the new region; a block is carved.
+// Allocate 4, 7 and 8: a block of the taken chain goes to the cache; descriptor, map and anchor of the new region; a
+// block is carved.
 pub const A4: u8 = 25;
 
 pub const A7: u8 = 26;

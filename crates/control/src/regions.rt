@@ -1,5 +1,5 @@
-// Descriptors, regions and marks. A load and a store for each field; the callers are the steps that read or exchange an anchor,
-// open a region or clear its entry, and the calls that set or clear a mark.
+// Descriptors, regions and marks. A load and a store for each field; the callers are the steps that read or exchange an
+// anchor, open a region or clear its entry, and the calls that set or clear a mark.
 use crate::layout;
 ghost use mathlib.Core.Path.{_≡_};
 ghost use mathlib.Core.List.{[], _∷_};

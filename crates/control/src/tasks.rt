@@ -1,4 +1,5 @@
-// Where a task is in the step list, and what it has in hand. The callers are the tests of each call and the steps of a request.
+// Where a task is in the step list, and what it has in hand. The callers are the tests of each call and the steps of a
+// request.
 use crate::layout;
 ghost use mathlib.Core.Path.{_≡_};
 ghost use mathlib.Core.List.{[], _∷_};

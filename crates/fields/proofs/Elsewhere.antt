@@ -36,8 +36,10 @@ getLE-agree s t at (suc w) h =
 -- a write leaves a number that it does not overlap; `omega arith` proves the premise, whichever is first
 pub getLE-other : (s : List ℕ) (at w v to n : ℕ) → (to < at + w → to + n ≤ at)
     → getLE (setLE s at w v) to n ≡ getLE s to n
-getLE-other s at w v to n h = getLE-agree (setLE s at w v) s to n (λ i l k. getD-other s at w v i (λ m. omega (arith, h (omega arith))))
+getLE-other s at w v to n h =
+    getLE-agree (setLE s at w v) s to n (λ i l k. getD-other s at w v i (λ m. omega (arith, h (omega arith))))
 
 -- one byte that is changed leaves a number that it is not part of
 pub getLE-set-other : (s : List ℕ) (p x to n : ℕ) → (to ≤ p → to + n ≤ p) → getLE (set s p x) to n ≡ getLE s to n
-getLE-set-other s p x to n h = getLE-agree (set s p x) s to n (λ i l k. getD-set-other s p i x 0 (λ e. omega (arith, h (omega arith))))
+getLE-set-other s p x to n h =
+    getLE-agree (set s p x) s to n (λ i l k. getD-set-other s p i x 0 (λ e. omega (arith, h (omega arith))))

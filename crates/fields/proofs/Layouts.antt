@@ -63,7 +63,8 @@ module _ (size : ℕ) where
   later (k ∷ ks) from s t o l hs ht =
       let r = rest k ks from o in
       elim (ℕ-discrete (k .start) s) [
-        | yes e ↦ rw (eq-eqb _ _ e) (omega (arith, starts ks (pastOf k) t r (rw (ne-eqb (k .start) t (omega arith)) at ht)))
+        | yes e ↦ rw (eq-eqb _ _ e)
+            (omega (arith, starts ks (pastOf k) t r (rw (ne-eqb (k .start) t (omega arith)) at ht)))
         | no n ↦ elim (ℕ-discrete (k .start) t) [
           | yes i ↦ absurd (omega (arith, starts ks (pastOf k) s r (rw (ne-eqb _ _ n) at hs)))
           | no m ↦ rw (ne-eqb _ _ n) (later ks (pastOf k) s t r l (rw (ne-eqb _ _ n) at hs) (rw (ne-eqb _ _ m) at ht))
@@ -120,22 +121,27 @@ module _ (size : ℕ) (table : List Column) (o : inOrder size 0 table ≡ true) 
           omega (arith, within g hg, later size table 0 (g .column) (f .column) o (omega arith) (some g hg) (some f hf))
 
   -- a write leaves every other field
-  pub view-other : (b : List ℕ) (f g : Field) (x : ℕ) → Has table f → Has table g → (f .column ≡ g .column → f .index ≡ g .index → ⊥)
+  pub view-other : (b : List ℕ) (f g : Field) (x : ℕ) → Has table f → Has table g
+      → (f .column ≡ g .column → f .index ≡ g .index → ⊥)
       → view table (write table (f := x) b) g ≡ view table b g
-  view-other b f g x hf hg n = getLE-other b (at table f) (width table f) x (at table g) (width table g) (apart f g hf hg n)
+  view-other b f g x hf hg n =
+      getLE-other b (at table f) (width table f) x (at table g) (width table g) (apart f g hf hg n)
 
   -- a field holds what was written to it
-  pub view-same : (b : List ℕ) (f : Field) (x : ℕ) → length b ≡ size → Has table f → x < 256 ^ width table f → view table (write table (f := x) b) f ≡ x
+  pub view-same : (b : List ℕ) (f : Field) (x : ℕ) → length b ≡ size → Has table f → x < 256 ^ width table f
+      → view table (write table (f := x) b) f ≡ x
   view-same b f x e hf k =
       getLE-same b (at table f) (width table f) x
       (omega (arith, within f hf, ends size table 0 (f .column) o (some f hf))) k
 
   -- the view of a write is the view with the field assigned
-  pub view-write : (b : List ℕ) (f g : Field) (x : ℕ) → length b ≡ size → Has table f → Has table g → x < 256 ^ width table f
+  pub view-write : (b : List ℕ) (f g : Field) (x : ℕ) → length b ≡ size → Has table f → Has table g
+      → x < 256 ^ width table f
       → view table (write table (f := x) b) g ≡ assign (f := x) (view table b) g
   view-write b f g x e hf hg k = by (ℕ-discrete (f .column) (g .column)) (ℕ-discrete (f .index) (g .index))
     where
-      by : Dec (f .column ≡ g .column) → Dec (f .index ≡ g .index) → view table (write table (f := x) b) g ≡ assign (f := x) (view table b) g
+      by : Dec (f .column ≡ g .column) → Dec (f .index ≡ g .index)
+          → view table (write table (f := x) b) g ≡ assign (f := x) (view table b) g
       by (yes p) (yes q) =
           let same : f ≡ g = λ i. record { column = p i; index = q i } in
           rw (eq-eqb _ _ p, eq-eqb _ _ q, ← same) (view-same b f x e hf k)
@@ -153,12 +159,14 @@ module _ (size : ℕ) (table : List Column) (o : inOrder size 0 table ≡ true) 
   view-written [] b g e s hg = refl
   view-written ((f := x) ∷ ws) b g e s hg =
       view-written ws (write table (f := x) b) g (length-setLE b (at table f) (width table f) x ∙ e) (s .1) hg
-      ∙ assigned-at ws (view table (write table (f := x) b)) (assign (f := x) (view table b)) g (view-write b f g x e (s .0 .0) hg (s .0 .1))
+      ∙ assigned-at ws (view table (write table (f := x) b)) (assign (f := x) (view table b)) g
+      (view-write b f g x e (s .0 .0) hg (s .0 .1))
 
 -- writes keep the memory's length
 pub length-written : (table : List Column) (ws : List Write) (b : List ℕ) → length (written table ws b) ≡ length b
 length-written table [] b = refl
-length-written table ((f := x) ∷ ws) b = length-written table ws (write table (f := x) b) ∙ length-setLE b (at table f) (width table f) x
+length-written table ((f := x) ∷ ws) b =
+    length-written table ws (write table (f := x) b) ∙ length-setLE b (at table f) (width table f) x
 
 -- writes leave a memory of bytes
 pub bytes-written : (table : List Column) (ws : List Write) (b : List ℕ) → Bytes b → Bytes (written table ws b)

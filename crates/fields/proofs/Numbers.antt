@@ -2,7 +2,8 @@
 use mathlib.Core.Path.{_≡_, refl, _∙_}
 use mathlib.Core.List.{List}
 use Prim.Native.Nat.{ℕ, zero, suc, _+_, _*_, _/_, _%_, _^_, _≤_, _<_}
-use native.Mathlib.Nat.{zero-add, suc-add, add-zero, add-suc, one-mul, div-one, mul-assoc, pow-succ', pow-suc, div-div-eq-div-mul, div-lt-iff-lt-mul}
+use native.Mathlib.Nat.{zero-add, suc-add, add-zero, add-suc, one-mul, div-one, mul-assoc, pow-succ', pow-suc}
+use native.Mathlib.Nat.{div-div-eq-div-mul, div-lt-iff-lt-mul}
 use native.Mathlib.Decide.{ℕ-discrete, decLt}
 use native.Mathlib.Omega.{arith}
 use lib.ListN.{length, getD, set, length-set}
@@ -37,7 +38,8 @@ pub setLE-join : (s : List ℕ) (at a b v : ℕ)
 unfolding setLE
 setLE-join s at zero b v = simp (zero-add, add-zero, div-one)
 setLE-join s at (suc a) b v =
-    rw (suc-add, add-suc, low-byte, high-bytes, div-more) (rw suc-add at (setLE-join (set s at (v % 256)) (suc at) a b (v / 256)))
+    rw (suc-add, add-suc, low-byte, high-bytes, div-more)
+    (rw suc-add at (setLE-join (set s at (v % 256)) (suc at) a b (v / 256)))
 
 -- a write keeps the length
 pub length-setLE : (s : List ℕ) (at w v : ℕ) → length (setLE s at w v) ≡ length s
@@ -61,7 +63,8 @@ getLE-same s at (suc w) v h k =
     rw (
       getD-before (set s at (v % 256)) (suc at) w (v / 256) at (omega arith),
       getD-set-same s at (v % 256) 0 (omega arith),
-      getLE-same (set s at (v % 256)) (suc at) w (v / 256) (rw length-set (omega arith)) (div-lt-iff-lt-mul (omega arith) .1 (rw pow-suc at k)),
+      getLE-same (set s at (v % 256)) (suc at) w (v / 256) (rw length-set (omega arith))
+          (div-lt-iff-lt-mul (omega arith) .1 (rw pow-suc at k)),
     )
     (omega arith)
 
@@ -80,7 +83,8 @@ bytes-set s at v h k i = go (ℕ-discrete i at)
 pub bytes-setLE : (s : List ℕ) (at w v : ℕ) → Bytes s → Bytes (setLE s at w v)
 unfolding setLE
 bytes-setLE s at zero v h = h
-bytes-setLE s at (suc w) v h = bytes-setLE (set s at (v % 256)) (suc at) w (v / 256) (bytes-set s at (v % 256) h (omega arith))
+bytes-setLE s at (suc w) v h =
+    bytes-setLE (set s at (v % 256)) (suc at) w (v / 256) (bytes-set s at (v % 256) h (omega arith))
 
 -- a number that is read from bytes fits its width
 pub getLE-lt : (s : List ℕ) (at w : ℕ) → Bytes s → getLE s at w < 256 ^ w

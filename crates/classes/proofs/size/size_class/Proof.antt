@@ -19,4 +19,5 @@ returns-3 c =
     ap Class (c .class-of .ensures ∙ rounded size (omega arith)) ∙ sym (serves size (omega arith) (omega arith))
 
 pub size-class-spec : {M : Type 1} → statement M
-size-class-spec = tie.close (tie.spec returns returns-2 (λ c. search needs) (λ c. search needs) (λ c κs. search needs) returns-3)
+size-class-spec =
+    tie.close (tie.spec returns returns-2 (λ c. search needs) (λ c. search needs) (λ c κs. search needs) returns-3)

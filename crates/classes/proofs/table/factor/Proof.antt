@@ -28,4 +28,5 @@ factor-spec =
     (λ c. factor-at (c .before .args .class) 12 (is-factor 12 _ tt tt) (omega arith))
     (λ c. factor-at (c .before .args .class) 13 (is-factor 13 _ tt tt) (omega arith))
     (λ c. factor-at (c .before .args .class) 14 (is-factor 14 _ tt tt) (omega arith))
-    (λ c. factor-at (c .before .args .class) 15 (is-factor 15 _ tt tt) (last 15 (c .before .args .class) (search needs) (c .match .rest))))
+    (λ c. factor-at (c .before .args .class) 15 (is-factor 15 _ tt tt)
+    (last 15 (c .before .args .class) (search needs) (c .match .rest))))
