@@ -120,8 +120,8 @@ module _ (v : View) (link : ℕ → ℕ) (regions t c : ℕ) where
       pub a3ExchangeOf-won : {r f i k : ℕ} → r ≡ v (DescriptorRegion d) → f ≡ fullWord c → i ≡ anchorOf word .avail
           → k ≡ anchorOf word .count → v (Anchor d) ≡ word → r < regions
           → a3ExchangeOf v link regions t c d word
-          ≡ accept (took d) (TaskPlace t := A4 ∷ Anchor d := f ∷ TaskRegion t := r ∷ TaskIndex t := i ∷ TaskLeft t := k
-          ∷ []) []
+          ≡ accept (took d)
+          (TaskPlace t := A4 ∷ Anchor d := f ∷ TaskRegion t := r ∷ TaskIndex t := i ∷ TaskLeft t := k ∷ []) []
       unfolding a3ExchangeOf
       a3ExchangeOf-won e f i k w h = rw (a, eq-eqb _ _ w, ← e, lt-ltb _ _ h, f, i, k)
 

@@ -1,10 +1,11 @@
--- The ways out of step 3. Assumes nothing.
+-- The ways out of step 3.
 use mathlib.Core.Path.{_≡_, subst⁻¹}
 use mathlib.Core.Bool.{Bool, true, false, not}
 use mathlib.Core.List.{List, [], _∷_}
 use Prim.Native.Nat.{ℕ, _+_, _-_, _≤_, _<_}
 use native.Mathlib.Omega.{arith}
 use borrow.Author.Tests.{lt-ltb, le-ltb, lt-leb, le-leb, eq-eqb, ne-eqb}
+use Rattle.limits.specs.Limits.{DESCRIPTORS}
 use Rattle.fields.specs.Columns.{View, Write, _:=_}
 use Rattle.links.specs.Link.{_⇒_}
 use Rattle.words.specs.declared.anchor.Anchor as Word
@@ -14,7 +15,9 @@ use Rattle.classes.specs.Classes.{perRegion}
 use Rattle.classes.specs.Places.{unitOf}
 use Rattle.classes.proofs.Tables.{perRegion-high}
 use Rattle.plain.specs.Moves.{nothing, gave, anchor-lost}
-use Rattle.control.specs.Layout.{Anchor, TaskAnchor, GroupFirst, GroupLast, GroupCount, TaskPlace, TaskDescriptor, TaskRegion, TaskState, Map}
+use Rattle.control.specs.Layout.{Anchor, TaskAnchor, GroupFirst, GroupLast, GroupCount, TaskPlace, TaskDescriptor}
+use Rattle.control.specs.Layout.{TaskRegion, TaskState, Map}
+use Rattle.control.specs.Places.{PUSH-OFFER, F1, F2, F3-READ, F3-LINK, F3-EXCHANGE, F4-CLEAR}
 use Rattle.stepped.specs.Outcome.{bad, accept}
 use Rattle.stepped.specs.Ranges.{isAnchor, hasFirst, hasRoom}
 use Rattle.stepped.specs.Lists.{f5}
@@ -54,11 +57,12 @@ module _ (v : View) (link : ℕ → ℕ) (regions t c : ℕ) where
     unfolding f3ReadBy
     entry-none h = rw (lt-leb _ _ h)
 
-    pub entry-large : 1 ≤ entry → 64 < entry → f3ReadBy v link regions t c entry g ≡ bad
+    pub entry-large : 1 ≤ entry → DESCRIPTORS < entry → f3ReadBy v link regions t c entry g ≡ bad
     unfolding f3ReadBy
     entry-large h l = rw (le-leb _ _ h, lt-leb _ _ l)
 
-    pub entry-names : 1 ≤ entry → entry ≤ 64 → f3ReadBy v link regions t c entry g ≡ f3ReadOf v link regions t c (entry - 1) g
+    pub entry-names : 1 ≤ entry → entry ≤ DESCRIPTORS
+        → f3ReadBy v link regions t c entry g ≡ f3ReadOf v link regions t c (entry - 1) g
     unfolding f3ReadBy
     entry-names h l = rw (le-leb _ _ h, le-leb _ _ l)
 
@@ -75,9 +79,10 @@ module _ (v : View) (link : ℕ → ℕ) (regions t c : ℕ) where
     read-no-room h l = rw (h, l)
 
     -- w is the word that is read
-    pub read-noted : {w : ℕ} → w ≡ v (Anchor d) → isAnchor (v (Anchor d)) ≡ true → hasRoom (perRegion c) g (v (Anchor d)) ≡ true
+    pub read-noted : {w : ℕ} → w ≡ v (Anchor d) → isAnchor (v (Anchor d)) ≡ true
+        → hasRoom (perRegion c) g (v (Anchor d)) ≡ true
         → f3ReadOf v link regions t c d g
-        ≡ accept nothing (TaskPlace t := 31 ∷ TaskDescriptor t := d ∷ TaskAnchor t := w ∷ []) []
+        ≡ accept nothing (TaskPlace t := F3-LINK ∷ TaskDescriptor t := d ∷ TaskAnchor t := w ∷ []) []
     unfolding f3ReadOf
     read-noted p h l = rw (p, h, l)
 
@@ -102,19 +107,20 @@ module _ (v : View) (link : ℕ → ℕ) (regions t c : ℕ) where
     link-no-first a b = rw (lt-ltb _ _ h, lt-ltb _ _ l, a, b)
 
     -- r, i and w are what is read, u and x what the code computes from them
-    pub link-written : {r i w u x : ℕ} → r ≡ v (TaskRegion t) → i ≡ v (GroupLast t) → w ≡ v (TaskAnchor t) → u ≡ unitOf r c i
+    pub link-written : {r i w u x : ℕ} → r ≡ v (TaskRegion t) → i ≡ v (GroupLast t) → w ≡ v (TaskAnchor t)
+        → u ≡ unitOf r c i
         → x ≡ anchorOf w .avail → isAnchor (v (TaskAnchor t)) ≡ true → hasFirst (perRegion c) (v (TaskAnchor t)) ≡ true
-        → f3Link v link regions t c ≡ accept nothing (TaskPlace t := 32 ∷ []) (u ⇒ x ∷ [])
+        → f3Link v link regions t c ≡ accept nothing (TaskPlace t := F3-EXCHANGE ∷ []) (u ⇒ x ∷ [])
     unfolding f3Link
     link-written p q s d e a b = rw (d, e, p, q, s, lt-ltb _ _ h, lt-ltb _ _ l, a, b)
 
   -- ---- f3Exchange
 
-  pub exchange-no-descriptor : 64 ≤ v (TaskDescriptor t) → f3Exchange v link regions t c ≡ bad
+  pub exchange-no-descriptor : DESCRIPTORS ≤ v (TaskDescriptor t) → f3Exchange v link regions t c ≡ bad
   unfolding f3Exchange
   exchange-no-descriptor h = rw (le-ltb _ _ h)
 
-  module _ (h : v (TaskDescriptor t) < 64) where
+  module _ (h : v (TaskDescriptor t) < DESCRIPTORS) where
     pub exchange-no-first : perRegion c ≤ v (GroupFirst t) → f3Exchange v link regions t c ≡ bad
     unfolding f3Exchange
     exchange-no-first l = rw (lt-ltb _ _ h, le-ltb _ _ l)
@@ -156,7 +162,7 @@ module _ (v : View) (link : ℕ → ℕ) (regions t c : ℕ) where
     anchor-bad h = rw h
 
     pub anchor-changed : isAnchor (v (Anchor d)) ≡ true → (v (Anchor d) ≡ word → ⊥)
-        → f3ExchangeOf v link regions t c d word first g ≡ accept (anchor-lost d) (TaskPlace t := 30 ∷ []) []
+        → f3ExchangeOf v link regions t c d word first g ≡ accept (anchor-lost d) (TaskPlace t := F3-READ ∷ []) []
     unfolding f3ExchangeOf
     anchor-changed h e = rw (h, ne-eqb _ _ e)
 
@@ -166,14 +172,16 @@ module _ (v : View) (link : ℕ → ℕ) (regions t c : ℕ) where
     anchor-noted h e = rw (h, eq-eqb _ _ e)
 
     -- x and s are the word and the state that the code stores
-    pub won-empty : {n x s : ℕ} → n ≡ perRegion c → x ≡ anchorWord (returned (anchorOf word) first g n) → s ≡ anchorOf word .state
+    pub won-empty : {n x s : ℕ} → n ≡ perRegion c → x ≡ anchorWord (returned (anchorOf word) first g n)
+        → s ≡ anchorOf word .state
         → anchorOf word .count + g ≡ perRegion c
         → f3Won v link regions t c d word first g
-        ≡ accept (gave d) (TaskPlace t := 33 ∷ Anchor d := x ∷ TaskState t := s ∷ []) []
+        ≡ accept (gave d) (TaskPlace t := F4-CLEAR ∷ Anchor d := x ∷ TaskState t := s ∷ []) []
     unfolding f3Won
     won-empty m p q h = rw (p, q, m, eq-eqb _ _ h)
 
-    pub won-partial : {n x s : ℕ} → n ≡ perRegion c → x ≡ anchorWord (returned (anchorOf word) first g n) → s ≡ anchorOf word .state
+    pub won-partial : {n x s : ℕ} → n ≡ perRegion c → x ≡ anchorWord (returned (anchorOf word) first g n)
+        → s ≡ anchorOf word .state
         → (anchorOf word .count + g ≡ perRegion c → ⊥)
         → f3Won v link regions t c d word first g ≡ f5 v regions t c s (gave d) (Anchor d := x ∷ TaskState t := s ∷ [])
     unfolding f3Won
@@ -182,14 +190,16 @@ module _ (v : View) (link : ℕ → ℕ) (regions t c : ℕ) where
   -- ---- f5, after the writes ws of a returned group of the descriptor d
 
   module _ (was d : ℕ) (ws : List Write) where
-    pub goes-one : One ≡ fifth v t c was → f5 v regions t c was (gave d) ws ≡ accept (gave d) (TaskPlace t := 28 ∷ ws) []
+    pub goes-one : One ≡ fifth v t c was
+        → f5 v regions t c was (gave d) ws ≡ accept (gave d) (TaskPlace t := F1 ∷ ws) []
     goes-one h = f5-at v regions t c (gave d) ws was One h
 
     pub goes-two : Two ≡ fifth v t c was
-        → f5 v regions t c was (gave d) ws ≡ accept (gave d) (TaskPlace t := 29 ∷ GroupCount t := 0 ∷ ws) []
+        → f5 v regions t c was (gave d) ws ≡ accept (gave d) (TaskPlace t := F2 ∷ GroupCount t := 0 ∷ ws) []
     goes-two h = f5-at v regions t c (gave d) ws was Two h
 
-    pub goes-offer : Offer ≡ fifth v t c was → f5 v regions t c was (gave d) ws ≡ accept (gave d) (TaskPlace t := 20 ∷ ws) []
+    pub goes-offer : Offer ≡ fifth v t c was
+        → f5 v regions t c was (gave d) ws ≡ accept (gave d) (TaskPlace t := PUSH-OFFER ∷ ws) []
     goes-offer h = f5-at v regions t c (gave d) ws was Offer h
 
     pub goes-bad : Bad ≡ fifth v t c was → f5 v regions t c was (gave d) ws ≡ bad
@@ -210,8 +220,10 @@ has-room g w c e h = record { count = room-passed (perRegion c) g w (rw e at h);
 
 -- ---- the test for room, by numbers n, g and w that are those of the fields; its answer b is tested as `!b`
 
-pub no-room : {n m g k w x : ℕ} {b : Bool} → n ≡ m → g ≡ k → w ≡ x → b ≡ hasRoom n g w → not b ≡ true → hasRoom m k x ≡ false
+pub no-room : {n m g k w x : ℕ} {b : Bool} → n ≡ m → g ≡ k → w ≡ x → b ≡ hasRoom n g w → not b ≡ true
+    → hasRoom m k x ≡ false
 no-room e f h d t = rw (← e, ← f, ← h) (failed d t)
 
-pub room : {n m g k w x : ℕ} {b : Bool} → n ≡ m → g ≡ k → w ≡ x → b ≡ hasRoom n g w → not b ≡ false → hasRoom m k x ≡ true
+pub room : {n m g k w x : ℕ} {b : Bool} → n ≡ m → g ≡ k → w ≡ x → b ≡ hasRoom n g w → not b ≡ false
+    → hasRoom m k x ≡ true
 room e f h d t = rw (← e, ← f, ← h) (passed d t)

@@ -1,7 +1,9 @@
 // Step 3: the anchor is read, and the link of the group's last block is written.
 use crate::parts;
 use control::answer::Answer;
+use control::places;
 ghost use Prim.Native.Nat.{ℕ, _<_};
+ghost use Rattle.limits.specs.Limits.{DESCRIPTORS};
 ghost use Rattle.links.specs.Link.{link};
 ghost use Rattle.control.specs.Layout.{seen};
 ghost use Rattle.stepped.specs.Done.{Given, Lent, Done, DoneIn};
@@ -16,8 +18,10 @@ fn read_of(
     descriptor: u8,
     group: u16,
 ) -> Answer
-    requires { ⌜ Given (now control) regions task class × (descriptor < 64) ⌝ }
-    ensures { λ r. ⌜ ((link : ℕ → ℕ) → Done (f3ReadOf (seen (now (control .entry))) link regions task class descriptor group) (now (control .entry)) (now (control .exit)) r) ⌝ }
+    requires { ⌜ Given (now control) regions task class × (descriptor < DESCRIPTORS) ⌝ }
+    ensures { λ r. ⌜ ((link : ℕ → ℕ)
+        → Done (f3ReadOf (seen (now (control .entry))) link regions task class descriptor group)
+        (now (control .entry)) (now (control .exit)) r) ⌝ }
 {
     let word = control::regions::anchor(control, descriptor as usize);
     if !ranges::is_anchor(word) {
@@ -26,7 +30,7 @@ fn read_of(
     if !ranges::has_room(classes::table::per_region(class), group as usize, word) {
         return Answer::Refused(14);
     }
-    control::tasks::set_task_place(control, task, 31);
+    control::tasks::set_task_place(control, task, places::F3_LINK);
     control::tasks::set_task_descriptor(control, task, descriptor);
     control::notes::set_task_anchor(control, task, word);
     Answer::Accepted
@@ -42,12 +46,13 @@ fn read_by(
     group: u16,
 ) -> Answer
     requires { ⌜ Given (now control) regions task class ⌝ }
-    ensures { λ r. ⌜ ((link : ℕ → ℕ) → Done (f3ReadBy (seen (now (control .entry))) link regions task class entry group) (now (control .entry)) (now (control .exit)) r) ⌝ }
+    ensures { λ r. ⌜ ((link : ℕ → ℕ) → Done (f3ReadBy (seen (now (control .entry))) link regions task class entry group)
+        (now (control .entry)) (now (control .exit)) r) ⌝ }
 {
     if entry < 1 {
         return Answer::Refused(14);
     }
-    if 64 < entry {
+    if limits::DESCRIPTORS < (entry as usize) {
         return Answer::Refused(14);
     }
     read_of(control, regions, task, class, entry - 1, group)
@@ -56,7 +61,8 @@ fn read_by(
 // Step 3, the read of the anchor, through the map entry of the group's region.
 pub fn read(control: &mut [u8], regions: usize, task: usize, class: usize) -> Answer
     requires { ⌜ Given (now control) regions task class ⌝ }
-    ensures { λ r. ⌜ ((link : ℕ → ℕ) → Done (f3Read (seen (now (control .entry))) link regions task class) (now (control .entry)) (now (control .exit)) r) ⌝ }
+    ensures { λ r. ⌜ ((link : ℕ → ℕ) → Done (f3Read (seen (now (control .entry))) link regions task class)
+        (now (control .entry)) (now (control .exit)) r) ⌝ }
 {
     let region = control::tasks::task_region(control, task) as usize;
     if regions <= region {
@@ -82,7 +88,8 @@ pub fn write_last(
     class: usize,
 ) -> Answer
     requires { ⌜ Lent (now control) (now area) regions task class ⌝ }
-    ensures { λ r. ⌜ DoneIn (f3Link (seen (now (control .entry))) (link (now (area .entry))) regions task class) (now (control .entry)) (now (area .entry)) (now (control .exit)) (now (area .exit)) r ⌝ }
+    ensures { λ r. ⌜ DoneIn (f3Link (seen (now (control .entry))) (link (now (area .entry))) regions task class)
+        (now (control .entry)) (now (area .entry)) (now (control .exit)) (now (area .exit)) r ⌝ }
 {
     let n = classes::table::per_region(class);
     let region = control::tasks::task_region(control, task) as usize;
@@ -102,6 +109,6 @@ pub fn write_last(
     }
     let unit = classes::place::first_unit(region, class, last);
     links::write(area, unit, parts::avail_of(word));
-    control::tasks::set_task_place(control, task, 32);
+    control::tasks::set_task_place(control, task, places::F3_EXCHANGE);
     Answer::Accepted
 }

@@ -1,12 +1,14 @@
 // Step 3: the group is returned to its region's chain, by an exchange of the anchor of the region's descriptor.
 use crate::parts;
 use control::answer::Answer;
+use control::places;
 use steps_group::group;
 use steps_lists::follow;
 use steps_lists::follow::Follow;
 ghost use mathlib.Core.Path.{_≡_};
 ghost use mathlib.Core.List.{[], _∷_};
 ghost use Prim.Native.Nat.{ℕ, _<_};
+ghost use Rattle.limits.specs.Limits.{TASKS, DESCRIPTORS};
 ghost use Rattle.fields.specs.Columns.{_:=_};
 ghost use Rattle.words.specs.Anchor.{anchorOf, Room};
 ghost use Rattle.classes.specs.Classes.{perRegion};
@@ -18,8 +20,9 @@ ghost use Rattle.stepped.specs.Free.{f3ExchangeOf, f3Won, f3Exchange};
 
 // What every won exchange stores: the anchor, and the state in which it was found. Callers: `won` and `go_on`.
 fn store(control: &mut [u8], task: usize, descriptor: usize, anchor: u64, state: u8)
-    requires { ⌜ Control (now control) × (task < 8) × (descriptor < 64) ⌝ }
-    ensures { λ r. ⌜ now (control .exit) ≡ changed (Anchor descriptor := anchor ∷ TaskState task := state ∷ []) (now (control .entry)) ⌝ }
+    requires { ⌜ Control (now control) × (task < TASKS) × (descriptor < DESCRIPTORS) ⌝ }
+    ensures { λ r. ⌜ now (control .exit) ≡ changed (Anchor descriptor := anchor ∷ TaskState task := state ∷ [])
+        (now (control .entry)) ⌝ }
 {
     control::regions::set_anchor(control, descriptor, anchor);
     control::tasks::set_task_state(control, task, state);
@@ -35,13 +38,15 @@ fn go_on(
     anchor: u64,
     state: u8,
 ) -> Answer
-    requires { ⌜ Given (now control) regions task class × (descriptor < 64) ⌝ }
-    ensures { λ r. ⌜ Done (f5 (seen (now (control .entry))) regions task class state (gave descriptor) (Anchor descriptor := anchor ∷ TaskState task := state ∷ [])) (now (control .entry)) (now (control .exit)) r ⌝ }
+    requires { ⌜ Given (now control) regions task class × (descriptor < DESCRIPTORS) ⌝ }
+    ensures { λ r. ⌜ Done (f5 (seen (now (control .entry))) regions task class state (gave descriptor)
+        (Anchor descriptor := anchor ∷ TaskState task := state ∷ []))
+        (now (control .entry)) (now (control .exit)) r ⌝ }
 {
     let next = follow::five(control, task, class, state as u32);
     match next {
         Follow::One => {
-            control::tasks::set_task_place(control, task, 28);
+            control::tasks::set_task_place(control, task, places::F1);
             store(control, task, descriptor, anchor, state);
             Answer::Accepted
         }
@@ -51,7 +56,7 @@ fn go_on(
             Answer::Accepted
         }
         Follow::Offer => {
-            control::tasks::set_task_place(control, task, 20);
+            control::tasks::set_task_place(control, task, places::PUSH_OFFER);
             store(control, task, descriptor, anchor, state);
             Answer::Accepted
         }
@@ -59,8 +64,8 @@ fn go_on(
     }
 }
 
-// The won exchange: step 4 if the region is now EMPTY, else by the state before. Caller: `exchange_of`, for an exchange whose
-// noted anchor has been found to have room for the group.
+// The won exchange: step 4 if the region is now EMPTY, else by the state before. Caller: `exchange_of`, for an exchange
+// whose noted anchor has been found to have room for the group.
 fn won(
     control: &mut [u8],
     regions: usize,
@@ -71,22 +76,25 @@ fn won(
     first: u16,
     group: u16,
 ) -> Answer
-    requires { ⌜ Given (now control) regions task class × (descriptor < 64) × Room (anchorOf word) group (perRegion class) ⌝ }
-    ensures { λ r. ⌜ ((link : ℕ → ℕ) → Done (f3Won (seen (now (control .entry))) link regions task class descriptor word first group) (now (control .entry)) (now (control .exit)) r) ⌝ }
+    requires { ⌜ Given (now control) regions task class × (descriptor < DESCRIPTORS)
+        × Room (anchorOf word) group (perRegion class) ⌝ }
+    ensures { λ r. ⌜ ((link : ℕ → ℕ)
+        → Done (f3Won (seen (now (control .entry))) link regions task class descriptor word first group)
+        (now (control .entry)) (now (control .exit)) r) ⌝ }
 {
     let n = classes::table::per_region(class) as u32;
     let state = parts::state_of(word);
     let next = parts::returned_word(word, first, group, n);
     if parts::count_of(word) + (group as u32) == n {
-        control::tasks::set_task_place(control, task, 33);
+        control::tasks::set_task_place(control, task, places::F4_CLEAR);
         store(control, task, descriptor, next, state);
         return Answer::Accepted;
     }
     go_on(control, regions, task, class, descriptor, next, state)
 }
 
-// The exchange: won where the anchor is the noted one, else the anchor is read again. Caller: `exchange`, which has tested
-// the descriptor, and that the noted anchor has room for the group.
+// The exchange: won where the anchor is the noted one, else the anchor is read again. Caller: `exchange`, which has
+// tested the descriptor, and that the noted anchor has room for the group.
 fn exchange_of(
     control: &mut [u8],
     regions: usize,
@@ -97,15 +105,18 @@ fn exchange_of(
     first: u16,
     group: u16,
 ) -> Answer
-    requires { ⌜ Given (now control) regions task class × (descriptor < 64) × Room (anchorOf word) group (perRegion class) ⌝ }
-    ensures { λ r. ⌜ ((link : ℕ → ℕ) → Done (f3ExchangeOf (seen (now (control .entry))) link regions task class descriptor word first group) (now (control .entry)) (now (control .exit)) r) ⌝ }
+    requires { ⌜ Given (now control) regions task class × (descriptor < DESCRIPTORS)
+        × Room (anchorOf word) group (perRegion class) ⌝ }
+    ensures { λ r. ⌜ ((link : ℕ → ℕ)
+        → Done (f3ExchangeOf (seen (now (control .entry))) link regions task class descriptor word first group)
+        (now (control .entry)) (now (control .exit)) r) ⌝ }
 {
     let current = control::regions::anchor(control, descriptor);
     if !ranges::is_anchor(current) {
         return Answer::Refused(14);
     }
     if current != word {
-        control::tasks::set_task_place(control, task, 30);
+        control::tasks::set_task_place(control, task, places::F3_READ);
         return Answer::Accepted;
     }
     won(
@@ -123,11 +134,12 @@ fn exchange_of(
 // Step 3, the exchange.
 pub fn exchange(control: &mut [u8], regions: usize, task: usize, class: usize) -> Answer
     requires { ⌜ Given (now control) regions task class ⌝ }
-    ensures { λ r. ⌜ ((link : ℕ → ℕ) → Done (f3Exchange (seen (now (control .entry))) link regions task class) (now (control .entry)) (now (control .exit)) r) ⌝ }
+    ensures { λ r. ⌜ ((link : ℕ → ℕ) → Done (f3Exchange (seen (now (control .entry))) link regions task class)
+        (now (control .entry)) (now (control .exit)) r) ⌝ }
 {
     let n = classes::table::per_region(class);
     let descriptor = control::tasks::task_descriptor(control, task) as usize;
-    if 64 <= descriptor {
+    if limits::DESCRIPTORS <= descriptor {
         return Answer::Refused(14);
     }
     let first = control::notes::group_first(control, task);

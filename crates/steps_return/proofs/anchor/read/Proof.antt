@@ -17,9 +17,14 @@ returns-3 : tie.Need-returns-3
 returns-3 c = λ link. done (read-large _ link _ _ _ (omega arith) (omega arith) (omega arith)) refl refl refl
 
 returns-4 : tie.Need-returns-4
-returns-4 c = λ link.
+returns-4 c =
+    λ link.
+    let task-region = c .before .before .before .before .before .before .before .before .before .before .before .before
+    .task-region .ensures in
+    let group-count = c .before .before .before .before .before .before .before .before .before .group-count .ensures in
     does
-    (read-entry _ link _ _ _ (c .before .before .before .before .before .before .before .before .before .before .before .before .task-region .ensures) (c .before .before .before .before .map .ensures) (c .before .before .before .before .before .before .before .before .before .group-count .ensures) (omega arith) (omega arith) (omega arith))
+    (read-entry _ link _ _ _ task-region (c .before .before .before .before .map .ensures) group-count (omega arith)
+    (omega arith) (omega arith))
     (c .before .before .read-by .ensures link)
 
 pub read-spec : {M : Type 1} → statement M

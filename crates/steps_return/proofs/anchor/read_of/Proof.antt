@@ -9,13 +9,19 @@ use Rattle.steps_return.proofs.anchor.read_of.Statement.{statement}
 use Rattle.steps_return.proofs.anchor.read_of.Tie as tie
 
 returns : tie.Need-returns
-returns c = λ link. done (read-no-anchor _ link _ _ _ _ _ (failed-at isAnchor (c .before .before .anchor .ensures) (c .before .is-anchor .ensures) (c .if1 .taken))) refl refl refl
+returns c =
+    λ link. done (read-no-anchor _ link _ _ _ _ _ (failed-at isAnchor (c .before .before .anchor .ensures)
+    (c .before .is-anchor .ensures) (c .if1 .taken))) refl refl refl
 
 returns-2 : tie.Need-returns-2
-returns-2 c = λ link.
+returns-2 c =
+    let at-is-anchor = c .before .before .before .before in
+    λ link.
     done
-    (read-no-room _ link _ _ _ _ _ (passed-at isAnchor (c .before .before .before .before .before .anchor .ensures) (c .before .before .before .before .is-anchor .ensures) (c .before .before .before .if1 .left))
-    (no-room (c .before .before .per-region .ensures) refl (c .before .before .before .before .before .anchor .ensures) (c .before .has-room .ensures) (c .if2 .taken)))
+    (read-no-room _ link _ _ _ _ _ (passed-at isAnchor (at-is-anchor .before .anchor .ensures)
+    (at-is-anchor .is-anchor .ensures) (c .before .before .before .if1 .left))
+    (no-room (c .before .before .per-region .ensures) refl (at-is-anchor .before .anchor .ensures)
+    (c .before .has-room .ensures) (c .if2 .taken)))
     refl refl refl
 
 returns-3 : tie.Need-returns-3
@@ -31,9 +37,11 @@ returns-3 c =
     let c17 = c16 .before in
     λ link.
     done
-    (read-noted _ link _ _ _ _ _ (c17 .anchor .ensures) (passed-at isAnchor (c17 .anchor .ensures) (c16 .is-anchor .ensures) (c15 .if1 .left))
+    (read-noted _ link _ _ _ _ _ (c17 .anchor .ensures)
+    (passed-at isAnchor (c17 .anchor .ensures) (c16 .is-anchor .ensures) (c15 .if1 .left))
     (room (c14 .per-region .ensures) refl (c17 .anchor .ensures) (c13 .has-room .ensures) (c12 .if2 .left)))
-    refl (rw (c10 .set-task-place .ensures) at (rw (c6 .set-task-descriptor .ensures) at (c2 .set-task-anchor .ensures))) refl
+    refl (rw (c10 .set-task-place .ensures) at (rw (c6 .set-task-descriptor .ensures) at
+    (c2 .set-task-anchor .ensures))) refl
 
 pub read-of-spec : {M : Type 1} → statement M
 read-of-spec =

@@ -3,7 +3,8 @@ use borrow.Author.Needs.{needs}
 use native.Mathlib.Omega.{arith}
 use mathlib.Core.Path.{refl}
 use Rattle.stepped.proofs.Doing.{done-in}
-use Rattle.steps_return.proofs.Returning.{link-no-region, link-no-last, link-no-anchor, link-no-first, link-written}
+use Rattle.steps_return.proofs.Returning.{link-no-region, link-no-last, link-no-anchor, link-no-first}
+use Rattle.steps_return.proofs.Returning.{link-written}
 use Rattle.stepped.specs.Ranges.{isAnchor, hasFirst}
 use Rattle.ranges.proofs.Passed.{failed-at, passed-at, failed-for, passed-for}
 use Rattle.steps_group.proofs.Fitting.{link-inside}
@@ -22,19 +23,29 @@ returns-3 c =
 
 returns-4 : tie.Need-returns-4
 returns-4 c =
-    done-in (link-no-first _ _ _ _ _ (omega arith) (omega arith) (search (passed-at isAnchor)) (search (failed-for hasFirst))) refl refl refl
+    done-in (link-no-first _ _ _ _ _ (omega arith) (omega arith) (search (passed-at isAnchor))
+    (search (failed-for hasFirst))) refl refl refl
 
 write-requires : tie.Need-write-requires
 write-requires c κs =
-    link-inside (c .before .before .before .before .before .before .before .before .before .before .before .before .before .before .before .before .before .before .args .regions) (c .before .before .before .before .before .before .before .before .before .before .before .before .before .task-region .result) (c .before .before .before .before .before .before .before .before .before .before .before .before .before .before .before .before .before .before .args .class) (c .before .before .before .before .before .before .before .before .before .before .group-last .result)
+    let a = c .before .before .before .before .before .before .before .before .before .before .before .before .before
+    .before .before .before .before .before .args in
+    let task-region-result = c .before .before .before .before .before .before .before .before .before .before .before
+    .before .before .task-region .result in
+    let group-last-result = c .before .before .before .before .before .before .before .before .before .before
+    .group-last .result in
+    link-inside (a .regions) task-region-result (a .class) group-last-result
     (c .before .before .first-unit .ensures) (omega arith) (omega arith) (search needs)
 
 returns-5 : tie.Need-returns-5
 returns-5 c =
+    let first-unit = c .before .before .before .before .before .before .before .before .before .first-unit .ensures in
+    let avail-of = c .before .before .before .before .before .before .before .avail-of .ensures in
     done-in
-    (link-written _ _ _ _ _ (omega arith) (omega arith) (search needs) (search needs) (search needs) (c .before .before .before .before .before .before .before .before .before .first-unit .ensures) (c .before .before .before .before .before .before .before .avail-of .ensures)
+    (link-written _ _ _ _ _ (omega arith) (omega arith) (search needs) (search needs) (search needs) first-unit avail-of
     (search (passed-at isAnchor)) (search (passed-for hasFirst)))
-    refl (c .before .before .set-task-place .ensures) (c .before .before .before .before .before .before .write .ensures)
+    refl (c .before .before .set-task-place .ensures)
+    (c .before .before .before .before .before .before .write .ensures)
 
 pub write-last-spec : {M : Type 1} → statement M
 write-last-spec =

@@ -34,7 +34,9 @@ returns-3 c =
     refl (rw (c6 .set-task-place2 .ensures) at (c2 .store3 .ensures)) refl
 
 returns-4 : tie.Need-returns-4
-returns-4 c = done (goes-bad _ (λ u. 0) _ _ _ _ _ _ (sym (c .enum-told4 .given .1) ∙ (c .before .before .five .ensures))) refl refl refl
+returns-4 c =
+    done (goes-bad _ (λ u. 0) _ _ _ _ _ _ (sym (c .enum-told4 .given .1) ∙ (c .before .before .five .ensures))) refl
+    refl refl
 
 pub go-on-spec : {M : Type 1} → statement M
 go-on-spec =

@@ -8,14 +8,27 @@ use Rattle.steps_return.proofs.exchange.won.Statement.{statement}
 use Rattle.steps_return.proofs.exchange.won.Tie as tie
 
 returns : tie.Need-returns
-returns c = λ link.
+returns c =
+    λ link.
+    let per-region = c .before .before .before .before .before .before .before .before .before .before .before .before
+    .per-region .ensures in
+    let returned-word = c .before .before .before .before .before .before .before .before .before .before .returned-word
+    .ensures in
+    let state-of = c .before .before .before .before .before .before .before .before .before .before .before .state-of
+    .ensures in
     done
-    (won-empty _ link _ _ _ _ _ _ _ (c .before .before .before .before .before .before .before .before .before .before .before .before .per-region .ensures) (c .before .before .before .before .before .before .before .before .before .before .returned-word .ensures) (c .before .before .before .before .before .before .before .before .before .before .before .state-of .ensures) (omega arith))
-    refl (rw (c .before .before .before .before .before .before .set-task-place .ensures) at (c .before .before .store .ensures)) refl
+    (won-empty _ link _ _ _ _ _ _ _ per-region returned-word state-of (omega arith))
+    refl (rw (c .before .before .before .before .before .before .set-task-place .ensures) at
+    (c .before .before .store .ensures)) refl
 
 returns-2 : tie.Need-returns-2
-returns-2 c = λ link.
-    does (won-partial _ link _ _ _ _ _ _ _ (c .before .before .before .before .before .before .before .before .per-region .ensures) (c .before .before .before .before .before .before .returned-word .ensures) (c .before .before .before .before .before .before .before .state-of .ensures) (omega arith)) (c .before .before .go-on .ensures)
+returns-2 c =
+    λ link.
+    let per-region = c .before .before .before .before .before .before .before .before .per-region .ensures in
+    let state-of = c .before .before .before .before .before .before .before .state-of .ensures in
+    does (won-partial _ link _ _ _ _ _ _ _ per-region
+    (c .before .before .before .before .before .before .returned-word .ensures) state-of (omega arith))
+    (c .before .before .go-on .ensures)
 
 pub won-spec : {M : Type 1} → statement M
 won-spec =

@@ -11,8 +11,12 @@ returns : tie.Need-returns
 returns c = λ link. done (clear-bad _ link _ _ _ (omega arith)) refl refl refl
 
 returns-2 : tie.Need-returns-2
-returns-2 c = λ link.
-    done (clear-done _ link _ _ _ (c .before .before .before .before .before .before .before .before .before .task-region .ensures) (omega arith)) refl (rw (c .before .before .before .before .before .before .set-task-place .ensures) at (c .before .before .set-map .ensures)) refl
+returns-2 c =
+    λ link.
+    let task-region = c .before .before .before .before .before .before .before .before .before .task-region .ensures in
+    done (clear-done _ link _ _ _ task-region (omega arith)) refl
+    (rw (c .before .before .before .before .before .before .set-task-place .ensures) at
+    (c .before .before .set-map .ensures)) refl
 
 pub clear-spec : {M : Type 1} → statement M
 clear-spec =

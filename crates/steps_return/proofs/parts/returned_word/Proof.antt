@@ -9,7 +9,8 @@ returned-requires : tie.Need-returned-requires
 returned-requires c κs = room-at _ _ _ (c .of .ensures) (c .before .pre)
 
 word-requires : tie.Need-word-requires
-word-requires c κs = word-fits _ _ _ (c .before .of .ensures) (c .before .before .pre) _ (omega arith) (c .returned .ensures)
+word-requires c κs =
+    word-fits _ _ _ (c .before .of .ensures) (c .before .before .pre) _ (omega arith) (c .returned .ensures)
 
 returns : tie.Need-returns
 returns c = cc
