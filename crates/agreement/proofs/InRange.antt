@@ -44,7 +44,8 @@ use Rattle.agreement.proofs.Couple.{Pair, mine}
 use Rattle.agreement.proofs.Blocks.{under-unit, below-tested, top-max}
 use Rattle.agreement.specs.Tied.{Tied}
 use Rattle.agreement.proofs.Simulation.{fitting}
-use Rattle.agreement.proofs.Reaching.{reached-tied, along}
+use Rattle.agreement.proofs.NotedStates.{NotedStates}
+use Rattle.agreement.proofs.Reaching.{reached-tied, reached-noted, along}
 use Rattle.agreement.proofs.TaskHands.{pop-span, push-span, hands-at}
 use Rattle.agreement.proofs.TaskLists.{noted-at}
 
@@ -95,7 +96,7 @@ module _ (regions : ℕ) (v : View) (area : List ℕ) (m : Mem) (t : ℕ) where
   freeing (r-f3-exchange e G N l i) = frees (omega arith) (omega arith) refl (omega (arith, when-same u 1))
   freeing (r-f4-clear {w = z} e i) = owes (λ f. omega (arith, owed-one z d (sym i ∙ f))) refl (omega (arith, when-same u 1))
 
-  module _ {p : Place} {k : ℕ → List ℕ} (w : Pair regions (memoryOf v area) m t p k) where
+  module _ {p : Place} {k : ℕ → List ℕ} (w : Pair regions (memoryOf v area) m t p k) (noted : v (TaskState t) ≤ FULL) where
     abbrev c : ℕ
     c = v (TaskClass t)
 
@@ -138,7 +139,7 @@ module _ (regions : ℕ) (v : View) (area : List ℕ) (m : Mem) (t : ℕ) where
     task-in-range : PlaceRelated regions (memoryOf v area) m (slotOf v t) p → TaskInRange regions v t
     task-in-range P =
         let F = freeing P in
-        let N = hands-at regions v area m t k w P in
+        let N = hands-at regions v area m t k noted w P in
         record {
           class = mine w .fits;
           lists = noted-at regions v area m t P;
@@ -183,8 +184,8 @@ module _ {regions : ℕ} (v : View) {area : List ℕ} {m : Mem} (R : Related reg
       })
 
 -- Once a pool is started, the relation between the bytes and the plain pool gives every field's range.
-pub in-range : {s₁ : Memories} {s : Pool} → Tied s₁ s → Ranged s₁
-in-range {s₁} {s} S started =
+pub in-range : {s₁ : Memories} {s : Pool} → Tied s₁ s → NotedStates (s₁ .control) → Ranged s₁
+in-range {s₁} {s} S noted started =
     let v = seen (s₁ .control) in
     let q : 1 ≤ s .tasks = omega (arith, S .tasks) in
     let R = S .related q in
@@ -209,14 +210,14 @@ in-range {s₁} {s} S started =
       descriptor-regions = rw e (C .descriptors .regionNumbers);
       descriptor-classes = C .descriptors .classNumbers;
       maps = λ r l. omega (arith, C .entries .maps r (omega arith), I .entries r);
-      each-task = λ t l. rw e (task-in-range (s .regions) v (s₁ .area) (s .mem) t (pair t l) (R .slots t l .place));
+      each-task = λ t l. rw e (task-in-range (s .regions) v (s₁ .area) (s .mem) t (pair t l) (noted started t l) (R .slots t l .place));
     }
 
 -- ---- a run
 
 -- wherever a run has come
 pub reached-ranged : {h : History} {s₁ : Memories} {s : Pool} → Reached h s₁ s → Ranged s₁
-reached-ranged R = in-range (reached-tied R)
+reached-ranged R = in-range (reached-tied R) (reached-noted R)
 
 -- and after each event that meets its premise
 ranged-after : Wherever RangedAfter

@@ -42,7 +42,6 @@ pub mod Pushes
 pub mod Stepping
 pub mod Unstarted
 pub mod OneEvent
-pub mod Reaching
 pub mod Observing
 pub mod Lent
 pub mod Ways
@@ -53,6 +52,8 @@ pub mod SoundAllocate
 pub mod SoundFree
 pub mod SoundSteps
 pub mod SoundCalls
+pub mod NotedStates
+pub mod Reaching
 pub mod Ends
 pub mod Theorem
 pub mod TaskHands

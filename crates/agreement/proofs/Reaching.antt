@@ -1,5 +1,6 @@
 -- The one induction over runs: whatever a run reaches is tied.
 use mathlib.Core.List.{List, [], _∷_}
+use native.Mathlib.Omega.{arith}
 use Rattle.plain.specs.Calls.{Pool}
 use Rattle.plain.specs.Calls as Plain
 use Rattle.stepped.specs.Outcome.{Memories}
@@ -8,14 +9,23 @@ use Rattle.agreement.specs.Tied.{Tied}
 use Rattle.agreement.specs.Reached.{History, Reached, from-unstarted, from-start, by-event, Along, Wherever}
 use Rattle.agreement.proofs.Unstarted.{unstarted-tied}
 use Rattle.agreement.proofs.Starting.{accepted-start}
+use Rattle.agreement.proofs.NotedStates.{NotedStates, accepted-noted, event-noted}
 use Rattle.agreement.proofs.OneEvent.{alike}
 
--- The memories and the pool that a run reaches are tied.
-pub reached-tied : {h : History} {s₁ : Memories} {s : Pool} → Reached h s₁ s → Tied s₁ s
+-- The memories and the pool that a run reaches are tied, and each task noted one of the three states.
+reached : {h : History} {s₁ : Memories} {s : Pool} → Reached h s₁ s → Tied s₁ s × NotedStates (s₁ .control)
 unfolding Plain.call
-reached-tied (from-unstarted U) = unstarted-tied U
-reached-tied (from-start s₁ s area tasks a t) = accepted-start s₁ s area tasks a t .tied
-reached-tied (by-event {s₁ = s₁} {s = s} R e p) = alike e s₁ s (reached-tied R) p .tied
+reached (from-unstarted U) = (unstarted-tied U, λ k. absurd (omega (arith, U .tasks)))
+reached (from-start s₁ s area tasks a t) = (accepted-start s₁ s area tasks a t .tied, accepted-noted s₁ area tasks a t)
+reached (by-event {s₁ = s₁} {s = s} R e p) =
+    let T = reached R in
+    (alike e s₁ s (T .0) p .tied, event-noted e s₁ (T .0 .length) (T .0 .bytes) (T .1))
+
+pub reached-tied : {h : History} {s₁ : Memories} {s : Pool} → Reached h s₁ s → Tied s₁ s
+reached-tied R = reached R .0
+
+pub reached-noted : {h : History} {s₁ : Memories} {s : Pool} → Reached h s₁ s → NotedStates (s₁ .control)
+reached-noted R = reached R .1
 
 -- What holds of every event wherever a run has come holds along every list of events behind it that meets the premises.
 pub along : (P : Event → Memories → Pool → Type 0) → Wherever P → {h : History} {s₁ : Memories} {s : Pool}

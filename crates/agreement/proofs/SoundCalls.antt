@@ -29,7 +29,7 @@ use Rattle.stepped.specs.Calls.{Tested}
 use Rattle.agreement.specs.Ends.{placeAfter}
 use Rattle.agreement.proofs.Both.{Fitting}
 use Rattle.agreement.proofs.Ways.{branch, tests}
-use Rattle.agreement.proofs.SoundMoves.{OwnPlace, OwnPlaces, Fit, none, test}
+use Rattle.agreement.proofs.SoundMoves.{Own, Owns, Fit, none, test}
 use Rattle.agreement.proofs.SoundSteps.{step-fit}
 
 -- ---- the beginnings
@@ -42,7 +42,7 @@ module _ {control area : ℕ} {v : View} (fits : Fitting v) {t : ℕ} (T : Teste
   unfolding Calls.whenIdle
   idle-fit x f = test (ltb (v (TaskPlace t)) 34) (λ e. branch (Fit t) (eqb (v (TaskPlace t)) 0) (λ h. f) (λ h. none))
 
-  allocate-fit : (size : ℕ) → Fit t (Calls.whenIdle v t (Calls.beginAllocate t size))
+  pub allocate-fit : (size : ℕ) → Fit t (Calls.whenIdle v t (Calls.beginAllocate t size))
   unfolding Calls.beginAllocate
   allocate-fit size =
       idle-fit (Calls.beginAllocate t size)
@@ -60,7 +60,7 @@ module _ {control area : ℕ} {v : View} (fits : Fitting v) {t : ℕ} (T : Teste
       })
       (λ e. none)
 
-  free-fit : (u : ℕ) → Fit t (Calls.whenIdle v t (Calls.beginFree v (v Regions) t u))
+  pub free-fit : (u : ℕ) → Fit t (Calls.whenIdle v t (Calls.beginFree v (v Regions) t u))
   unfolding Calls.beginFree Calls.freeEntry Calls.freeBy Calls.freeOpen
   free-fit u =
       let P = Fit t in
@@ -81,7 +81,7 @@ module _ {control area : ℕ} {v : View} (fits : Fitting v) {t : ℕ} (T : Teste
 -- ---- the bytes
 
 -- what stands in bytes fits
-seen-fitting : (control : List ℕ) → Bytes control → Fitting (seen control)
+pub seen-fitting : (control : List ℕ) → Bytes control → Fitting (seen control)
 seen-fitting control b g h = getLE-lt control (at layout g) (width layout g) b
 
 -- A step on bytes, with any bytes: the task's place is afterwards the one that its outcome leads to.
@@ -104,14 +104,14 @@ module _ (area : ℕ) (link : ℕ → ℕ) (t : ℕ) (b : List ℕ) (bytes : Byt
 
 module _ {t u : ℕ} (other : u ≢ t) where
   -- a write to no place but that of t leaves the place of u
-  write-keeps : (f : Field) (x : ℕ) → OwnPlace t (f := x) → (v : View) → assign (f := x) v (TaskPlace u) ≡ v (TaskPlace u)
-  write-keeps f x own v = by (eqb (f .column) (TaskPlace u .column)) own
+  write-keeps : (f : Field) (x : ℕ) → Own t (f := x) → (v : View) → assign (f := x) v (TaskPlace u) ≡ v (TaskPlace u)
+  write-keeps f x own v = by (eqb (f .column) (TaskPlace u .column)) _ own
     where
-      by : (b : Bool) → cond b (f .index ≡ t) (Unit {0}) → cond (b && eqb (f .index) u) x (v (TaskPlace u)) ≡ v (TaskPlace u)
-      by true e = rw (ne-eqb (f .index) u (λ h. other (sym h ∙ e))) refl
-      by false e = refl
+      by : (b : Bool) (X : Type 0) → cond b (f .index ≡ t) X → cond (b && eqb (f .index) u) x (v (TaskPlace u)) ≡ v (TaskPlace u)
+      by true X e = rw (ne-eqb (f .index) u (λ h. other (sym h ∙ e))) refl
+      by false X e = refl
 
-  writes-keep : (ws : List Write) → OwnPlaces t ws → (v : View) → assigned ws v (TaskPlace u) ≡ v (TaskPlace u)
+  writes-keep : (ws : List Write) → Owns t ws → (v : View) → assigned ws v (TaskPlace u) ≡ v (TaskPlace u)
   writes-keep [] own v = refl
   writes-keep ((f := x) ∷ ws) own v = writes-keep ws (own .1) (assign (f := x) v) ∙ write-keeps f x (own .0) v
 

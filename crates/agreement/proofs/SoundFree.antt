@@ -10,7 +10,7 @@ use native.Mathlib.Nat.{div-le-self}
 use borrow.Author.Tests.{leb-true, ltb-true}
 use lib.Dec.{eqb, leb, ltb}
 use Rattle.fields.specs.Columns.{View, _:=_, Sound}
-use Rattle.words.specs.Anchor.{anchorOf, anchorWord, returned}
+use Rattle.words.specs.Anchor.{FULL, isState, anchorOf, anchorWord, returned}
 use Rattle.words.proofs.Anchors.{anchor-below, returned-fits}
 use Rattle.classes.specs.Classes.{units, perRegion}
 use Rattle.classes.specs.Places.{regionOf, indexOf}
@@ -139,6 +139,13 @@ module _ (v : View) (fits : Fitting v) (link : ℕ → ℕ) {regions t c : ℕ} 
       anchor-below (returned a first g n)
       (returned-fits a first g n (omega (arith, l, perRegion-high c)) (record { count = m; blocks = perRegion-high c }))
 
+  -- a word that is an anchor has one of the three states
+  state-max : (word : ℕ) → isAnchor word ≡ true → anchorOf word .state ≤ FULL
+  state-max word h =
+      let a = anchorOf word in
+      let p = left-true (isState (a .state) && leb (a .avail) 512) (leb (a .count) 512) h in
+      leb-true (a .state) FULL (left-true (isState (a .state)) (leb (a .avail) 512) p)
+
   pub f3-exchange : Fit t (Free.f3Exchange v link regions t c)
   unfolding Free.f3Exchange Free.f3ExchangeOf Free.f3Won
   f3-exchange =
@@ -157,10 +164,11 @@ module _ (v : View) (fits : Fitting v) (link : ℕ → ℕ) {regions t c : ℕ} 
       (λ e.
       let p = both (b && f && o && i) z h in
       let q = both b f (left-true (b && f) o (left-true (b && f && o) i (p .0))) in
+      let m = state-max word (right-true (b && f && o) i (p .0)) in
       let s : Sound layout (Anchor d := anchorWord (returned a first g n) ∷ TaskState t := a .state ∷ []) =
       omega (arith, task, ltb-true d 64 (q .0), returned-below word first g (ltb-true first n (q .1)) (p .1)) in
-      branch (Fit t) (eqb (a .count + g) n) (λ k. record { sound = (omega (arith, task), s); own = omega arith })
-      (λ k. Moves.f5 v fits few task class (a .state) _ _ (record { sound = s; own = omega arith })))
+      branch (Fit t) (eqb (a .count + g) n) (λ k. record { sound = (omega (arith, task), s); own = omega (arith, m) })
+      (λ k. Moves.f5 v fits few task class (a .state) _ _ (record { sound = s; own = omega (arith, m) })))
       (λ e. record { sound = omega (arith, task); own = omega arith })))
 
   pub f4-clear : Fit t (Free.f4Clear v link regions t c)

@@ -28,23 +28,26 @@ use Rattle.stepped.proofs.Conjunction.{left-true, right-true}
 use Rattle.agreement.proofs.Both.{Fitting}
 use Rattle.agreement.proofs.Ways.{branch}
 
--- a write is to no place but that of the task t
-abbrev pub OwnPlace : ℕ → Write → Type 0
-OwnPlace t (f := x) = cond (eqb (f .column) (TaskPlace t .column)) (f .index ≡ t) (Unit {0})
+-- a write is to no place but that of the task t, and where it notes a state, that is EMPTY, PARTIAL or FULL
+abbrev pub Own : ℕ → Write → Type 0
+Own t (f := x) =
+    cond (eqb (f .column) (TaskPlace t .column)) (f .index ≡ t)
+    (cond (eqb (f .column) (TaskState t .column)) (x ≤ FULL) (Unit {0}))
 
-abbrev pub OwnPlaces : ℕ → List Write → Type 0
-OwnPlaces t [] = Unit {0}
-OwnPlaces t (w ∷ ws) = OwnPlace t w × OwnPlaces t ws
+abbrev pub Owns : ℕ → List Write → Type 0
+Owns t [] = Unit {0}
+Owns t (w ∷ ws) = Own t w × Owns t ws
 
--- writes of a call of the task t: each is to a field of the layout and fits there, and to no other task's place
+-- writes of a call of the task t: each is to a field of the layout and fits there, to no other task's place, and notes no
+-- state but the three
 pub record Written (t : ℕ) (ws : List Write) : Type 0 where
   pub sound : Sound layout ws
-  pub own : OwnPlaces t ws
+  pub own : Owns t ws
 
 -- what an outcome writes
 pub record Fit (t : ℕ) (o : Outcome) : Type 0 where
   pub sound : Sound layout (o .writes)
-  pub own : OwnPlaces t (o .writes)
+  pub own : Owns t (o .writes)
 
 -- a refusal writes nothing
 pub none : {t n : ℕ} → Fit t (refuse n)

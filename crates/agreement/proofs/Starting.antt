@@ -56,7 +56,7 @@ module _ (tasks regions : ℕ) (few : tasks ≤ 8) (small : regions ≤ 16) wher
   )
 
   -- what stands in the fields of the image
-  image-view : (g : Field) → Has layout g → seen (startImage tasks regions) g ≡ startView tasks regions g
+  pub image-view : (g : Field) → Has layout g → seen (startImage tasks regions) g ≡ startView tasks regions g
   unfolding startImage
   image-view g h =
       seen-changed (startWrites tasks regions) (replicate 8192 0) g (length-replicate {A = ℕ} 8192 0) start-sound h

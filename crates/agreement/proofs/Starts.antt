@@ -18,7 +18,7 @@ use Rattle.words.specs.Mark.{bitAt}
 use Rattle.plain.specs.State.{SPARES, REGIONS}
 use Rattle.plain.specs.Steps.{top}
 use Rattle.plain.specs.Calls.{rising, startMem}
-use Rattle.control.specs.Layout.{field, Head, Tasks, Regions, DescriptorNext, RegionNext, Top}
+use Rattle.control.specs.Layout.{field, Head, Tasks, Regions, DescriptorNext, RegionNext, Top, TaskState}
 use Rattle.control.specs.Layout
 use Rattle.stepped.specs.Start.{fill, nextUp, startWrites}
 use Rattle.agreement.specs.Memory.{memoryOf}
@@ -65,6 +65,9 @@ module _ (tasks regions : ℕ) where
 
   pub at-regions : startView Regions ≡ regions
   at-regions = unfilled Layout.startedRegions 0 refl refl refl
+
+  pub at-state : (t : ℕ) → startView (TaskState t) ≡ 0
+  at-state t = unfilled Layout.taskStates t refl refl refl
 
   at-head : (ℓ : ℕ) → startView (Head ℓ) ≡ cond (eqb 17 ℓ) 1 (cond (eqb 16 ℓ) 1 0)
   at-head ℓ = unfilled Layout.heads ℓ refl refl refl

@@ -8,7 +8,7 @@ use Rattle.rows.specs.Counting.{count}
 use Rattle.rows.specs.Weights.{one}
 use Rattle.rows.proofs.Weights.{when-same}
 use Rattle.fields.specs.Columns.{View}
-use Rattle.words.specs.Anchor.{anchorOf}
+use Rattle.words.specs.Anchor.{FULL, anchorOf}
 use Rattle.words.specs.declared.anchor.Anchor.{Anchor}
 use Rattle.classes.specs.Classes.{perRegion}
 use Rattle.classes.specs.Places.{Block, unitOf}
@@ -21,7 +21,7 @@ use Rattle.plain.proofs.Blocks.{counts-block}
 use Rattle.plain.proofs.Owners.{home-of, owner}
 use Rattle.plain.proofs.Places.{placeHolds}
 use Rattle.control.specs.Layout.{TaskAnchor, TaskIndex, GroupFirst, GroupLast, GroupCount}
-use Rattle.control.specs.Layout.{TaskPlace, TaskClass, TaskDescriptor, TaskRegion}
+use Rattle.control.specs.Layout.{TaskPlace, TaskClass, TaskDescriptor, TaskRegion, TaskState}
 use Rattle.agreement.specs.Memory.{Slot, slotOf, memoryOf}
 use Rattle.agreement.specs.Relation.{PopRelated, PushRelated, NoteRelated, GroupRelated, PlaceRelated}
 use Rattle.agreement.specs.Relation.{r-idle, r-a1, r-partial, r-spare, r-region, r-retire, r-back, r-release}
@@ -52,7 +52,8 @@ note-in : {m : Mem} {c d : ℕ} {n : Note} {b : Anchor} → NoteRelated m c d n 
 note-in {m} {c} {d} {n} N =
     omega (arith, N .state, N .avail, number-max (n .state), first-max (m .descriptor d .region) c (n .first) (N .first))
 
-module _ (regions : ℕ) (v : View) (area : List ℕ) (m : Mem) (t : ℕ) (k : ℕ → List ℕ) where
+-- a task that noted one of the three states
+module _ (regions : ℕ) (v : View) (area : List ℕ) (m : Mem) (t : ℕ) (k : ℕ → List ℕ) (noted : v (TaskState t) ≤ FULL) where
   abbrev c : ℕ
   c = v (TaskClass t)
 
@@ -113,11 +114,7 @@ module _ (regions : ℕ) (v : View) (area : List ℕ) (m : Mem) (t : ℕ) (k : �
   hands-at w (r-region h) = let i = pop-span h in let f = descriptor-held w (omega arith) in (omega arith, omega arith)
   hands-at w (r-retire h) = let i = push-span h in let f = descriptor-held w (omega arith) in (omega arith, omega arith)
   hands-at w (r-back h) = let i = push-span h in let f = descriptor-held w (omega arith) in (omega arith, omega arith)
-  hands-at w (r-release {w = z} e h) =
-      let f = region-held w (omega arith) in
-      let n = number-max z in
-      let i = push-span h in
-      (omega arith, omega arith)
+  hands-at w (r-release e h) = let f = region-held w (omega arith) in let i = push-span h in (omega arith, omega arith)
   hands-at w (r-offer h) = let i = push-span h in let f = descriptor-held w (omega arith) in (omega arith, omega arith)
   hands-at w (r-a3-read e) = let f = descriptor-held w (omega arith) in (omega arith, omega arith)
   hands-at w (r-a3-exchange e N i j l o) = let f = descriptor-held w (omega arith) in (omega arith, omega arith)
@@ -158,7 +155,4 @@ module _ (regions : ℕ) (v : View) (area : List ℕ) (m : Mem) (t : ℕ) (k : �
       let o = placeHolds (w .turn) in
       returns (omega arith) (omega arith) (grouped w G (λ x. omega arith) refl (o .2))
       (owner (w .turn) y d (omega (arith, when-same y 1)) (o .3) .fits) N l
-  hands-at w (r-f4-clear {w = z} e i) =
-      let f = region-held w (omega arith) in
-      let n = number-max z in
-      (omega arith, omega arith)
+  hands-at w (r-f4-clear e i) = let f = region-held w (omega arith) in (omega arith, omega arith)

@@ -57,9 +57,8 @@ pub record TaskHands (regions : ℕ) (v : View) (t : ℕ) : Type 0 where
   pub region-filled : At v t 25 27 (v (TaskRegion t) < regions)
   pub region-grouped : At v t 29 29 (1 ≤ v (GroupCount t) → v (TaskRegion t) < regions)
   pub region-group : At v t 30 33 (v (TaskRegion t) < regions)
-  -- the state in which a free found the anchor
-  pub state-released : At v t 17 19 (v (TaskState t) ≤ 2)
-  pub state-cleared : At v t 33 33 (v (TaskState t) ≤ 2)
+  -- the state in which its last free found the anchor, 0 before: it is in its range at every place
+  pub state : v (TaskState t) ≤ FULL
 
 -- what it noted of an anchor, and the blocks that it moves or groups
 pub record TaskChains (v : View) (t : ℕ) : Type 0 where

@@ -1,0 +1,119 @@
+-- The state that each task noted is one of the three, once the pool is started, after every event.
+use Prim.Native.Nat.{ℕ, _/_, _%_, _≤_, _<_}
+use mathlib.Core.Path.{_≡_, refl, sym, subst, _∙_}
+use mathlib.Core.Bool.{Bool, true, false, cond, _&&_}
+use mathlib.Core.List.{List, [], _∷_}
+use native.Mathlib.Omega.{arith}
+use borrow.Author.Tests.{eq-eqb, le-leb, eqb-true, leb-true}
+use lib.Dec.{eqb, leb}
+use lib.ListN.{length}
+use Rattle.fields.specs.Columns.{Field, View, Write, _:=_, assign, assigned}
+use Rattle.fields.specs.Little.{Bytes}
+use Rattle.words.specs.Anchor.{FULL}
+use Rattle.plain.specs.Calls as Plain
+use Rattle.control.specs.Layout.{seen, changed, Tasks, TaskPlace, TaskState}
+use Rattle.control.proofs.Fields.{seen-changed}
+use Rattle.stepped.specs.Outcome.{Memories, Outcome, Effect}
+use Rattle.stepped.specs.Ranges.{oneTo}
+use Rattle.stepped.specs.Start.{startImage}
+use Rattle.stepped.specs.Calls as Calls
+use Rattle.stepped.specs.Calls.{Tested}
+use Rattle.stepped.proofs.Conjunction.{left-true, right-true}
+use Rattle.agreement.specs.Events.{Event, start, allocate, free, go, write, stepped}
+use Rattle.agreement.proofs.Ways.{branch, tests}
+use Rattle.agreement.proofs.Starts.{at-state}
+use Rattle.agreement.proofs.Starting.{image-view}
+use Rattle.agreement.proofs.SoundMoves.{Own, Owns, Fit}
+use Rattle.agreement.proofs.SoundSteps.{step-fit}
+use Rattle.agreement.proofs.SoundCalls.{allocate-fit, free-fit, seen-fitting}
+
+-- the states that the tasks noted, in a control memory
+abbrev pub States : List ℕ → Type 0
+States b = (t : ℕ) → t < 8 → seen b (TaskState t) ≤ FULL
+
+-- once it is started
+abbrev pub NotedStates : List ℕ → Type 0
+NotedStates b = 1 ≤ seen b Tasks → States b
+
+-- ---- writes
+
+module _ (t u : ℕ) where
+  write-noted : (f : Field) (x : ℕ) → Own t (f := x) → (v : View) → v (TaskState u) ≤ FULL → assign (f := x) v (TaskState u) ≤ FULL
+  write-noted f x own v h = by (eqb (f .column) (TaskPlace t .column)) refl own
+    where
+      noted : (b c : Bool) → cond b (x ≤ FULL) (Unit {0}) → cond (b && c) x (v (TaskState u)) ≤ FULL
+      noted true true o = o
+      noted true false o = h
+      noted false c o = h
+
+      by : (b : Bool) → eqb (f .column) (TaskPlace t .column) ≡ b
+          → cond b (f .index ≡ t) (cond (eqb (f .column) (TaskState t .column)) (x ≤ FULL) (Unit {0}))
+          → assign (f := x) v (TaskState u) ≤ FULL
+      by true e o = rw (eqb-true (f .column) (TaskPlace t .column) e) h
+      by false e o = noted (eqb (f .column) (TaskState t .column)) (eqb (f .index) u) o
+
+  writes-noted : (ws : List Write) → Owns t ws → (v : View) → v (TaskState u) ≤ FULL → assigned ws v (TaskState u) ≤ FULL
+  writes-noted [] own v h = h
+  writes-noted ((f := x) ∷ ws) own v h = writes-noted ws (own .1) (assign (f := x) v) (write-noted f x (own .0) v h)
+
+-- ---- calls
+
+-- the control memory that an outcome leaves
+abbrev left : List ℕ → Outcome → List ℕ
+left b o = changed (o .writes) b
+
+module _ (b : List ℕ) (long : length b ≡ 8192) (old : NotedStates b) where
+  -- what follows the tests
+  tested-noted : (control area t : ℕ) (x : Outcome) → (Tested control area (seen b) t → Fit t x)
+      → NotedStates (left b (Calls.tested control area (seen b) t x))
+  tested-noted control area t x fit =
+      tests (λ o. NotedStates (left b o)) control area (seen b) t x (λ n h. old)
+      (λ T started u l. subst (λ (z : ℕ). z ≤ FULL) (sym (seen-changed (x .writes) b (TaskState u) long (fit T .sound) (omega (arith, l))))
+      (writes-noted t u (x .writes) (fit T .own) (seen b) (old (T .started) u l)))
+
+-- ---- starts
+
+-- a start leaves every noted state 0
+image-noted : (tasks regions : ℕ) → tasks ≤ 8 → regions ≤ 16 → NotedStates (startImage tasks regions)
+image-noted tasks regions few small started t l =
+    omega (arith, image-view tasks regions few small (TaskState t) (omega (arith, l)), at-state tasks regions t)
+
+start-noted : (size : ℕ) (area : List ℕ) (tasks : ℕ) (b before : List ℕ) → NotedStates b
+    → NotedStates (Calls.startIn size area tasks b before .control)
+unfolding Calls.startIn
+start-noted size area tasks b before old =
+    let P : Effect → Type 0 = λ e. NotedStates (e .control) in
+    let bytes = length area in
+    branch P (eqb size 8192) (λ e. branch P (eqb (bytes % 4096) 0 && oneTo 65536 bytes)
+    (λ f. branch P (oneTo 8 tasks) (λ g.
+    let l = leb-true bytes 65536 (right-true (leb 1 bytes) (leb bytes 65536) (right-true (eqb (bytes % 4096) 0) (oneTo 65536 bytes) f)) in
+    image-noted tasks (bytes / 4096) (leb-true tasks 8 (right-true (leb 1 tasks) (leb tasks 8) g)) (omega (arith, l)))
+    (λ g. old)) (λ f. old)) (λ e. old)
+
+-- an accepted start, whatever was before
+pub accepted-noted : (s : Memories) (area : List ℕ) (tasks : ℕ) → Plain.Area (length area) → Plain.Tasks tasks
+    → NotedStates (stepped (start 8192 area tasks) s .0 .control)
+unfolding Calls.startIn
+accepted-noted s area tasks a t =
+    rw (
+      eq-eqb (length area % 4096) 0 (a .0),
+      le-leb 1 (length area) (a .1 .0),
+      le-leb (length area) 65536 (a .1 .1),
+      le-leb 1 tasks (t .0),
+      le-leb tasks 8 (t .1),
+    )
+    (image-noted tasks (length area / 4096) (t .1) (omega (arith, a)))
+
+-- ---- every event
+
+pub event-noted : (e : Event) (s : Memories) → length (s .control) ≡ 8192 → Bytes (s .control) → NotedStates (s .control)
+    → NotedStates (stepped e s .0 .control)
+unfolding Calls.allocateOutcome Calls.freeOutcome Calls.stepOutcome
+event-noted (start control area tasks) s long bytes old = start-noted control area tasks (s .control) (s .area) old
+event-noted (allocate control area t size) s long bytes old =
+    tested-noted (s .control) long old control area t _ (λ T. allocate-fit (seen-fitting (s .control) bytes) T size)
+event-noted (free control area t u) s long bytes old =
+    tested-noted (s .control) long old control area t _ (λ T. free-fit (seen-fitting (s .control) bytes) T u)
+event-noted (go control area t) s long bytes old =
+    tested-noted (s .control) long old control area t _ (λ T. step-fit (seen-fitting (s .control) bytes) _ T)
+event-noted (write at b) s long bytes old = old
