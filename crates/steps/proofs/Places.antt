@@ -1,12 +1,14 @@
--- The step at a place, and past the places. Assumes nothing.
+-- The step at a place, and past the places.
 use mathlib.Core.Path.{_≡_, refl, sym, ap, _∙_}
 use mathlib.Core.List.{List, [], _∷_}
 use Prim.Native.Nat.{ℕ, zero, suc, _≤_, _<_}
 use native.Mathlib.Omega.{arith}
 use borrow.Author.Tests.{lt-ltb, le-ltb}
 use lib.ListN.{getD, length}
+use Rattle.limits.specs.Limits.{CLASSES}
 use Rattle.fields.specs.Columns.{View}
 use Rattle.control.specs.Layout.{TaskPlace, TaskClass}
+use Rattle.control.specs.Places.{IDLE, PLACES}
 use Rattle.stepped.specs.Outcome.{Outcome, refuse, bad}
 use Rattle.stepped.specs.Steps.{steps, stepAt, step}
 
@@ -18,7 +20,8 @@ past (o ∷ os) (suc n) h = past os n (omega (arith, h))
 
 module _ (v : View) (link : ℕ → ℕ) (regions t c : ℕ) {place : ℕ} where
   -- the step at the place n of the list is x
-  pub at : (n : ℕ) {x : Outcome} → getD (steps v link regions t c) n bad ≡ x → place ≡ n → stepAt v link regions t c place ≡ x
+  pub at : (n : ℕ) {x : Outcome} → getD (steps v link regions t c) n bad ≡ x → place ≡ n
+      → stepAt v link regions t c place ≡ x
   unfolding stepAt
   at n p e = ap (λ (k : ℕ). getD (steps v link regions t c) k bad) e ∙ p
 
@@ -26,24 +29,24 @@ module _ (v : View) (link : ℕ → ℕ) (regions t c : ℕ) {place : ℕ} where
   pub same : {n : ℕ} → place ≡ n → stepAt v link regions t c place ≡ stepAt v link regions t c n
   same e = ap (stepAt v link regions t c) e
 
-  pub past-places : 34 ≤ place → stepAt v link regions t c place ≡ bad
+  pub past-places : PLACES ≤ place → stepAt v link regions t c place ≡ bad
   unfolding stepAt
   past-places h = past (steps v link regions t c) place h
 
 -- the tests of a step: a request in hand, and its class
 module _ (v : View) (link : ℕ → ℕ) (regions t : ℕ) where
-  pub idle : v (TaskPlace t) ≡ 0 → step v link regions t ≡ refuse 7
+  pub idle : v (TaskPlace t) ≡ IDLE → step v link regions t ≡ refuse 7
   unfolding step
   idle h = rw (le-ltb 0 (v (TaskPlace t)) (omega (arith, h))) refl
 
   module _ (h : 1 ≤ v (TaskPlace t)) where
-    pub no-class : 16 ≤ v (TaskClass t) → step v link regions t ≡ bad
+    pub no-class : CLASSES ≤ v (TaskClass t) → step v link regions t ≡ bad
     unfolding step
-    no-class g = rw (lt-ltb 0 (v (TaskPlace t)) h) (rw (le-ltb (v (TaskClass t)) 16 g) refl)
+    no-class g = rw (lt-ltb 0 (v (TaskPlace t)) h) (rw (le-ltb (v (TaskClass t)) CLASSES g) refl)
 
-    pub to-place : {place c : ℕ} → place ≡ v (TaskPlace t) → c ≡ v (TaskClass t) → c < 16
+    pub to-place : {place c : ℕ} → place ≡ v (TaskPlace t) → c ≡ v (TaskClass t) → c < CLASSES
         → step v link regions t ≡ stepAt v link regions t c place
     unfolding step
     to-place {place} {c} p k g =
         rw (lt-ltb 0 (v (TaskPlace t)) h)
-        (rw (lt-ltb (v (TaskClass t)) 16 (omega (arith, k, g))) (rw (sym p) (rw (sym k) refl)))
+        (rw (lt-ltb (v (TaskClass t)) CLASSES (omega (arith, k, g))) (rw (sym p) (rw (sym k) refl)))

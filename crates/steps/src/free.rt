@@ -1,5 +1,6 @@
 // The steps of a free that are no list moves, but for the first, by place.
 use control::answer::Answer;
+use control::places;
 use steps_group::group;
 use steps_return::anchor;
 use steps_return::exchange;
@@ -7,10 +8,12 @@ use steps_return::map;
 ghost use Prim.Native.Nat.{_≤_};
 ghost use Rattle.links.specs.Link.{link};
 ghost use Rattle.control.specs.Layout.{seen};
+ghost use Rattle.control.specs.Places.{F2};
 ghost use Rattle.stepped.specs.Done.{Lent, DoneIn};
 ghost use Rattle.stepped.specs.Steps.{stepAt};
 
-// The steps at the places 29 to 33; a place past them is outside its range. Caller: the step of a task at such a place.
+// The steps at the places from the taking of a group to the clearing of its map entry; a place past them is outside its
+// range. Caller: the step of a task at such a place.
 pub fn empty(
     control: &mut [u8],
     area: &mut [u8],
@@ -19,22 +22,23 @@ pub fn empty(
     class: usize,
     place: u8,
 ) -> Answer
-    requires { ⌜ Lent (now control) (now area) regions task class × (29 ≤ place) ⌝ }
-    ensures { λ r. ⌜ DoneIn (stepAt (seen (now (control .entry))) (link (now (area .entry))) regions task class place) (now (control .entry)) (now (area .entry)) (now (control .exit)) (now (area .exit)) r ⌝ }
+    requires { ⌜ Lent (now control) (now area) regions task class × (F2 ≤ place) ⌝ }
+    ensures { λ r. ⌜ DoneIn (stepAt (seen (now (control .entry))) (link (now (area .entry))) regions task class place)
+        (now (control .entry)) (now (area .entry)) (now (control .exit)) (now (area .exit)) r ⌝ }
 {
-    if place == 29 {
+    if place == places::F2 {
         return group::take(control, area, regions, task, class);
     }
-    if place == 30 {
+    if place == places::F3_READ {
         return anchor::read(control, regions, task, class);
     }
-    if place == 31 {
+    if place == places::F3_LINK {
         return anchor::write_last(control, area, regions, task, class);
     }
-    if place == 32 {
+    if place == places::F3_EXCHANGE {
         return exchange::exchange(control, regions, task, class);
     }
-    if place == 33 {
+    if place == places::F4_CLEAR {
         return map::clear(control, regions, task, class);
     }
     Answer::Refused(14)

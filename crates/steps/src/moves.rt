@@ -2,10 +2,12 @@
 use control::answer::Answer;
 use control::moves::Pop;
 use control::moves::Push;
+use control::places;
 use steps_pops::pops;
 use steps_pushes::pushes;
 ghost use Prim.Native.Nat.{ℕ, _+_, _≤_, _<_};
 ghost use Rattle.control.specs.Layout.{seen};
+ghost use Rattle.control.specs.Places.{POP-PARTIAL, PUSH-RETIRE, A3-READ};
 ghost use Rattle.stepped.specs.Done.{Given, Done};
 ghost use Rattle.stepped.specs.Lists.{popPlace, pushPlace};
 ghost use Rattle.stepped.specs.Steps.{stepAt};
@@ -20,7 +22,9 @@ fn pop_step(
     after: u8,
 ) -> Answer
     requires { ⌜ Given (now control) regions task class × (after < 3) ⌝ }
-    ensures { λ r. ⌜ ((link : ℕ → ℕ) → Done (stepAt (seen (now (control .entry))) link regions task class (popPlace pop + after)) (now (control .entry)) (now (control .exit)) r) ⌝ }
+    ensures { λ r. ⌜ ((link : ℕ → ℕ)
+        → Done (stepAt (seen (now (control .entry))) link regions task class (popPlace pop + after))
+        (now (control .entry)) (now (control .exit)) r) ⌝ }
 {
     if after == 0 {
         return pops::read(control, regions, task, class, pop);
@@ -31,18 +35,40 @@ fn pop_step(
     pops::exchange(control, regions, task, class, pop)
 }
 
-// The steps at the places 2 to 10. Caller: the step of a task at one of them.
+// The steps at the places of the pops. Caller: the step of a task at one of them.
 pub fn pop(control: &mut [u8], regions: usize, task: usize, class: usize, place: u8) -> Answer
-    requires { ⌜ Given (now control) regions task class × (2 ≤ place) × (place < 11) ⌝ }
-    ensures { λ r. ⌜ ((link : ℕ → ℕ) → Done (stepAt (seen (now (control .entry))) link regions task class place) (now (control .entry)) (now (control .exit)) r) ⌝ }
+    requires { ⌜ Given (now control) regions task class × (POP-PARTIAL ≤ place) × (place < PUSH-RETIRE) ⌝ }
+    ensures { λ r. ⌜ ((link : ℕ → ℕ) → Done (stepAt (seen (now (control .entry))) link regions task class place)
+        (now (control .entry)) (now (control .exit)) r) ⌝ }
 {
-    if place < 5 {
-        return pop_step(control, regions, task, class, Pop::Partial, place - 2);
+    if place < places::POP_SPARE {
+        return pop_step(
+            control,
+            regions,
+            task,
+            class,
+            Pop::Partial,
+            place - places::POP_PARTIAL,
+        );
     }
-    if place < 8 {
-        return pop_step(control, regions, task, class, Pop::Spare, place - 5);
+    if place < places::POP_REGION {
+        return pop_step(
+            control,
+            regions,
+            task,
+            class,
+            Pop::Spare,
+            place - places::POP_SPARE,
+        );
     }
-    pop_step(control, regions, task, class, Pop::Region, place - 8)
+    pop_step(
+        control,
+        regions,
+        task,
+        class,
+        Pop::Region,
+        place - places::POP_REGION,
+    )
 }
 
 // A push: the head is read, then the item's next is written, then the head is exchanged. Caller: `push`, by its place.
@@ -55,7 +81,9 @@ fn push_step(
     after: u8,
 ) -> Answer
     requires { ⌜ Given (now control) regions task class × (after < 3) ⌝ }
-    ensures { λ r. ⌜ ((link : ℕ → ℕ) → Done (stepAt (seen (now (control .entry))) link regions task class (pushPlace push + after)) (now (control .entry)) (now (control .exit)) r) ⌝ }
+    ensures { λ r. ⌜ ((link : ℕ → ℕ)
+        → Done (stepAt (seen (now (control .entry))) link regions task class (pushPlace push + after))
+        (now (control .entry)) (now (control .exit)) r) ⌝ }
 {
     if after == 0 {
         return pushes::read(control, regions, task, class, push);
@@ -66,19 +94,48 @@ fn push_step(
     pushes::exchange(control, regions, task, class, push)
 }
 
-// The steps at the places 11 to 22. Caller: the step of a task at one of them.
+// The steps at the places of the pushes. Caller: the step of a task at one of them.
 pub fn push(control: &mut [u8], regions: usize, task: usize, class: usize, place: u8) -> Answer
-    requires { ⌜ Given (now control) regions task class × (11 ≤ place) × (place < 23) ⌝ }
-    ensures { λ r. ⌜ ((link : ℕ → ℕ) → Done (stepAt (seen (now (control .entry))) link regions task class place) (now (control .entry)) (now (control .exit)) r) ⌝ }
+    requires { ⌜ Given (now control) regions task class × (PUSH-RETIRE ≤ place) × (place < A3-READ) ⌝ }
+    ensures { λ r. ⌜ ((link : ℕ → ℕ) → Done (stepAt (seen (now (control .entry))) link regions task class place)
+        (now (control .entry)) (now (control .exit)) r) ⌝ }
 {
-    if place < 14 {
-        return push_step(control, regions, task, class, Push::Retire, place - 11);
+    if place < places::PUSH_BACK {
+        return push_step(
+            control,
+            regions,
+            task,
+            class,
+            Push::Retire,
+            place - places::PUSH_RETIRE,
+        );
     }
-    if place < 17 {
-        return push_step(control, regions, task, class, Push::Back, place - 14);
+    if place < places::PUSH_RELEASE {
+        return push_step(
+            control,
+            regions,
+            task,
+            class,
+            Push::Back,
+            place - places::PUSH_BACK,
+        );
     }
-    if place < 20 {
-        return push_step(control, regions, task, class, Push::Release, place - 17);
+    if place < places::PUSH_OFFER {
+        return push_step(
+            control,
+            regions,
+            task,
+            class,
+            Push::Release,
+            place - places::PUSH_RELEASE,
+        );
     }
-    push_step(control, regions, task, class, Push::Offer, place - 20)
+    push_step(
+        control,
+        regions,
+        task,
+        class,
+        Push::Offer,
+        place - places::PUSH_OFFER,
+    )
 }

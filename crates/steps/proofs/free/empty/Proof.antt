@@ -1,6 +1,7 @@
--- The function that is called does the step at the place. Assumes nothing.
+-- The function that is called does the step at the place.
 use mathlib.Core.Path.{refl}
 use native.Mathlib.Omega.{arith}
+use Rattle.control.specs.Places.{F2, F3-READ, F3-LINK, F3-EXCHANGE, F4-CLEAR}
 use Rattle.stepped.proofs.Doing.{done-in, does-in, lends}
 use Rattle.steps.proofs.Places.{at, past-places}
 use borrow.Author.Needs.{needs}
@@ -8,19 +9,19 @@ use Rattle.steps.proofs.free.empty.Statement.{statement}
 use Rattle.steps.proofs.free.empty.Tie as tie
 
 returns : tie.Need-returns
-returns c = does-in (at _ _ _ _ _ 29 refl (omega arith)) (c .before .before .before .before .take .ensures)
+returns c = does-in (at _ _ _ _ _ F2 refl (omega arith)) (c .before .before .before .before .take .ensures)
 
 returns-2 : tie.Need-returns-2
-returns-2 c = does-in (at _ _ _ _ _ 30 refl (omega arith)) (lends (c .before .before .read .ensures _))
+returns-2 c = does-in (at _ _ _ _ _ F3-READ refl (omega arith)) (lends (c .before .before .read .ensures _))
 
 returns-3 : tie.Need-returns-3
-returns-3 c = does-in (at _ _ _ _ _ 31 refl (omega arith)) (c .before .before .before .before .write-last .ensures)
+returns-3 c = does-in (at _ _ _ _ _ F3-LINK refl (omega arith)) (c .before .before .before .before .write-last .ensures)
 
 returns-4 : tie.Need-returns-4
-returns-4 c = does-in (at _ _ _ _ _ 32 refl (omega arith)) (lends (c .before .before .exchange .ensures _))
+returns-4 c = does-in (at _ _ _ _ _ F3-EXCHANGE refl (omega arith)) (lends (c .before .before .exchange .ensures _))
 
 returns-5 : tie.Need-returns-5
-returns-5 c = does-in (at _ _ _ _ _ 33 refl (omega arith)) (lends (c .before .before .clear .ensures _))
+returns-5 c = does-in (at _ _ _ _ _ F4-CLEAR refl (omega arith)) (lends (c .before .before .clear .ensures _))
 
 returns-6 : tie.Need-returns-6
 returns-6 c = done-in (past-places _ _ _ _ _ (omega arith)) refl (cc) (cc)

@@ -1,4 +1,4 @@
--- The place is one of the three of the move. Assumes nothing.
+-- The place is one of the three of the move.
 use native.Mathlib.Omega.{arith}
 use Rattle.stepped.proofs.Doing.{does}
 use Rattle.steps.proofs.Places.{same}

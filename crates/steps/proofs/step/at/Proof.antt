@@ -1,6 +1,7 @@
--- The function that is called does the step at the place, and its answer becomes the number. Assumes nothing.
+-- The function that is called does the step at the place, and its answer becomes the number.
 use mathlib.Core.Path.{refl}
 use native.Mathlib.Omega.{arith}
+use Rattle.control.specs.Places.{A1, F1}
 use Rattle.stepped.proofs.Doing.{does-in, lends, numbers}
 use Rattle.steps.proofs.Places.{at}
 use borrow.Author.Needs.{needs}
@@ -9,13 +10,13 @@ use Rattle.steps.proofs.step.at.Tie as tie
 
 returns : tie.Need-returns
 returns c =
-    numbers (does-in (at _ _ _ _ _ 1 refl (omega arith)) (lends (c .before .before .before .take .ensures)))
+    numbers (does-in (at _ _ _ _ _ A1 refl (omega arith)) (lends (c .before .before .before .take .ensures)))
     (c .number .ensures)
 
 returns-2 : tie.Need-returns-2
 returns-2 c =
     numbers
-    (does-in (at _ _ _ _ _ 28 refl (omega arith)) (c .before .before .before .before .before .put .ensures))
+    (does-in (at _ _ _ _ _ F1 refl (omega arith)) (c .before .before .before .before .before .put .ensures))
     (c .number2 .ensures)
 
 returns-3 : tie.Need-returns-3

@@ -1,4 +1,4 @@
--- The function that is called does the step at the place. Assumes nothing.
+-- The function that is called does the step at the place.
 use Rattle.stepped.proofs.Doing.{lends}
 use borrow.Author.Needs.{needs}
 use Rattle.steps.proofs.step.later.Statement.{statement}

@@ -1,4 +1,4 @@
--- The tests of a step, then the step at the place. Assumes nothing.
+-- The tests of a step, then the step at the place.
 use mathlib.Core.Path.{refl}
 use native.Mathlib.Omega.{arith}
 use Rattle.stepped.proofs.Doing.{done-in, numbers, numbers-in}
