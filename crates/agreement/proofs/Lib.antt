@@ -61,5 +61,6 @@ pub mod TaskLists
 pub mod InRange
 pub mod Runs
 pub mod Example
+pub mod Undisturbed
 pub mod Bench
 pub mod Computed
