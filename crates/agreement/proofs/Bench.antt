@@ -1,26 +1,41 @@
 -- The starred rows of the bench table, as one statement over the table.
--- Assumes nothing.
-use mathlib.Core.Path.{_≡_, refl, sym, ap, subst, _∙_}
+use mathlib.Core.Path.{_≡_, refl, ap, _∙_}
+use mathlib.Core.Bool.{Bool, true, false, cond}
 use mathlib.Core.List.{List, [], _∷_, _++_, map}
-use Prim.Native.Nat.{ℕ, zero, suc, _+_, _≤_}
+use Prim.Native.Nat.{ℕ, zero, suc, _+_, _-_, _/_, _≤_, _<_}
 use native.Mathlib.Omega.{arith}
-use native.Mathlib.Decide.{ℕ-discrete, decLt, decLe}
+use native.Mathlib.Decide.{ℕ-discrete, decLt}
+use borrow.Author.Tests.{eq-eqb, ne-eqb, lt-ltb, le-ltb}
+use lib.Dec.{eqb, ltb}
 use lib.ListN.{length, replicate, length-replicate, drop}
-use Rattle.rows.specs.Branch.{both}
-use Rattle.rows.specs.Update.{update}
+use Rattle.rows.specs.Branch.{if}
+use Rattle.rows.proofs.Branch.{if-yes, if-no}
+use Rattle.rows.proofs.Update.{update-same}
+use Rattle.fields.specs.Columns.{View, _:=_, assigned}
 use Rattle.words.specs.Head.{word, tagOf, nextTag, advancedWord}
 use Rattle.words.specs.Anchor.{EMPTY, PARTIAL, full, returned}
-use Rattle.classes.specs.Classes.{units, perRegion}
+use Rattle.classes.specs.Classes.{units, block, perRegion}
 use Rattle.classes.specs.Sizes.{classOf, choice}
+use Rattle.classes.specs.Places.{unitOf}
+use Rattle.classes.specs.declared.size.Choice.the-variants.{Class, Refused}
 use Rattle.classes.proofs.Bench.{Shown, bytes, number, shown, sizes, sizes-hold}
-use Rattle.plain.specs.Moves.{Answer}
-use Rattle.plain.specs.Steps.{step}
+use Rattle.classes.proofs.Sizes.{is-class}
+use Rattle.classes.proofs.Tables.{perRegion-high}
+use Rattle.plain.specs.State.{a1, Mem, setTask, SPARES, REGIONS}
+use Rattle.plain.specs.Held.{classAt}
+use Rattle.plain.specs.Moves.{nothing, going, refused}
+use Rattle.plain.specs.Steps.{Result, step}
 use Rattle.plain.specs.Calls.{Pool, startMem, rising, unstarted, call}
 use Rattle.plain.specs.Calls as Plain
-use Rattle.stepped.specs.Outcome.{Memories}
-use Rattle.agreement.specs.Events.{Event, start, allocate, go, Premises}
-use Rattle.agreement.specs.Events.{Unstarted}
-use Rattle.agreement.proofs.Runs.{steppedAnswers, wholeAnswers, answered, Writes, short}
+use Rattle.plain.proofs.Places.{taskOf}
+use Rattle.control.specs.Layout.{TaskPlace, TaskClass}
+use Rattle.control.specs.Answers.{codeOf}
+use Rattle.stepped.specs.Outcome.{Memories, Outcome, refuse, accept}
+use Rattle.stepped.specs.Calls as Stepped
+use Rattle.agreement.specs.Events.{Event, start, allocate, go, whole, Taken, Premises}
+use Rattle.agreement.proofs.Simulation.{taken-is}
+use Rattle.agreement.proofs.Undisturbed.{brief, finishing, taskAnswers, Finishes, told, opens}
+use Rattle.agreement.proofs.Runs.{steppedAnswers, wholeAnswers, answered-from-start, Writes, short}
 
 -- ---- the table
 
@@ -52,25 +67,34 @@ table =
 
 -- ---- what a row says
 
--- a start with one task, an allocation of the size begun, and n steps of it
-abbrev pub allocating : List ℕ → ℕ → ℕ → List Event
-allocating area size n = start 8192 area 1 ∷ allocate 8192 4096 0 size ∷ replicate n (go 8192 4096 0)
+-- What the beginning of an allocation shows: the block of its class where the code is 0, else the number that refuses it.
+abbrev pub begins : (code class : ℕ) → Shown
+begins code class = cond (eqb code 0) (bytes (block class)) (number code)
 
--- a code and a value
-abbrev pub brief : Answer → ℕ × ℕ
-brief a = (a .code, a .value)
+-- in the stepped pool, by its answer and the class that it writes
+abbrev pub steppedBegins : View → ℕ → Outcome → Shown
+steppedBegins v t o = begins (codeOf (o .answer)) (assigned (o .writes) v (TaskClass t))
 
--- The start, the beginning and all of the n steps but the last are code 0 with value 0; the last finishes with the unit.
-abbrev pub finishing : ℕ → ℕ → List (ℕ × ℕ)
-finishing n unit = replicate (suc n) (0, 0) ++ ((20, unit) ∷ [])
+-- in the plain pool, by its answer and the class of the task's request
+abbrev pub plainBegins : ℕ → Result → Shown
+plainBegins t y = begins (y .1 .code) (classAt (y .0 .task t .place))
 
--- On the bytes: of first allocations, in every control memory that is not started and every area of one region; of tags, in
--- every head word and with every item put on top; of groups, with every first block.
+-- a start with so many tasks, an allocation of the size begun by the task t, and n steps of it
+abbrev pub allocating : (area : List ℕ) (tasks t size n : ℕ) → List Event
+allocating area tasks t size n =
+    start 8192 area tasks ∷ allocate 8192 (length area) t size ∷ replicate n (go 8192 (length area) t)
+
+-- Of sizes, in both pools, whatever they hold, and of every task. Of first allocations, on the bytes: after every accepted start,
+-- whatever bytes the memories held before, and of each of its tasks; the start, the beginning and all of the n steps but the last
+-- are code 0 with value 0, and the last finishes with the unit. Of tags, in every head word and with every item put on top; of
+-- groups, with every first block.
 abbrev pub Holds : Row → Type 0
-Holds (of-size s x) = shown (choice s) ≡ x
+Holds (of-size s x) =
+    (t : ℕ) (v : View) (m : Mem)
+    → (steppedBegins v t (Stepped.beginAllocate t s) ≡ x) × (plainBegins t (Plain.beginAllocate t s m) ≡ x)
 Holds (first-allocation s n unit) =
-    (area : List ℕ) (s₁ : Memories) → length area ≡ 4096 → Unstarted s₁
-    → map brief (steppedAnswers (allocating area s n) s₁) ≡ finishing n unit
+    (area : List ℕ) (tasks t : ℕ) (before : Memories) → Plain.Area (length area) → Plain.Tasks tasks → t < tasks
+    → map brief (steppedAnswers (allocating area tasks t s n) before) ≡ finishing (suc n) unit
 Holds (tag-won tag next) = (w item : ℕ) → tagOf w ≡ tag → advancedWord w item ≡ word item next
 Holds (group-returned n g state count) =
     (first : ℕ) → returned (full n) first g n ≡ record { state = state; avail = first; count = count }
@@ -81,11 +105,37 @@ Every (r ∷ q) = Holds r × Every q
 
 -- ---- sizes
 
+stepped-size : (s t : ℕ) (v : View) → steppedBegins v t (Stepped.beginAllocate t s) ≡ shown (choice s)
+unfolding Stepped.beginAllocate choice
+stepped-size s t v = by (eqb s 0) (ltb 256 s)
+  where
+    by : (a b : Bool)
+        → steppedBegins v t (cond a (refuse 8) (cond b (refuse 9)
+        (accept nothing (TaskPlace t := 1 ∷ TaskClass t := classOf s ∷ []) [])))
+        ≡ shown (cond a (Refused 8) (cond b (Refused 9) (Class (classOf s))))
+    by true b = refl
+    by false true = refl
+    by false false = rw (eq-eqb t t refl)
+
+plain-size : (s t : ℕ) (m : Mem) → plainBegins t (Plain.beginAllocate t s m) ≡ shown (choice s)
+unfolding choice
+plain-size s t m = by (ℕ-discrete s 0) (decLt 256 s)
+  where
+    by : (a : Dec (s ≡ 0)) (b : Dec (256 < s))
+        → plainBegins t (if a (m, refused 8) (if b (m, refused 9) (setTask t (taskOf (a1 (classOf s)) (m .task t .cache)) m, going nothing)))
+        ≡ shown (choice s)
+    by (yes e) b = rw (eq-eqb s 0 e)
+    by (no e) (yes l) = rw (ne-eqb s 0 e, lt-ltb 256 s l)
+    by (no e) (no l) =
+        rw (ne-eqb s 0 e, le-ltb 256 s (omega arith), update-same (m .task) t (taskOf (a1 (classOf s)) (m .task t .cache)))
+
 -- a list of sizes that are shown as they should be
 each : (q : List (ℕ × Shown)) → map (λ r. shown (choice (r .0))) q ≡ map (λ r. r .1) q
     → Every (map (λ r. of-size (r .0) (r .1)) q)
 each [] h = tt
-each (r ∷ q) h = (cc, each q (cc))
+each (r ∷ q) h =
+    let e : shown (choice (r .0)) ≡ r .1 = cc in
+    (λ t v m. (stepped-size (r .0) t v ∙ e, plain-size (r .0) t m ∙ e), each q (cc))
 
 join : (p q : List Row) → Every p → Every q → Every (p ++ q)
 join [] q h k = k
@@ -93,38 +143,99 @@ join (r ∷ p) q h k = (h .0, join p q (h .1) k)
 
 -- ---- first allocations
 
--- a fresh pool of one region
-abbrev fresh : Pool
-fresh = call (Plain.start 8192 4096 1) unstarted .0
+module _ (area : List ℕ) (tasks t : ℕ) (a : Plain.Area (length area)) (T : Plain.Tasks tasks) (l : t < tasks) where
+  abbrev regions : ℕ
+  regions = length area / 4096
 
-no-writes : (n : ℕ) (s : Pool) → Writes (replicate n (go 8192 4096 0)) s
-no-writes zero s = tt
-no-writes (suc n) s = no-writes n _
+  -- the started pool, with what it keeps
+  abbrev pool : Mem → Pool
+  pool m = record { tasks = tasks; regions = regions; mem = m }
 
--- a list of so few events meets the premises: it has no writes
-premises : (area : List ℕ) (size n : ℕ) → n + 2 ≤ 4294967296 → Premises (allocating area size n) unstarted
-unfolding unstarted
-premises area size n l =
-    short 0 (allocating area size n) unstarted (λ h. absurd (omega arith)) (omega (arith, length-replicate n (go 8192 4096 0))) (no-writes n _)
+  passes : (m : Mem) → Taken 8192 (length area) t (pool m)
+  passes m = record { control-is = refl; started = T .0; area-is = omega (arith, a); below = l }
 
--- what the plain pool computes is what the stepped run answers
-carried : (size n unit : ℕ) → n + 2 ≤ 4294967296
-    → map brief (wholeAnswers (allocate 8192 4096 0 size ∷ replicate n (go 8192 4096 0)) fresh) ≡ replicate n (0, 0) ++ ((20, unit) ∷ [])
-    → Holds (first-allocation size n unit)
-unfolding call unstarted ℕ-discrete both decLt decLe
-carried size n unit l h area s₁ e U =
-    ap (map brief) (answered (allocating area size n) s₁ U (premises area size n l))
-    ∙ subst (λ (k : ℕ).
-    map brief (call (Plain.start 8192 k 1) unstarted .1 ∷ wholeAnswers (allocate 8192 4096 0 size ∷ replicate n (go 8192 4096 0)) (call (Plain.start 8192 k 1) unstarted .0))
-    ≡ finishing n unit) (sym e) (ap (λ (q : List (ℕ × ℕ)). (0, 0) ∷ q) h)
+  starts : whole (start 8192 area tasks) unstarted ≡ (pool (startMem regions), going nothing)
+  unfolding call
+  starts =
+      if-yes (ℕ-discrete 8192 8192) _ _ refl ∙ if-yes (Plain.area? (length area)) _ _ a ∙ if-yes (Plain.tasks? tasks) _ _ T
+
+  -- the pool with the allocation begun: no cache has a block
+  abbrev begun : ℕ → Mem
+  begun size = setTask t (taskOf (a1 (classOf size)) (λ c. [])) (startMem regions)
+
+  begins-so : (size : ℕ) → 1 ≤ size → size ≤ 256
+      → whole (allocate 8192 (length area) t size) (pool (startMem regions)) ≡ (pool (begun size), going nothing)
+  unfolding call startMem
+  begins-so size p q =
+      taken-is (Plain.beginAllocate t size (startMem regions)) (passes (startMem regions))
+      ∙ ap (Plain.became (pool (startMem regions)))
+      (if-no (ℕ-discrete size 0) _ _ (λ e. absurd (omega arith)) ∙ if-no (decLt 256 size) _ _ (λ e. absurd (omega arith)))
+
+  -- n steps of the task
+  steps-so : (n : ℕ) (m : Mem) → wholeAnswers (replicate n (go 8192 (length area) t)) (pool m) ≡ taskAnswers t n m
+  unfolding call
+  steps-so zero m = refl
+  steps-so (suc n) m =
+      ap (λ x. x .1 ∷ wholeAnswers (replicate n (go 8192 (length area) t)) (x .0)) (taken-is (step t m) (passes m))
+      ∙ ap (λ q. step t m .1 ∷ q) (steps-so n (step t m .0))
+
+  -- "partial lists empty; both spare lists rising from item 0 on top"
+  unlisted : (c : ℕ) → c < 16 → startMem regions .row c ≡ []
+  unfolding startMem
+  unlisted c i =
+      if-no (ℕ-discrete c SPARES) _ _ (λ e. absurd (omega arith)) ∙ if-no (ℕ-discrete c REGIONS) _ _ (λ e. absurd (omega arith))
+
+  spare-descriptors : startMem regions .row SPARES ≡ 0 ∷ rising 63 1
+  unfolding startMem rising ℕ-discrete
+  spare-descriptors = refl
+
+  spare-regions : startMem regions .row REGIONS ≡ 0 ∷ rising (regions - 1) 1
+  unfolding startMem rising ℕ-discrete
+  spare-regions =
+      let e : regions ≡ suc (regions - 1) = omega (arith, a) in
+      ap (λ n. rising n 0) e
+
+  -- b is the last block of a region
+  finishes : (size b : ℕ) → size ≤ 256 → suc b ≡ perRegion (classOf size)
+      → Finishes t (unitOf 0 (classOf size) b) (b + 10) (begun size)
+  finishes size b q e =
+      opens t (classOf size) (λ c. []) 0 0 b (rising 63 1) (rising (regions - 1) 1) refl (unlisted (classOf size) (is-class size q))
+      spare-descriptors spare-regions e (update-same (startMem regions .task) t (taskOf (a1 (classOf size)) (λ c. [])))
+
+  -- what the plain pool does is what the stepped run answers: so few events meet the premises, for they have no writes
+  carried : (size n unit : ℕ) → 1 ≤ size → size ≤ 256 → n + 3 ≤ 4294967296 → Finishes t unit n (begun size) → (before : Memories)
+      → map brief (steppedAnswers (allocating area tasks t size (suc n)) before) ≡ finishing (suc (suc n)) unit
+  unfolding unstarted
+  carried size n unit p q few F before =
+      let steps = replicate (suc n) (go 8192 (length area) t) in
+      let es = allocate 8192 (length area) t size ∷ steps in
+      let P : Premises (start 8192 area tasks ∷ es) unstarted =
+      short 0 (start 8192 area tasks ∷ es) unstarted (λ h. absurd (omega arith))
+      (omega (arith, length-replicate (suc n) (go 8192 (length area) t))) (no-writes (suc n) _) in
+      ap (map brief) (answered-from-start es before unstarted area tasks a T (P .1))
+      ∙ ap (λ x. map brief (x .1 ∷ wholeAnswers es (x .0))) starts
+      ∙ ap (λ x. (0, 0) ∷ map brief (x .1 ∷ wholeAnswers steps (x .0))) (begins-so size p q)
+      ∙ ap (λ q. (0, 0) ∷ ((0, 0) ∷ map brief q)) (steps-so (suc n) (begun size))
+      ∙ ap (λ q. (0, 0) ∷ ((0, 0) ∷ q)) (told t F)
+    where
+      no-writes : (n : ℕ) (s : Pool) → Writes (replicate n (go 8192 (length area) t)) s
+      no-writes zero s = tt
+      no-writes (suc n) s = no-writes n _
+
+-- The first allocation of a size: it opens region 0 and gives the last of its n blocks, at step n + 10.
+pub first : (size b : ℕ) → 1 ≤ size → size ≤ 256 → suc b ≡ perRegion (classOf size)
+    → Holds (first-allocation size (suc (b + 10)) (unitOf 0 (classOf size) b))
+first size b p q e area tasks t before a T l =
+    carried area tasks t a T l size (b + 10) (unitOf 0 (classOf size) b) p q (omega (arith, perRegion-high (classOf size)))
+    (finishes area tasks t a T l size b q e) before
 
 first-256 : Holds (first-allocation 256 26 480)
-unfolding call step startMem rising units perRegion update ℕ-discrete decLt decLe both unstarted classOf
-first-256 = carried 256 26 480 (omega arith) refl
+unfolding units perRegion classOf
+first-256 = first 256 15 (omega arith) (omega arith) refl
 
 first-8 : Holds (first-allocation 8 522 511)
-unfolding call step startMem rising units perRegion update ℕ-discrete decLt decLe both unstarted classOf
-first-8 = carried 8 522 511 (omega arith) refl
+unfolding units perRegion classOf
+first-8 = first 8 511 (omega arith) (omega arith) refl
 
 -- ---- the statement
 

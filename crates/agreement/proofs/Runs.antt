@@ -19,10 +19,9 @@ use Rattle.plain.specs.Codes.{AtMost}
 use Rattle.plain.proofs.Answers.{most}
 use Rattle.stepped.specs.Outcome.{Memories}
 use Rattle.agreement.specs.Events.{Event, start, allocate, free, go, write, stepped, whole, Recent, Near}
-use Rattle.agreement.specs.Events.{classThere, Premises}
-use Rattle.agreement.specs.Events.{Unstarted}
+use Rattle.agreement.specs.Events.{classThere, Premises, Unstarted}
 use Rattle.agreement.specs.Agreement.{Agree}
-use Rattle.agreement.proofs.Theorem.{agreement}
+use Rattle.agreement.proofs.Theorem.{agreement, agreement-from-start}
 
 -- ---- the answers
 
@@ -46,6 +45,13 @@ same-answers (e ∷ es) s₁ s A =
 pub answered : (es : List Event) (s₁ : Memories) → Unstarted s₁ → Premises es unstarted
     → steppedAnswers es s₁ ≡ wholeAnswers es unstarted
 answered es s₁ U p = same-answers es s₁ unstarted (agreement es s₁ U p)
+
+-- the same from an accepted start on any memories
+pub answered-from-start : (es : List Event) (s₁ : Memories) (s : Pool) (area : List ℕ) (tasks : ℕ) → Plain.Area (length area)
+    → Plain.Tasks tasks → Premises es (whole (start 8192 area tasks) s .0)
+    → steppedAnswers (start 8192 area tasks ∷ es) s₁ ≡ wholeAnswers (start 8192 area tasks ∷ es) s
+answered-from-start es s₁ s area tasks a t p =
+    same-answers (start 8192 area tasks ∷ es) s₁ s (agreement-from-start es s₁ s area tasks a t p)
 
 -- the plain pool after a list of events
 abbrev pub after : List Event → Pool → Pool
