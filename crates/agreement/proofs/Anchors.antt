@@ -1,5 +1,4 @@
 -- Step 3 of allocate, in both pools.
--- Assumes nothing.
 use mathlib.Core.Path.{_≡_, refl, sym, ap, subst, _∙_}
 use mathlib.Core.Bool.{true, _&&_}
 use mathlib.Core.List.{List, [], _∷_}
@@ -8,6 +7,7 @@ use native.Mathlib.Omega.{arith}
 use borrow.Author.Tests.{eq-eqb, ne-eqb, le-leb, lt-ltb, eqb-true}
 use lib.Dec.{eqb, ltb}
 use lib.ListN.{length}
+use Rattle.limits.specs.Limits.{DESCRIPTORS, MOST-BLOCKS}
 use Rattle.rows.specs.Counting.{count}
 use Rattle.rows.specs.Linked.{Linked, ends}
 use Rattle.rows.specs.Weights.{one}
@@ -37,6 +37,7 @@ use Rattle.plain.proofs.States.{open-holds}
 use Rattle.control.specs.Layout
 use Rattle.control.specs.Layout.{TaskPlace, TaskClass, TaskAnchor, TaskDescriptor, TaskRegion, TaskIndex, TaskLeft}
 use Rattle.control.specs.Layout.{DescriptorRegion}
+use Rattle.control.specs.Places.{PUSH-RETIRE, A3-READ, A3-EXCHANGE, A4}
 use Rattle.stepped.specs.Ranges.{isAnchor, hasChain}
 use Rattle.stepped.specs.Outcome.{accept}
 use Rattle.stepped.specs.Allocate as Allocate
@@ -59,14 +60,14 @@ use Rattle.agreement.proofs.Sharing.{shares}
 module _ {regions : ℕ} {v : View} {area : List ℕ} {m : Mem} {t : ℕ} {p : Place} {k : ℕ → List ℕ}
     (w : At regions v area m t p k) where
   -- the anchor of one of the 64 descriptors is in its ranges
-  pub anchor-tested : (d : ℕ) → d < 64 → isAnchor (v (Layout.Anchor d)) ≡ true
+  pub anchor-tested : (d : ℕ) → d < DESCRIPTORS → isAnchor (v (Layout.Anchor d)) ≡ true
   anchor-tested d l =
       let C = w .pair .rel .core in
       let b = anchorOf (v (Layout.Anchor d)) in
       both-true (both-true
       (le-leb (b .state) 2 (omega (arith, C .descriptors .each d l .state, number-max (m .descriptor d .state))))
-      (le-leb (b .avail) 512 (C .descriptors .avails d l)))
-      (le-leb (b .count) 512 (C .descriptors .chainCounts d l))
+      (le-leb (b .avail) MOST-BLOCKS (C .descriptors .avails d l)))
+      (le-leb (b .count) MOST-BLOCKS (C .descriptors .chainCounts d l))
 
 -- the word of (FULL, n, 0) says so
 pub full-parts : (c : ℕ) → Fields (full (perRegion c))
@@ -94,7 +95,7 @@ module _ {regions : ℕ} {v : View} {area : List ℕ} {m : Mem} {t : ℕ} {k : �
   -- ---- the read
 
   -- the anchor's state is z
-  read-state : At regions v area m t (a3-read (v (TaskClass t)) (v (TaskDescriptor t))) k → v (TaskDescriptor t) < 64
+  read-state : At regions v area m t (a3-read (v (TaskClass t)) (v (TaskDescriptor t))) k → v (TaskDescriptor t) < DESCRIPTORS
       → (z : State) → m .descriptor (v (TaskDescriptor t)) .state ≡ z
       → Both regions v area m (Allocate.a3ReadOf v (link area) regions t (v (TaskClass t)) (v (TaskDescriptor t)))
       (Steps.a3Read t k (v (TaskClass t)) (v (TaskDescriptor t)) z m)
@@ -107,7 +108,7 @@ module _ {regions : ℕ} {v : View} {area : List ℕ} {m : Mem} {t : ℕ} {k : �
       (meet _ (eqb (b .state) 0) (eq-eqb (b .state) 0 (w .pair .rel .core .descriptors .each d l .state ∙ ap numberOf g)) (record {
         says = refl;
         keeps = (refl, refl);
-        rel = goes w (TaskPlace t := 11 ∷ []) (toPlace 11 (slotOf v t)) (pushing (retire c d) read) refl
+        rel = goes w (TaskPlace t := PUSH-RETIRE ∷ []) (toPlace PUSH-RETIRE (slotOf v t)) (pushing (retire c d) read) refl
             (rw (eq-eqb t t refl)) (λ j n. rw (ne-eqb t j n)) refl refl (r-retire (PushRelated.at-read refl));
         sound = omega (arith, w .pair .turn .fits);
         apart = tt;
@@ -138,7 +139,7 @@ module _ {regions : ℕ} {v : View} {area : List ℕ} {m : Mem} {t : ℕ} {k : �
       (pass (hasChain (perRegion c) word) (chain-tested (perRegion c) word st low high first) (record {
         says = refl;
         keeps = (refl, refl);
-        rel = goes w (TaskPlace t := 24 ∷ TaskAnchor t := word ∷ []) (toPlace 24 (toAnchor b (slotOf v t)))
+        rel = goes w (TaskPlace t := A3-EXCHANGE ∷ TaskAnchor t := word ∷ []) (toPlace A3-EXCHANGE (toAnchor b (slotOf v t)))
             (a3-exchange c d (noted E)) refl (rw (eq-eqb t t refl)) (λ j n. rw (ne-eqb t j n)) refl refl
             (r-a3-exchange refl (re-note refl (sym ec) (note-of m d D C L)) st low high first);
         sound = omega (arith, w .pair .turn .fits, w .fitting (Layout.Anchor d) (omega (arith, l)));
@@ -152,7 +153,7 @@ module _ {regions : ℕ} {v : View} {area : List ℕ} {m : Mem} {t : ℕ} {k : �
   a3-read-both w =
       let d = v (TaskDescriptor t) in
       let l = descriptor-in-hand (w .pair .turn) d (omega (arith, when-same d 1)) in
-      pass (ltb d 64) (lt-ltb d 64 l) (read-state w l (m .descriptor d .state) refl)
+      pass (ltb d DESCRIPTORS) (lt-ltb d DESCRIPTORS l) (read-state w l (m .descriptor d .state) refl)
 
   -- ---- the exchange
 
@@ -163,7 +164,7 @@ module _ {regions : ℕ} {v : View} {area : List ℕ} {m : Mem} {t : ℕ} {k : �
       → v (Layout.Anchor (v (TaskDescriptor t))) ≡ v (TaskAnchor t) → AsNoted (m .descriptor (v (TaskDescriptor t))) n
       → Both regions v area m
       (accept (took (v (TaskDescriptor t)))
-      (TaskPlace t := 25
+      (TaskPlace t := A4
       ∷ Layout.Anchor (v (TaskDescriptor t)) := anchorWord (full (perRegion (v (TaskClass t))))
       ∷ TaskRegion t := v (DescriptorRegion (v (TaskDescriptor t)))
       ∷ TaskIndex t := anchorOf (v (TaskAnchor t)) .avail
@@ -184,21 +185,21 @@ module _ {regions : ℕ} {v : View} {area : List ℕ} {m : Mem} {t : ℕ} {k : �
       let D = w .pair .rel .core .descriptors .each d (T .fits) in
       let C : ChainRelated (link area) (anchorOf (v (Layout.Anchor d))) E = open-holds (E .state) (T .counts) (D .chain) in
       let same = anchor-word-same (v (Layout.Anchor d)) (v (TaskAnchor t)) e in
-      let s = toPlace 25 (toChain r (b .avail) (b .count) (slotOf v t)) in
+      let s = toPlace A4 (toChain r (b .avail) (b .count) (slotOf v t)) in
       let lk : Linked (link area) (indexOf c) (perRegion c) (b .avail) (E .chain) =
       subst (λ (z : ℕ). Linked (link area) (indexOf z) (perRegion z) (b .avail) (E .chain)) (sym (T .class))
       (subst (λ (z : ℕ). Linked (link area) (indexOf (E .class)) (perRegion (E .class)) z (E .chain)) (same .0 .1) (C .linked)) in
       let inside : (y : ℕ) → count y (E .chain) ≤ isBlock y r c =
       λ y. omega (arith, T .opened .inside y, ap (λ (z : ℕ). isBlock y z (E .class)) (D .region), ap (isBlock y r) (T .class)) in
       let own = TaskRegion t := r ∷ TaskIndex t := b .avail ∷ TaskLeft t := b .count ∷ [] in
-      let S = slotOf (assigned (TaskPlace t := 25 ∷ own) v) in
+      let S = slotOf (assigned (TaskPlace t := A4 ∷ own) v) in
       has-top (λ q. (Steps.at t k (moving c q) (setDescriptor d (chained E FULL []) m), going (took d))) (E .chain)
       (λ i. omega (arith, T .chain, ap length i))
       (λ x q i. record {
         says = refl;
         keeps = (refl, refl);
         rel = shares w
-            (TaskPlace t := 25 ∷ Layout.Anchor d := anchorWord (full (perRegion c)) ∷ own)
+            (TaskPlace t := A4 ∷ Layout.Anchor d := anchorWord (full (perRegion c)) ∷ own)
             s (a4 c x q) (setAnchor d (full (perRegion c)) (memoryOf v area)) (setDescriptor d (chained E FULL []) m)
             (anchoring (w .pair) d (full (perRegion c)) (chained E FULL []) s (taskOf (a4 c x q) k) (T .fits) refl refl refl
             (record { linked = ends (ap perRegion (T .class)); counts = refl }) (perRegion-high c) (omega arith))
@@ -244,8 +245,8 @@ module _ {regions : ℕ} {v : View} {area : List ℕ} {m : Mem} {t : ℕ} {k : �
       λ h. open-holds (E .state) (number-open (E .state) h) (D .chain) in
       let L : 1 ≤ numberOf (E .state) → OpenDescriptor E =
       λ h. open-holds (E .state) (number-open (E .state) h) (w .pair .turn .inv .chains d l) in
-      pass (ltb d 64 && hasChain (perRegion c) word)
-      (both-true (lt-ltb d 64 l) (chain-tested (perRegion c) word st low high first))
+      pass (ltb d DESCRIPTORS && hasChain (perRegion c) word)
+      (both-true (lt-ltb d DESCRIPTORS l) (chain-tested (perRegion c) word st low high first))
       (pass (isAnchor (v (Layout.Anchor d))) (anchor-tested w d l)
       (decide (eqb (v (Layout.Anchor d)) word) (asNoted? E n)
       (λ h.
@@ -261,7 +262,7 @@ module _ {regions : ℕ} {v : View} {area : List ℕ} {m : Mem} {t : ℕ} {k : �
       (λ g h. record {
         says = refl;
         keeps = (refl, refl);
-        rel = goes w (TaskPlace t := 23 ∷ []) (toPlace 23 (slotOf v t)) (a3-read c d) refl
+        rel = goes w (TaskPlace t := A3-READ ∷ []) (toPlace A3-READ (slotOf v t)) (a3-read c d) refl
             (rw (eq-eqb t t refl)) (λ j n. rw (ne-eqb t j n)) refl refl (r-a3-read refl);
         sound = omega (arith, w .pair .turn .fits);
         apart = tt;

@@ -1,5 +1,4 @@
 -- The beginnings of requests, in both pools.
--- Assumes nothing.
 use mathlib.Core.Path.{_≡_, refl, sym, ap, subst, _∙_}
 use mathlib.Core.Bool.{true, cond}
 use mathlib.Core.List.{List, [], _∷_}
@@ -9,6 +8,7 @@ use native.Mathlib.Numerals.{sub-one}
 use native.Mathlib.Decide.{ℕ-discrete, decLt}
 use borrow.Author.Tests.{eq-eqb, ne-eqb, le-leb, lt-ltb, eqb-true, eqb-false, ltb-true}
 use lib.Dec.{eqb, ltb}
+use Rattle.limits.specs.Limits.{REGION-UNITS, CLASSES, DESCRIPTORS, MOST-BLOCKS, MOST-BYTES}
 use Rattle.rows.specs.Branch.{if, both}
 use Rattle.fields.specs.Columns.{View, Write, _:=_, assigned}
 use Rattle.links.specs.Link.{link}
@@ -27,6 +27,8 @@ use Rattle.plain.specs.Invariant.{Invariant}
 use Rattle.plain.proofs.Homes.{inside-open}
 use Rattle.plain.proofs.Places.{taskOf}
 use Rattle.control.specs.Layout.{Anchor, Marks, TaskUnit, TaskPlace, TaskClass, DescriptorRegion, DescriptorClass}
+use Rattle.control.specs.Places.{IDLE, A1, A3-READ, A3-EXCHANGE, A4, A7, A8, F1, F2, F3-READ, F3-LINK, F3-EXCHANGE}
+use Rattle.control.specs.Places.{F4-CLEAR, PLACES}
 use Rattle.stepped.specs.Outcome.{Outcome, refuse}
 use Rattle.stepped.specs.Ranges.{isAnchor}
 use Rattle.stepped.specs.Calls as Stepped
@@ -53,17 +55,17 @@ module _ {regions : ℕ} {v : View} {area : List ℕ} {m : Mem} (R : Related reg
 
   module _ (t : ℕ) (x : Outcome) (y : Result) where
     -- test 6 at a place that is not idle
-    busy : (n : ℕ) → v (TaskPlace t) ≡ n → 1 ≤ n → n < 34 → Both regions v area m (Stepped.whenIdle v t x) (m, refused 6)
+    busy : (n : ℕ) → v (TaskPlace t) ≡ n → 1 ≤ n → n < PLACES → Both regions v area m (Stepped.whenIdle v t x) (m, refused 6)
     unfolding Stepped.whenIdle
-    busy n e l h = rw (lt-ltb (v (TaskPlace t)) 34 (omega arith), ne-eqb (v (TaskPlace t)) 0 (omega arith)) (refusal 6)
+    busy n e l h = rw (lt-ltb (v (TaskPlace t)) PLACES (omega arith), ne-eqb (v (TaskPlace t)) IDLE (omega arith)) (refusal 6)
 
-    pop-busy : {b ℓ items : ℕ} {φ : Rattle.plain.specs.State.Phase} → PopRelated m (slotOf v t) b ℓ items φ → 1 ≤ b → b < 32
+    pop-busy : {b ℓ items : ℕ} {φ : Rattle.plain.specs.State.Phase} → PopRelated m (slotOf v t) b ℓ items φ → 1 ≤ b → b + 2 < PLACES
         → Both regions v area m (Stepped.whenIdle v t x) (m, refused 6)
     pop-busy {b} (PopRelated.at-read e) l h = busy b e l (omega arith)
     pop-busy {b} (PopRelated.at-next e N i j) l h = busy (b + 1) e (omega arith) (omega arith)
     pop-busy {b} (PopRelated.at-exchange e N i j o p) l h = busy (b + 2) e (omega arith) (omega arith)
 
-    push-busy : {b ℓ items z : ℕ} {nx : ℕ → ℕ} {φ : Rattle.plain.specs.State.Phase} → PushRelated m (slotOf v t) b ℓ items z nx φ → 1 ≤ b → b < 32
+    push-busy : {b ℓ items z : ℕ} {nx : ℕ → ℕ} {φ : Rattle.plain.specs.State.Phase} → PushRelated m (slotOf v t) b ℓ items z nx φ → 1 ≤ b → b + 2 < PLACES
         → Both regions v area m (Stepped.whenIdle v t x) (m, refused 6)
     push-busy {b} (PushRelated.at-read e) l h = busy b e l (omega arith)
     push-busy {b} (PushRelated.at-next e N i) l h = busy (b + 1) e (omega arith) (omega arith)
@@ -73,8 +75,8 @@ module _ {regions : ℕ} {v : View} {area : List ℕ} {m : Mem} (R : Related reg
     pub when-idle : (p : Place) → PlaceRelated regions (memoryOf v area) m (slotOf v t) p → (p ≡ idle → Both regions v area m x y)
         → Both regions v area m (Stepped.whenIdle v t x) (Plain.whenIdle p y m)
     unfolding Stepped.whenIdle
-    when-idle p (r-idle e) h = rw (lt-ltb (v (TaskPlace t)) 34 (omega arith), eq-eqb (v (TaskPlace t)) 0 e) (h refl)
-    when-idle p (r-a1 e) h = busy 1 e (omega arith) (omega arith)
+    when-idle p (r-idle e) h = rw (lt-ltb (v (TaskPlace t)) PLACES (omega arith), eq-eqb (v (TaskPlace t)) IDLE e) (h refl)
+    when-idle p (r-a1 e) h = busy A1 e (omega arith) (omega arith)
     when-idle p (r-partial e) h = pop-busy e (omega arith) (omega arith)
     when-idle p (r-spare e) h = pop-busy e (omega arith) (omega arith)
     when-idle p (r-region e) h = pop-busy e (omega arith) (omega arith)
@@ -82,18 +84,18 @@ module _ {regions : ℕ} {v : View} {area : List ℕ} {m : Mem} (R : Related reg
     when-idle p (r-back e) h = push-busy e (omega arith) (omega arith)
     when-idle p (r-release i e) h = push-busy e (omega arith) (omega arith)
     when-idle p (r-offer e) h = push-busy e (omega arith) (omega arith)
-    when-idle p (r-a3-read e) h = busy 23 e (omega arith) (omega arith)
-    when-idle p (r-a3-exchange e N i j k l) h = busy 24 e (omega arith) (omega arith)
-    when-idle p (r-a4 e l n i) h = busy 25 e (omega arith) (omega arith)
-    when-idle p (r-a7 e) h = busy 26 e (omega arith) (omega arith)
-    when-idle p (r-a8 e) h = busy 27 e (omega arith) (omega arith)
-    when-idle p (r-f1 e) h = busy 28 e (omega arith) (omega arith)
-    when-idle p (r-f2 e z) h = busy 29 e (omega arith) (omega arith)
-    when-idle p (r-f2-more e G) h = busy 29 e (omega arith) (omega arith)
-    when-idle p (r-f3-read e G) h = busy 30 e (omega arith) (omega arith)
-    when-idle p (r-f3-link e G N l) h = busy 31 e (omega arith) (omega arith)
-    when-idle p (r-f3-exchange e G N l i) h = busy 32 e (omega arith) (omega arith)
-    when-idle p (r-f4-clear e i) h = busy 33 e (omega arith) (omega arith)
+    when-idle p (r-a3-read e) h = busy A3-READ e (omega arith) (omega arith)
+    when-idle p (r-a3-exchange e N i j k l) h = busy A3-EXCHANGE e (omega arith) (omega arith)
+    when-idle p (r-a4 e l n i) h = busy A4 e (omega arith) (omega arith)
+    when-idle p (r-a7 e) h = busy A7 e (omega arith) (omega arith)
+    when-idle p (r-a8 e) h = busy A8 e (omega arith) (omega arith)
+    when-idle p (r-f1 e) h = busy F1 e (omega arith) (omega arith)
+    when-idle p (r-f2 e z) h = busy F2 e (omega arith) (omega arith)
+    when-idle p (r-f2-more e G) h = busy F2 e (omega arith) (omega arith)
+    when-idle p (r-f3-read e G) h = busy F3-READ e (omega arith) (omega arith)
+    when-idle p (r-f3-link e G N l) h = busy F3-LINK e (omega arith) (omega arith)
+    when-idle p (r-f3-exchange e G N l i) h = busy F3-EXCHANGE e (omega arith) (omega arith)
+    when-idle p (r-f4-clear e i) h = busy F4-CLEAR e (omega arith) (omega arith)
 
 -- ---- an idle task begins a request
 
@@ -102,7 +104,7 @@ module _ {regions : ℕ} {v : View} {area : List ℕ} {m : Mem} {t : ℕ} {k : �
   R = w .pair .rel
 
   -- a task's part with its caches as they were, and another class
-  begun : (a′ : Memory) (m′ : Mem) (s : Slot) (p : Place) → a′ .area ≡ area → s .class < 16 → s .caches ≡ slotOf v t .caches
+  begun : (a′ : Memory) (m′ : Mem) (s : Slot) (p : Place) → a′ .area ≡ area → s .class < CLASSES → s .caches ≡ slotOf v t .caches
       → PlaceRelated regions a′ m′ s p → SlotRelated regions a′ m′ s (taskOf p k)
   begun a′ m′ s p e f g pl = record {
     fits = f;
@@ -116,11 +118,11 @@ module _ {regions : ℕ} {v : View} {area : List ℕ} {m : Mem} {t : ℕ} {k : �
   unfolding Stepped.beginAllocate
   allocate-both size =
       decide (eqb size 0) (ℕ-discrete size 0) (eqb-true size 0) (eq-eqb size 0) (λ e f. refusal R 8)
-      (λ e f. decide (ltb 256 size) (decLt 256 size) (ltb-true 256 size) (lt-ltb 256 size) (λ g h. refusal R 9)
+      (λ e f. decide (ltb MOST-BYTES size) (decLt MOST-BYTES size) (ltb-true MOST-BYTES size) (lt-ltb MOST-BYTES size) (λ g h. refusal R 9)
       (λ g h.
-      let l : classOf size < 16 = is-class size (omega arith) in
-      let s = toRequest 1 (classOf size) (v (TaskUnit t)) (slotOf v t) in
-      let ws = TaskPlace t := 1 ∷ TaskClass t := classOf size ∷ [] in
+      let l : classOf size < CLASSES = is-class size (omega arith) in
+      let s = toRequest A1 (classOf size) (v (TaskUnit t)) (slotOf v t) in
+      let ws = TaskPlace t := A1 ∷ TaskClass t := classOf size ∷ [] in
       record {
         says = refl;
         rel = subst (λ (z : Memory). Related regions z (setTask t (record { place = a1 (classOf size); cache = m .task t .cache }) m))
@@ -152,13 +154,13 @@ numbered FULL h = omega arith
 first-same : (c u : ℕ) → isFirst c u ≡ true → Plain.First c u
 unfolding isFirst
 first-same c u e = (
-  eqb-true (u % 512 % units c) 0 (left-true (eqb (u % 512 % units c) 0) (ltb (indexOf c u) (perRegion c)) e),
-  ltb-true (indexOf c u) (perRegion c) (right-true (eqb (u % 512 % units c) 0) (ltb (indexOf c u) (perRegion c)) e),
+  eqb-true (u % REGION-UNITS % units c) 0 (left-true (eqb (u % REGION-UNITS % units c) 0) (ltb (indexOf c u) (perRegion c)) e),
+  ltb-true (indexOf c u) (perRegion c) (right-true (eqb (u % REGION-UNITS % units c) 0) (ltb (indexOf c u) (perRegion c)) e),
 )
 
 same-first : (c u : ℕ) → Plain.First c u → isFirst c u ≡ true
 unfolding isFirst
-same-first c u p = both-true (eq-eqb (u % 512 % units c) 0 (p .0)) (lt-ltb (indexOf c u) (perRegion c) (p .1))
+same-first c u p = both-true (eq-eqb (u % REGION-UNITS % units c) 0 (p .0)) (lt-ltb (indexOf c u) (perRegion c) (p .1))
 
 module _ {regions : ℕ} {v : View} {area : List ℕ} {m : Mem} {t : ℕ} {k : ℕ → List ℕ} (w : At regions v area m t idle k) (u : ℕ)
     (inside : regionOf u < regions) where
@@ -175,7 +177,7 @@ module _ {regions : ℕ} {v : View} {area : List ℕ} {m : Mem} {t : ℕ} {k : �
   ten (no p) y n = refusal (R w) 10
 
   -- "11 such a unit, but its mark is clear"; else the mark is cleared
-  marked : (c : ℕ) → c < 16 → (e : Dec (m .hands u ≡ 0)) → Both regions v area m (Stepped.freeMarked v t u c) (if e (m, refused 11) (freed c))
+  marked : (c : ℕ) → c < CLASSES → (e : Dec (m .hands u ≡ 0)) → Both regions v area m (Stepped.freeMarked v t u c) (if e (m, refused 11) (freed c))
   unfolding Stepped.freeMarked
   marked c l (yes e) = rw (ne-eqb (bitAt (v (Marks (u / 64))) (u % 64)) 1 (λ i. omega (arith, mark))) (refusal (R w) 11)
     where
@@ -201,16 +203,16 @@ module _ {regions : ℕ} {v : View} {area : List ℕ} {m : Mem} {t : ℕ} {k : �
       one = omega (arith, I .blocks u, inside-open I u)
 
       ws : List Write
-      ws = TaskPlace t := 28 ∷ TaskClass t := c ∷ TaskUnit t := u ∷ Marks (u / 64) := withClear (v (Marks (u / 64))) (u % 64) ∷ []
+      ws = TaskPlace t := F1 ∷ TaskClass t := c ∷ TaskUnit t := u ∷ Marks (u / 64) := withClear (v (Marks (u / 64))) (u % 64) ∷ []
 
       s : Slot
-      s = toRequest 28 c u (slotOf v t)
+      s = toRequest F1 c u (slotOf v t)
 
       cache-is : m .task t .cache ≡ k
       cache-is = ap (λ (T : Task). T .cache) (w .pair .turn .is)
 
   -- the descriptor d, which the map names for the region, opens it or not; then its class and the unit
-  opened : (d : ℕ) → d < 64 → Both regions v area m (Stepped.freeBy v regions t u d) (Plain.freeIn (m .descriptor d) t u m)
+  opened : (d : ℕ) → d < DESCRIPTORS → Both regions v area m (Stepped.freeBy v regions t u d) (Plain.freeIn (m .descriptor d) t u m)
   unfolding Stepped.freeBy Stepped.freeOpen
   opened d l =
       let D = R w .core .descriptors .each d l in
@@ -220,13 +222,13 @@ module _ {regions : ℕ} {v : View} {area : List ℕ} {m : Mem} {t : ℕ} {k : �
       (choose (eqb (v (DescriptorRegion d)) (regionOf u))
       (λ e.
       pass (isAnchor (v (Anchor d)))
-      (both-true (both-true (le-leb (anchorOf (v (Anchor d)) .state) 2 (omega (arith, D .state, number-max (m .descriptor d .state)))) (le-leb (anchorOf (v (Anchor d)) .avail) 512 (R w .core .descriptors .avails d l)))
-      (le-leb (anchorOf (v (Anchor d)) .count) 512 (R w .core .descriptors .chainCounts d l)))
+      (both-true (both-true (le-leb (anchorOf (v (Anchor d)) .state) 2 (omega (arith, D .state, number-max (m .descriptor d .state)))) (le-leb (anchorOf (v (Anchor d)) .avail) MOST-BLOCKS (R w .core .descriptors .avails d l)))
+      (le-leb (anchorOf (v (Anchor d)) .count) MOST-BLOCKS (R w .core .descriptors .chainCounts d l)))
       (choose (eqb (anchorOf (v (Anchor d)) .state) 0)
       (λ z. ten test _ (λ p. absurd (omega (arith, eqb-true (anchorOf (v (Anchor d)) .state) 0 z, D .state, numbered (m .descriptor d .state) (p .0 .1)))))
       (λ z.
       let live : Plain.NotEmpty (m .descriptor d .state) = notEmpty (m .descriptor d .state) (omega (arith, eqb-false (anchorOf (v (Anchor d)) .state) 0 z, D .state)) in
-      pass (ltb (v (DescriptorClass d)) 16) (lt-ltb (v (DescriptorClass d)) 16 (R w .core .descriptors .classNumbers d l))
+      pass (ltb (v (DescriptorClass d)) CLASSES) (lt-ltb (v (DescriptorClass d)) CLASSES (R w .core .descriptors .classNumbers d l))
       (subst (λ (c : ℕ). Both regions v area m (cond (isFirst c u) (Stepped.freeMarked v t u c) (refuse 10)) (Plain.freeIn (m .descriptor d) t u m)) (sym (D .class))
       (decide (isFirst (m .descriptor d .class) u) test
       (λ f. ((sym (D .region) ∙ eqb-true (v (DescriptorRegion d)) (regionOf u) e, live), first-same (m .descriptor d .class) u f))
@@ -236,11 +238,11 @@ module _ {regions : ℕ} {v : View} {area : List ℕ} {m : Mem} {t : ℕ} {k : �
       (λ e. ten test _ (λ p. absurd (eqb-false (v (DescriptorRegion d)) (regionOf u) e (D .region ∙ p .0 .0)))))
 
   -- the map's entry
-  entry : (z : ℕ) → z ≤ 64 → Both regions v area m (Stepped.freeEntry v regions t u z) (Plain.freeBy z t u m)
+  entry : (z : ℕ) → z ≤ DESCRIPTORS → Both regions v area m (Stepped.freeEntry v regions t u z) (Plain.freeBy z t u m)
   unfolding Stepped.freeEntry
   entry zero l = refusal (R w) 10
   entry (suc d) l =
-      rw (ne-eqb (suc d) 0 (omega arith), le-leb (suc d) 64 l, sub-one)
+      rw (ne-eqb (suc d) 0 (omega arith), le-leb (suc d) DESCRIPTORS l, sub-one)
       (opened d l)
 
 -- "10 not the first unit of a block of an open region"

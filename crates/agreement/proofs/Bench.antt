@@ -8,6 +8,7 @@ use native.Mathlib.Decide.{ℕ-discrete, decLt}
 use borrow.Author.Tests.{eq-eqb, ne-eqb, lt-ltb, le-ltb}
 use lib.Dec.{eqb, ltb}
 use lib.ListN.{length, replicate, length-replicate, drop}
+use Rattle.limits.specs.Limits.{CONTROL-BYTES, REGION-BYTES, CLASSES, DESCRIPTORS, MOST-BYTES, TAGS, SPARE-DESCRIPTORS, SPARE-REGIONS}
 use Rattle.rows.specs.Branch.{if}
 use Rattle.rows.proofs.Branch.{if-yes, if-no}
 use Rattle.rows.proofs.Update.{update-same}
@@ -21,7 +22,7 @@ use Rattle.classes.specs.declared.size.Choice.the-variants.{Class, Refused}
 use Rattle.classes.proofs.Bench.{Shown, bytes, number, shown, sizes, sizes-hold}
 use Rattle.classes.proofs.Sizes.{is-class}
 use Rattle.classes.proofs.Tables.{perRegion-high}
-use Rattle.plain.specs.State.{a1, Mem, setTask, SPARES, REGIONS}
+use Rattle.plain.specs.State.{a1, Mem, setTask}
 use Rattle.plain.specs.Held.{classAt}
 use Rattle.plain.specs.Moves.{nothing, going, refused}
 use Rattle.plain.specs.Steps.{Result, step}
@@ -29,6 +30,7 @@ use Rattle.plain.specs.Calls.{Pool, startMem, rising, unstarted, call}
 use Rattle.plain.specs.Calls as Plain
 use Rattle.plain.proofs.Places.{taskOf}
 use Rattle.control.specs.Layout.{TaskPlace, TaskClass}
+use Rattle.control.specs.Places.{A1}
 use Rattle.control.specs.Answers.{codeOf}
 use Rattle.stepped.specs.Outcome.{Memories, Outcome, refuse, accept}
 use Rattle.stepped.specs.Calls as Stepped
@@ -82,7 +84,7 @@ plainBegins t y = begins (y .1 .code) (classAt (y .0 .task t .place))
 -- a start with so many tasks, an allocation of the size begun by the task t, and n steps of it
 abbrev pub allocating : (area : List ℕ) (tasks t size n : ℕ) → List Event
 allocating area tasks t size n =
-    start 8192 area tasks ∷ allocate 8192 (length area) t size ∷ replicate n (go 8192 (length area) t)
+    start CONTROL-BYTES area tasks ∷ allocate CONTROL-BYTES (length area) t size ∷ replicate n (go CONTROL-BYTES (length area) t)
 
 -- Of sizes, in both pools, whatever they hold, and of every task. Of first allocations, on the bytes: after every accepted start,
 -- whatever bytes the memories held before, and of each of its tasks; the start, the beginning and all of the n steps but the last
@@ -107,11 +109,11 @@ Every (r ∷ q) = Holds r × Every q
 
 stepped-size : (s t : ℕ) (v : View) → steppedBegins v t (Stepped.beginAllocate t s) ≡ shown (choice s)
 unfolding Stepped.beginAllocate choice
-stepped-size s t v = by (eqb s 0) (ltb 256 s)
+stepped-size s t v = by (eqb s 0) (ltb MOST-BYTES s)
   where
     by : (a b : Bool)
         → steppedBegins v t (cond a (refuse 8) (cond b (refuse 9)
-        (accept nothing (TaskPlace t := 1 ∷ TaskClass t := classOf s ∷ []) [])))
+        (accept nothing (TaskPlace t := A1 ∷ TaskClass t := classOf s ∷ []) [])))
         ≡ shown (cond a (Refused 8) (cond b (Refused 9) (Class (classOf s))))
     by true b = refl
     by false true = refl
@@ -119,15 +121,15 @@ stepped-size s t v = by (eqb s 0) (ltb 256 s)
 
 plain-size : (s t : ℕ) (m : Mem) → plainBegins t (Plain.beginAllocate t s m) ≡ shown (choice s)
 unfolding choice
-plain-size s t m = by (ℕ-discrete s 0) (decLt 256 s)
+plain-size s t m = by (ℕ-discrete s 0) (decLt MOST-BYTES s)
   where
-    by : (a : Dec (s ≡ 0)) (b : Dec (256 < s))
+    by : (a : Dec (s ≡ 0)) (b : Dec (MOST-BYTES < s))
         → plainBegins t (if a (m, refused 8) (if b (m, refused 9) (setTask t (taskOf (a1 (classOf s)) (m .task t .cache)) m, going nothing)))
         ≡ shown (choice s)
     by (yes e) b = rw (eq-eqb s 0 e)
-    by (no e) (yes l) = rw (ne-eqb s 0 e, lt-ltb 256 s l)
+    by (no e) (yes l) = rw (ne-eqb s 0 e, lt-ltb MOST-BYTES s l)
     by (no e) (no l) =
-        rw (ne-eqb s 0 e, le-ltb 256 s (omega arith), update-same (m .task) t (taskOf (a1 (classOf s)) (m .task t .cache)))
+        rw (ne-eqb s 0 e, le-ltb MOST-BYTES s (omega arith), update-same (m .task) t (taskOf (a1 (classOf s)) (m .task t .cache)))
 
 -- a list of sizes that are shown as they should be
 each : (q : List (ℕ × Shown)) → map (λ r. shown (choice (r .0))) q ≡ map (λ r. r .1) q
@@ -145,85 +147,85 @@ join (r ∷ p) q h k = (h .0, join p q (h .1) k)
 
 module _ (area : List ℕ) (tasks t : ℕ) (a : Plain.Area (length area)) (T : Plain.Tasks tasks) (l : t < tasks) where
   abbrev regions : ℕ
-  regions = length area / 4096
+  regions = length area / REGION-BYTES
 
   -- the started pool, with what it keeps
   abbrev pool : Mem → Pool
   pool m = record { tasks = tasks; regions = regions; mem = m }
 
-  passes : (m : Mem) → Taken 8192 (length area) t (pool m)
+  passes : (m : Mem) → Taken CONTROL-BYTES (length area) t (pool m)
   passes m = record { control-is = refl; started = T .0; area-is = omega (arith, a); below = l }
 
-  starts : whole (start 8192 area tasks) unstarted ≡ (pool (startMem regions), going nothing)
+  starts : whole (start CONTROL-BYTES area tasks) unstarted ≡ (pool (startMem regions), going nothing)
   unfolding call
   starts =
-      if-yes (ℕ-discrete 8192 8192) _ _ refl ∙ if-yes (Plain.area? (length area)) _ _ a ∙ if-yes (Plain.tasks? tasks) _ _ T
+      if-yes (ℕ-discrete CONTROL-BYTES CONTROL-BYTES) _ _ refl ∙ if-yes (Plain.area? (length area)) _ _ a ∙ if-yes (Plain.tasks? tasks) _ _ T
 
   -- the pool with the allocation begun: no cache has a block
   abbrev begun : ℕ → Mem
   begun size = setTask t (taskOf (a1 (classOf size)) (λ c. [])) (startMem regions)
 
   begins-so : (size : ℕ) → 1 ≤ size → size ≤ 256
-      → whole (allocate 8192 (length area) t size) (pool (startMem regions)) ≡ (pool (begun size), going nothing)
+      → whole (allocate CONTROL-BYTES (length area) t size) (pool (startMem regions)) ≡ (pool (begun size), going nothing)
   unfolding call startMem
   begins-so size p q =
       taken-is (Plain.beginAllocate t size (startMem regions)) (passes (startMem regions))
       ∙ ap (Plain.became (pool (startMem regions)))
-      (if-no (ℕ-discrete size 0) _ _ (λ e. absurd (omega arith)) ∙ if-no (decLt 256 size) _ _ (λ e. absurd (omega arith)))
+      (if-no (ℕ-discrete size 0) _ _ (λ e. absurd (omega arith)) ∙ if-no (decLt MOST-BYTES size) _ _ (λ e. absurd (omega arith)))
 
   -- n steps of the task
-  steps-so : (n : ℕ) (m : Mem) → wholeAnswers (replicate n (go 8192 (length area) t)) (pool m) ≡ taskAnswers t n m
+  steps-so : (n : ℕ) (m : Mem) → wholeAnswers (replicate n (go CONTROL-BYTES (length area) t)) (pool m) ≡ taskAnswers t n m
   unfolding call
   steps-so zero m = refl
   steps-so (suc n) m =
-      ap (λ x. x .1 ∷ wholeAnswers (replicate n (go 8192 (length area) t)) (x .0)) (taken-is (step t m) (passes m))
+      ap (λ x. x .1 ∷ wholeAnswers (replicate n (go CONTROL-BYTES (length area) t)) (x .0)) (taken-is (step t m) (passes m))
       ∙ ap (λ q. step t m .1 ∷ q) (steps-so n (step t m .0))
 
   -- "partial lists empty; both spare lists rising from item 0 on top"
-  unlisted : (c : ℕ) → c < 16 → startMem regions .row c ≡ []
+  unlisted : (c : ℕ) → c < CLASSES → startMem regions .row c ≡ []
   unfolding startMem
   unlisted c i =
-      if-no (ℕ-discrete c SPARES) _ _ (λ e. absurd (omega arith)) ∙ if-no (ℕ-discrete c REGIONS) _ _ (λ e. absurd (omega arith))
+      if-no (ℕ-discrete c SPARE-DESCRIPTORS) _ _ (λ e. absurd (omega arith)) ∙ if-no (ℕ-discrete c SPARE-REGIONS) _ _ (λ e. absurd (omega arith))
 
-  spare-descriptors : startMem regions .row SPARES ≡ 0 ∷ rising 63 1
+  spare-descriptors : startMem regions .row SPARE-DESCRIPTORS ≡ 0 ∷ rising (DESCRIPTORS - 1) 1
   unfolding startMem rising ℕ-discrete
   spare-descriptors = refl
 
-  spare-regions : startMem regions .row REGIONS ≡ 0 ∷ rising (regions - 1) 1
+  spare-regions : startMem regions .row SPARE-REGIONS ≡ 0 ∷ rising (regions - 1) 1
   unfolding startMem rising ℕ-discrete
   spare-regions =
       let e : regions ≡ suc (regions - 1) = omega (arith, a) in
       ap (λ n. rising n 0) e
 
   -- b is the last block of a region
-  finishes : (size b : ℕ) → size ≤ 256 → suc b ≡ perRegion (classOf size)
+  finishes : (size b : ℕ) → size ≤ MOST-BYTES → suc b ≡ perRegion (classOf size)
       → Finishes t (unitOf 0 (classOf size) b) (b + 10) (begun size)
   finishes size b q e =
-      opens t (classOf size) (λ c. []) 0 0 b (rising 63 1) (rising (regions - 1) 1) refl (unlisted (classOf size) (is-class size q))
+      opens t (classOf size) (λ c. []) 0 0 b (rising (DESCRIPTORS - 1) 1) (rising (regions - 1) 1) refl (unlisted (classOf size) (is-class size q))
       spare-descriptors spare-regions e (update-same (startMem regions .task) t (taskOf (a1 (classOf size)) (λ c. [])))
 
   -- what the plain pool does is what the stepped run answers: so few events meet the premises, for they have no writes
-  carried : (size n unit : ℕ) → 1 ≤ size → size ≤ 256 → n + 3 ≤ 4294967296 → Finishes t unit n (begun size) → (before : Memories)
+  carried : (size n unit : ℕ) → 1 ≤ size → size ≤ MOST-BYTES → n + 3 ≤ TAGS → Finishes t unit n (begun size) → (before : Memories)
       → map brief (steppedAnswers (allocating area tasks t size (suc n)) before) ≡ finishing (suc (suc n)) unit
   unfolding unstarted
   carried size n unit p q few F before =
-      let steps = replicate (suc n) (go 8192 (length area) t) in
-      let es = allocate 8192 (length area) t size ∷ steps in
-      let P : Premises (start 8192 area tasks ∷ es) unstarted =
-      short 0 (start 8192 area tasks ∷ es) unstarted (λ h. absurd (omega arith))
-      (omega (arith, length-replicate (suc n) (go 8192 (length area) t))) (no-writes (suc n) _) in
+      let steps = replicate (suc n) (go CONTROL-BYTES (length area) t) in
+      let es = allocate CONTROL-BYTES (length area) t size ∷ steps in
+      let P : Premises (start CONTROL-BYTES area tasks ∷ es) unstarted =
+      short 0 (start CONTROL-BYTES area tasks ∷ es) unstarted (λ h. absurd (omega arith))
+      (omega (arith, length-replicate (suc n) (go CONTROL-BYTES (length area) t))) (no-writes (suc n) _) in
       ap (map brief) (answered-from-start es before unstarted area tasks a T (P .1))
       ∙ ap (λ x. map brief (x .1 ∷ wholeAnswers es (x .0))) starts
       ∙ ap (λ x. (0, 0) ∷ map brief (x .1 ∷ wholeAnswers steps (x .0))) (begins-so size p q)
       ∙ ap (λ q. (0, 0) ∷ ((0, 0) ∷ map brief q)) (steps-so (suc n) (begun size))
       ∙ ap (λ q. (0, 0) ∷ ((0, 0) ∷ q)) (told t F)
     where
-      no-writes : (n : ℕ) (s : Pool) → Writes (replicate n (go 8192 (length area) t)) s
+      no-writes : (n : ℕ) (s : Pool) → Writes (replicate n (go CONTROL-BYTES (length area) t)) s
       no-writes zero s = tt
       no-writes (suc n) s = no-writes n _
 
 -- The first allocation of a size: it opens region 0 and gives the last of its n blocks, at step n + 10.
-pub first : (size b : ℕ) → 1 ≤ size → size ≤ 256 → suc b ≡ perRegion (classOf size)
+pub first : (size b : ℕ) → 1 ≤ size → size ≤ MOST-BYTES → suc b ≡ perRegion (classOf size)
     → Holds (first-allocation size (suc (b + 10)) (unitOf 0 (classOf size) b))
 first size b p q e area tasks t before a T l =
     carried area tasks t a T l size (b + 10) (unitOf 0 (classOf size) b) p q (omega (arith, perRegion-high (classOf size)))

@@ -1,9 +1,9 @@
 -- One call in both pools: the same answer and decided move, the relation after it, and what is written.
--- Assumes nothing.
 use mathlib.Core.Path.{_≡_, refl, sym}
 use mathlib.Core.Bool.{Bool, true, false, cond}
 use mathlib.Core.List.{List, [], _∷_}
 use Prim.Native.Nat.{ℕ, _^_, _≤_, _<_}
+use Rattle.limits.specs.Limits.{DESCRIPTORS}
 use Rattle.rows.specs.Branch.{if}
 use Rattle.rows.specs.Totals.{total}
 use Rattle.fields.specs.Columns.{Field, View, assigned, Has, width, Sound}
@@ -29,7 +29,7 @@ afterwards o v area = memoryOf (assigned (o .writes) v) (linked (o .links) area)
 -- each link is written in a block of an open region that is in no user's hands
 abbrev pub Apart : Mem → List LinkWrite → Type 0
 Apart m [] = Unit {0}
-Apart m ((u ⇒ x) ∷ ls) = ((m .hands u ≡ 0) × (1 ≤ total 64 (insideWeight u) (m .descriptor))) × Apart m ls
+Apart m ((u ⇒ x) ∷ ls) = ((m .hands u ≡ 0) × (1 ≤ total DESCRIPTORS (insideWeight u) (m .descriptor))) × Apart m ls
 
 pub record Both (regions : ℕ) (v : View) (area : List ℕ) (m : Mem) (o : Outcome) (y : Result) : Type 0 where
   pub says : shown o ≡ y .1

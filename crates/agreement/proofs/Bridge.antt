@@ -3,11 +3,12 @@ use mathlib.Core.Path.{_≡_, refl, sym, ap, fun-ext, _∙_}
 use mathlib.Core.Logic.{_≢_}
 use mathlib.Core.Bool.{cond}
 use mathlib.Core.List.{List, [], _∷_}
-use Prim.Native.Nat.{ℕ, _+_, _*_, _/_, _%_, _<_}
+use Prim.Native.Nat.{ℕ, _/_, _%_, _<_}
 use native.Mathlib.Omega.{arith}
 use native.Mathlib.Decide.{ℕ-discrete, decLt}
 use borrow.Author.Tests.{eq-eqb, ne-eqb}
 use lib.Dec.{eqb}
+use Rattle.limits.specs.Limits.{CLASSES}
 use Rattle.rows.specs.Branch.{if}
 use Rattle.rows.specs.Update.{update}
 use Rattle.fields.specs.Columns.{View, _:=_, assigned}
@@ -49,26 +50,32 @@ slots-update v v′ t s e h = fun-ext (λ j. go j (ℕ-discrete j t))
 
 -- ---- the caches: tasks and classes apart
 
+-- where a column of the caches has the task t's for the class c
+abbrev cacheAt : ℕ → ℕ → ℕ
+cacheAt t c = Layout.CacheTop t c .index
+
 -- the column of the caches, assigned at the task t and the class c, as that task sees it
-pub cache-here : (f : ℕ → ℕ) (t c x : ℕ) → c < 16
-    → byClass (λ (i : ℕ). cond (eqb (16 * t + c) i) x (f i)) t ≡ update (byClass f t) c x
+pub cache-here : (f : ℕ → ℕ) (t c x : ℕ) → c < CLASSES
+    → byClass (λ e. cond (eqb (cacheAt t c) (cacheAt t e)) x (f (cacheAt t e)))
+    ≡ update (byClass (λ e. f (cacheAt t e))) c x
 unfolding update
-cache-here f t c x l = fun-ext (λ e. go e (decLt e 16) (ℕ-discrete e c))
+cache-here f t c x l = fun-ext (λ e. go e (decLt e CLASSES) (ℕ-discrete e c))
   where
-    go : (e : ℕ) (p : Dec (e < 16)) (q : Dec (e ≡ c))
-        → if p (cond (eqb (16 * t + c) (16 * t + e)) x (f (16 * t + e))) 0 ≡ if q x (if p (f (16 * t + e)) 0)
-    go e (yes p) (yes q) = rw (eq-eqb (16 * t + c) (16 * t + e) (omega arith))
-    go e (yes p) (no q) = rw (ne-eqb (16 * t + c) (16 * t + e) (λ z. q (omega arith)))
+    go : (e : ℕ) (p : Dec (e < CLASSES)) (q : Dec (e ≡ c))
+        → if p (cond (eqb (cacheAt t c) (cacheAt t e)) x (f (cacheAt t e))) 0 ≡ if q x (if p (f (cacheAt t e)) 0)
+    go e (yes p) (yes q) = rw (eq-eqb (cacheAt t c) (cacheAt t e) (omega arith))
+    go e (yes p) (no q) = rw (ne-eqb (cacheAt t c) (cacheAt t e) (λ z. q (omega arith)))
     go e (no p) (yes q) = absurd (p (omega arith))
     go e (no p) (no q) = refl
 
 -- and as another task sees it
-pub cache-there : (f : ℕ → ℕ) (t c x j : ℕ) → c < 16 → t ≢ j
-    → byClass (λ (i : ℕ). cond (eqb (16 * t + c) i) x (f i)) j ≡ byClass f j
-cache-there f t c x j l n = fun-ext (λ e. go e (decLt e 16))
+pub cache-there : (f : ℕ → ℕ) (t c x j : ℕ) → c < CLASSES → t ≢ j
+    → byClass (λ e. cond (eqb (cacheAt t c) (cacheAt j e)) x (f (cacheAt j e))) ≡ byClass (λ e. f (cacheAt j e))
+cache-there f t c x j l n = fun-ext (λ e. go e (decLt e CLASSES))
   where
-    go : (e : ℕ) (p : Dec (e < 16)) → if p (cond (eqb (16 * t + c) (16 * j + e)) x (f (16 * j + e))) 0 ≡ if p (f (16 * j + e)) 0
-    go e (yes p) = rw (ne-eqb (16 * t + c) (16 * j + e) (λ z. n (omega arith)))
+    go : (e : ℕ) (p : Dec (e < CLASSES))
+        → if p (cond (eqb (cacheAt t c) (cacheAt j e)) x (f (cacheAt j e))) 0 ≡ if p (f (cacheAt j e)) 0
+    go e (yes p) = rw (ne-eqb (cacheAt t c) (cacheAt j e) (λ z. n (omega arith)))
     go e (no p) = refl
 
 -- ---- the marks

@@ -7,6 +7,7 @@ use Prim.Native.Nat.{ℕ, suc, _+_, _≤_, _<_}
 use native.Mathlib.Omega.{arith}
 use native.Mathlib.Numerals.{add-one}
 use lib.ListN.{length}
+use Rattle.limits.specs.Limits.{UNITS, CLASSES}
 use Rattle.rows.specs.Counting.{count}
 use Rattle.rows.specs.Linked.{Linked, links}
 use Rattle.rows.specs.Update.{update}
@@ -52,7 +53,7 @@ assigned-append (x ∷ ws) xs v = assigned-append ws xs (assign x v)
 abbrev pub withCache : ℕ → ℕ → ℕ → ℕ → View → View
 withCache t c b n v = assigned (CacheTop t c := b ∷ CacheCount t c := n ∷ []) v
 
-module _ (v : View) (t c b n : ℕ) (l : c < 16) where
+module _ (v : View) (t c b n : ℕ) (l : c < CLASSES) where
   -- the task's part with that cache
   pub cache-own : slotOf (withCache t c b n v) t ≡ toCache c b n (slotOf v t)
   cache-own z = withCaches (record {
@@ -69,7 +70,7 @@ module _ (v : View) (t c b n : ℕ) (l : c < 16) where
 
 -- The memories after own and shared writes, which made v₁ of the view v, and those of a cache's two fields: what is shared is
 -- as in a, and of the tasks' parts only that of t has changed, which is s with that cache.
-pub cache-becomes : (v v₁ : View) (area : List ℕ) (t c b n : ℕ) (s : Slot) (a : Memory) → c < 16
+pub cache-becomes : (v v₁ : View) (area : List ℕ) (t c b n : ℕ) (s : Slot) (a : Memory) → c < CLASSES
     → memoryOf v₁ area ≡ withSlots (slotOf v₁) a → a .slot ≡ slotOf v → slotOf v₁ t ≡ s
     → ((j : ℕ) → t ≢ j → slotOf v₁ j ≡ slotOf v j)
     → memoryOf (withCache t c b n v₁) area ≡ setSlot t (toCache c b n s) a
@@ -87,12 +88,12 @@ pushed : {regions : ℕ} {a : Memory} {m : Mem} {t : ℕ} {p : Place} {k : ℕ �
     → Related regions (setSlot t s (setLink u x a)) (cached t k (a .slot t .class) (u ∷ k (a .slot t .class)) p′ m)
 pushed {a = a} {t = t} {k = k} w u x n s p′ o i e f j pl =
     let c = a .slot t .class in
-    let lk : Linked (link (a .area)) (λ u. u) 8192 x (k c) =
-    subst (λ (z : ℕ). Linked (link (a .area)) (λ u. u) 8192 z (k c)) i (mine w .caches .tops c (mine w .fits)) in
+    let lk : Linked (link (a .area)) (λ u. u) UNITS x (k c) =
+    subst (λ (z : ℕ). Linked (link (a .area)) (λ u. u) UNITS z (k c)) i (mine w .caches .tops c (mine w .fits)) in
     let wr = wrote w u x o (top-max w c x (k c) lk (λ v. omega arith)) in
     linking w u x s (taskOf p′ (update k c (u ∷ k c))) (mine-under w u o .0)
     (re-cache w _ _ s p′ c u n (u ∷ k c) (λ e l. cache-agrees w u x o e l) f j
-    (links refl (subst (λ (z : ℕ). Linked (link (withLink (a .area) u x)) (λ u. u) 8192 z (k c)) (sym wr)
+    (links refl (subst (λ (z : ℕ). Linked (link (withLink (a .area) u x)) (λ u. u) UNITS z (k c)) (sym wr)
     (linked-frame (cache-agrees w u x o c (mine w .fits)) lk)))
     e pl)
 
@@ -105,17 +106,17 @@ module _ {regions : ℕ} {v : View} {area : List ℕ} {m : Mem} {t : ℕ} {p : P
       let c = v (TaskClass t) in
       rw (cache-count w)
       (below-tested (w .pair) c (v (CacheTop t c)) (k c) (λ u. omega arith)
-      (subst (λ (z : ℕ). Linked (link area) (λ u. u) 8192 z (k c)) (cache-top w) (mine (w .pair) .caches .tops c (mine (w .pair) .fits))))
+      (subst (λ (z : ℕ). Linked (link area) (λ u. u) UNITS z (k c)) (cache-top w) (mine (w .pair) .caches .tops c (mine (w .pair) .fits))))
 
-  pub cache-top-max : v (CacheTop t (v (TaskClass t))) ≤ 8192
+  pub cache-top-max : v (CacheTop t (v (TaskClass t))) ≤ UNITS
   cache-top-max =
       let c = v (TaskClass t) in
       top-max (w .pair) c (v (CacheTop t c)) (k c)
-      (subst (λ (z : ℕ). Linked (link area) (λ u. u) 8192 z (k c)) (cache-top w) (mine (w .pair) .caches .tops c (mine (w .pair) .fits)))
+      (subst (λ (z : ℕ). Linked (link area) (λ u. u) UNITS z (k c)) (cache-top w) (mine (w .pair) .caches .tops c (mine (w .pair) .fits)))
       (λ u. omega arith)
 
   -- a block under way is a unit
-  pub under-max : (u : ℕ) → 1 ≤ count u (underWay p) → u < 8192
+  pub under-max : (u : ℕ) → 1 ≤ count u (underWay p) → u < UNITS
   under-max u o = omega (arith, w .pair .small, home-below (w .pair) (home-of (w .pair .turn) u o))
 
   -- The block u under way goes on top of the cache of the request's class, after the own writes ws, which make s of the

@@ -4,6 +4,7 @@ use mathlib.Core.List.{List}
 use Prim.Native.Nat.{ℕ, suc, _+_, _≤_, _<_}
 use native.Mathlib.Omega.{arith}
 use lib.ListN.{length}
+use Rattle.limits.specs.Limits.{TASKS, DESCRIPTORS, MOST-BLOCKS, SPARE-REGIONS}
 use Rattle.words.specs.declared.anchor.Anchor.{Anchor}
 use Rattle.words.specs.declared.head.Head.{Head}
 use Rattle.rows.specs.Counting.{count}
@@ -41,8 +42,8 @@ module _ {regions : ℕ} {a : Memory} {m : Mem} {t : ℕ} {p : Place} {k : ℕ �
 
   -- ---- a head
   pub heading : (ℓ : ℕ) (h : Head) (q : List ℕ) (s : Slot) (T : Task) → h .tag ≡ wrap (m .won ℓ + 1)
-      → (ℓ < 17 → Linked (a .lists .descriptorNext) suc 0 (h .item) q)
-      → (ℓ ≡ 17 → Linked (a .lists .regionNext) suc 0 (h .item) q)
+      → (ℓ < SPARE-REGIONS → Linked (a .lists .descriptorNext) suc 0 (h .item) q)
+      → (ℓ ≡ SPARE-REGIONS → Linked (a .lists .regionNext) suc 0 (h .item) q)
       → SlotRelated regions (setSlot t s (setHead ℓ h a)) (setTask t T (setRow ℓ q m)) s T
       → Related regions (setSlot t s (setHead ℓ h a)) (setTask t T (setRow ℓ q m))
   heading ℓ h q s T e f g own = after {a = a} {m = m} t s T refl refl
@@ -61,20 +62,20 @@ module _ {regions : ℕ} {a : Memory} {m : Mem} {t : ℕ} {p : Place} {k : ℕ �
       (w .rel .slots)
 
   -- ---- the next of an item in hand
-  off-lists : (x ℓ : ℕ) → ℓ < 17 → 1 ≤ holdsDescriptor x p → count x (m .row ℓ) ≡ 0
+  off-lists : (x ℓ : ℕ) → ℓ < SPARE-REGIONS → 1 ≤ holdsDescriptor x p → count x (m .row ℓ) ≡ 0
   off-lists x ℓ l h = omega (
     arith,
     w .turn .inv .descriptors x,
-    below-max x 64,
-    total-one 17 (rowWeight x) (m .row) ℓ l,
-    total-one 8 (descriptorWeight x) (m .task) t (w .turn .fits),
+    below-max x DESCRIPTORS,
+    total-one SPARE-REGIONS (rowWeight x) (m .row) ℓ l,
+    total-one TASKS (descriptorWeight x) (m .task) t (w .turn .fits),
     ap (descriptorWeight x t) (w .turn .is),
   )
 
-  off-regions : (x : ℕ) → 1 ≤ holdsRegion x p → count x (m .row 17) ≡ 0
-  off-regions x h = omega (arith, w .turn .inv .regions x, below-max x regions, total-one 8 (regionWeight x) (m .task) t (w .turn .fits), ap (regionWeight x t) (w .turn .is))
+  off-regions : (x : ℕ) → 1 ≤ holdsRegion x p → count x (m .row SPARE-REGIONS) ≡ 0
+  off-regions x h = omega (arith, w .turn .inv .regions x, below-max x regions, total-one TASKS (regionWeight x) (m .task) t (w .turn .fits), ap (regionWeight x t) (w .turn .is))
 
-  pub dnexting : (x n : ℕ) (s : Slot) (T : Task) → 1 ≤ holdsDescriptor x p → n ≤ 64
+  pub dnexting : (x n : ℕ) (s : Slot) (T : Task) → 1 ≤ holdsDescriptor x p → n ≤ DESCRIPTORS
       → SlotRelated regions (setSlot t s (setDescriptorNext x n a)) (setTask t T m) s T
       → Related regions (setSlot t s (setDescriptorNext x n a)) (setTask t T m)
   dnexting x n s T h b own = after {a = a} {m = m} t s T refl refl
@@ -123,9 +124,9 @@ module _ {regions : ℕ} {a : Memory} {m : Mem} {t : ℕ} {p : Place} {k : ℕ �
       (w .rel .slots)
 
   -- ---- an anchor: the region and the class stay
-  pub anchoring : (d : ℕ) (b : Anchor) (E : Descriptor) (s : Slot) (T : Task) → d < 64 → b .state ≡ numberOf (E .state)
+  pub anchoring : (d : ℕ) (b : Anchor) (E : Descriptor) (s : Slot) (T : Task) → d < DESCRIPTORS → b .state ≡ numberOf (E .state)
       → E .region ≡ m .descriptor d .region → E .class ≡ m .descriptor d .class
-      → IfOpen (E .state) (ChainRelated (link (a .area)) b E) → b .avail ≤ 512 → b .count ≤ 512
+      → IfOpen (E .state) (ChainRelated (link (a .area)) b E) → b .avail ≤ MOST-BLOCKS → b .count ≤ MOST-BLOCKS
       → SlotRelated regions (setSlot t s (setAnchor d b a)) (setTask t T (setDescriptor d E m)) s T
       → Related regions (setSlot t s (setAnchor d b a)) (setTask t T (setDescriptor d E m))
   anchoring d b E s T l e f g c i₁ i₂ own = after {a = a} {m = m} t s T refl refl

@@ -1,5 +1,4 @@
 -- The first step of step 4 of a free, in both pools: the map's entry of the group's region is cleared.
--- Assumes nothing.
 use mathlib.Core.Path.{_≡_, refl}
 use mathlib.Core.List.{List, [], _∷_}
 use Prim.Native.Nat.{ℕ, _<_}
@@ -12,6 +11,7 @@ use Rattle.plain.specs.State.{Mem, State, f4-clear, numberOf, pushing, read, re
 use Rattle.plain.specs.Steps as Steps
 use Rattle.plain.proofs.Places.{taskOf}
 use Rattle.control.specs.Layout.{Map, TaskClass, TaskDescriptor, TaskPlace, TaskRegion, TaskState, TaskUnit}
+use Rattle.control.specs.Places.{PUSH-RELEASE}
 use Rattle.stepped.specs.Free as Free
 use Rattle.agreement.specs.Memory.{slotOf}
 use Rattle.agreement.specs.Relation.{PushRelated, r-release}
@@ -32,8 +32,8 @@ unfolding Free.f4Clear
 f4-clear-both {regions} {v} {area} {m} {t} {k} {z} w e =
     let r = v (TaskRegion t) in
     let l : r < regions = region-in-hand (w .pair .turn) r (omega (arith, when-same r 1)) in
-    let v₁ = assigned (TaskPlace t := 17 ∷ Map r := 0 ∷ []) v in
-    let s = toPlace 17 (slotOf v t) in
+    let v₁ = assigned (TaskPlace t := PUSH-RELEASE ∷ Map r := 0 ∷ []) v in
+    let s = toPlace PUSH-RELEASE (slotOf v t) in
     let p = pushing (release (v (TaskClass t)) (v (TaskUnit t)) (v (TaskDescriptor t)) z r) read in
     pass _ (lt-ltb r regions l) (record {
       says = refl;

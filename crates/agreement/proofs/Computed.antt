@@ -1,7 +1,6 @@
 -- The example's run, computed from the definitions of the stepped pool themselves, on fields and links.
 -- The agreement implies as much, for every run; this one is found by computing alone, so that a definition that decides or
 -- answers otherwise in it is seen by its values.
--- Assumes nothing.
 use mathlib.Core.Path.{_≡_, refl}
 use mathlib.Core.Bool.{cond}
 use mathlib.Core.List.{List, [], _∷_}

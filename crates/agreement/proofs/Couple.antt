@@ -5,6 +5,7 @@ use mathlib.Core.List.{List, [], _∷_}
 use Prim.Native.Nat.{ℕ, _*_, _≤_, _<_}
 use native.Mathlib.Omega.{arith}
 use lib.ListN.{length}
+use Rattle.limits.specs.Limits.{REGIONS, REGION-BYTES, TASKS, DESCRIPTORS}
 use Rattle.rows.specs.Counting.{count}
 use Rattle.rows.specs.Linked.{Agree, links}
 use Rattle.rows.specs.Tests.{other, same, same?}
@@ -38,18 +39,18 @@ use Rattle.agreement.proofs.Sets.{setLink, setSlot}
 pub record Pair (regions : ℕ) (a : Memory) (m : Mem) (t : ℕ) (p : Place) (k : ℕ → List ℕ) : Type 0 where
   pub rel : Related regions a m
   pub turn : Turn regions m t (taskOf p k)
-  pub small : regions ≤ 16
+  pub small : regions ≤ REGIONS
 
 -- ---- blocks of open regions
 pub record Valid (m : Mem) (v : ℕ) : Type 0 where
   pub d : ℕ
-  pub fits : d < 64
+  pub fits : d < DESCRIPTORS
   pub counts : IsOpen (m .descriptor d .state)
   pub block : Block (m .descriptor d .region) (m .descriptor d .class) v
 
-pub valid : (m : Mem) (v : ℕ) → 1 ≤ total 64 (insideWeight v) (m .descriptor) → Valid m v
+pub valid : (m : Mem) (v : ℕ) → 1 ≤ total DESCRIPTORS (insideWeight v) (m .descriptor) → Valid m v
 valid m v h =
-    let f = total-found 64 (insideWeight v) (m .descriptor) h in
+    let f = total-found DESCRIPTORS (insideWeight v) (m .descriptor) h in
     let g = open-counts (m .descriptor (f .at) .state) (isBlock v (m .descriptor (f .at) .region) (m .descriptor (f .at) .class)) (f .has) in
     record { d = f .at; fits = f .fits; counts = g .1; block = counts-block (m .descriptor (f .at) .region) (m .descriptor (f .at) .class) v (g .0) }
 
@@ -60,7 +61,7 @@ module _ {regions : ℕ} {m : Mem} (I : Invariant regions m) where
     | other n ↦ absurd (let r = m .descriptor (b .d) .region in
         omega (
           arith,
-          total-two 64 (openWeight r) (m .descriptor) (b .d) (c .d) n (b .fits) (c .fits),
+          total-two DESCRIPTORS (openWeight r) (m .descriptor) (b .d) (c .d) n (b .fits) (c .fits),
           I .regions r,
           below-max r regions,
           b .counts (one r r),
@@ -76,9 +77,9 @@ module _ {regions : ℕ} {m : Mem} (I : Invariant regions m) where
   pub region-below : {v : ℕ} (b : Valid m v) → m .descriptor (b .d) .region < regions
   region-below b =
       let r = m .descriptor (b .d) .region in
-      below-is r regions (omega (arith, total-one 64 (openWeight r) (m .descriptor) (b .d) (b .fits), I .regions r, b .counts (one r r), when-same r 1))
+      below-is r regions (omega (arith, total-one DESCRIPTORS (openWeight r) (m .descriptor) (b .d) (b .fits), I .regions r, b .counts (one r r), when-same r 1))
 
-  pub reads : (a : List ℕ) (u x : ℕ) → length a ≡ 4096 * regions → 1 ≤ total 64 (insideWeight u) (m .descriptor) → x < 4294967296 → link (withLink a u x) u ≡ x
+  pub reads : (a : List ℕ) (u x : ℕ) → length a ≡ REGION-BYTES * regions → 1 ≤ total DESCRIPTORS (insideWeight u) (m .descriptor) → x < 4294967296 → link (withLink a u x) u ≡ x
   reads a u x l p h =
       let b = valid m u p in
       link-same a u x (omega (arith, region-below b, inside (b .block), units-low (m .descriptor (b .d) .class))) h
@@ -88,45 +89,45 @@ module _ {regions : ℕ} {a : Memory} {m : Mem} {t : ℕ} {p : Place} {k : ℕ �
   mine = subst (SlotRelated regions a m (a .slot t)) (w .turn .is) (w .rel .slots t (w .turn .fits))
 
   -- what this task holds, no other does
-  pub descriptor-apart : (x j : ℕ) → j < 8 → j ≢ t → 1 ≤ holdsDescriptor x p → holdsDescriptor x (m .task j .place) ≡ 0
+  pub descriptor-apart : (x j : ℕ) → j < TASKS → j ≢ t → 1 ≤ holdsDescriptor x p → holdsDescriptor x (m .task j .place) ≡ 0
   descriptor-apart x j l d h = omega (
     arith,
     w .turn .inv .descriptors x,
-    below-max x 64,
-    total-two 8 (descriptorWeight x) (m .task) j t d l (w .turn .fits),
+    below-max x DESCRIPTORS,
+    total-two TASKS (descriptorWeight x) (m .task) j t d l (w .turn .fits),
     ap (descriptorWeight x t) (w .turn .is),
   )
 
-  pub region-apart : (x j : ℕ) → j < 8 → j ≢ t → 1 ≤ holdsRegion x p → holdsRegion x (m .task j .place) ≡ 0
+  pub region-apart : (x j : ℕ) → j < TASKS → j ≢ t → 1 ≤ holdsRegion x p → holdsRegion x (m .task j .place) ≡ 0
   region-apart x j l d h = omega (
     arith,
     w .turn .inv .regions x,
     below-max x regions,
-    total-two 8 (regionWeight x) (m .task) j t d l (w .turn .fits),
+    total-two TASKS (regionWeight x) (m .task) j t d l (w .turn .fits),
     ap (regionWeight x t) (w .turn .is),
   )
 
   -- a block of this task: once there, and nowhere else
-  pub own-block : (u : ℕ) → 1 ≤ blockWeight u t (taskOf p k) → (1 ≤ total 64 (insideWeight u) (m .descriptor)) × (blockWeight u t (taskOf p k) ≡ 1) × (m .hands u ≡ 0) × (total 64 (chainWeight u) (m .descriptor) ≡ 0)
+  pub own-block : (u : ℕ) → 1 ≤ blockWeight u t (taskOf p k) → (1 ≤ total DESCRIPTORS (insideWeight u) (m .descriptor)) × (blockWeight u t (taskOf p k) ≡ 1) × (m .hands u ≡ 0) × (total DESCRIPTORS (chainWeight u) (m .descriptor) ≡ 0)
   own-block u h = omega (
     arith,
     w .turn .inv .blocks u,
     inside-open (w .turn .inv) u,
-    total-one 8 (blockWeight u) (m .task) t (w .turn .fits),
+    total-one TASKS (blockWeight u) (m .task) t (w .turn .fits),
     ap (blockWeight u t) (w .turn .is),
   )
 
-  pub block-apart : (u v j : ℕ) → j < 8 → j ≢ t → 1 ≤ blockWeight u t (taskOf p k) → 1 ≤ blockWeight v 0 (m .task j) → (v ≢ u) × (1 ≤ total 64 (insideWeight v) (m .descriptor))
+  pub block-apart : (u v j : ℕ) → j < TASKS → j ≢ t → 1 ≤ blockWeight u t (taskOf p k) → 1 ≤ blockWeight v 0 (m .task j) → (v ≢ u) × (1 ≤ total DESCRIPTORS (insideWeight v) (m .descriptor))
   block-apart u v j l d h g = (
     (λ e. absurd (omega (
       arith,
       w .turn .inv .blocks u,
       inside-open (w .turn .inv) u,
-      total-two 8 (blockWeight u) (m .task) j t d l (w .turn .fits),
+      total-two TASKS (blockWeight u) (m .task) j t d l (w .turn .fits),
       ap (blockWeight u t) (w .turn .is),
       ap (λ (z : ℕ). blockWeight z 0 (m .task j)) e,
     ))),
-    omega (arith, w .turn .inv .blocks v, total-one 8 (blockWeight v) (m .task) j l),
+    omega (arith, w .turn .inv .blocks v, total-one TASKS (blockWeight v) (m .task) j l),
   )
 
   -- all but the tasks, as it was
@@ -158,7 +159,7 @@ module _ {regions : ℕ} {a : Memory} {m : Mem} {t : ℕ} {p : Place} {k : ℕ �
             (λ e. absurd (omega (
               arith,
               b .3,
-              total-one 64 (chainWeight u) (m .descriptor) d l,
+              total-one DESCRIPTORS (chainWeight u) (m .descriptor) d l,
               g (count u (m .descriptor d .chain)),
               ap (λ (z : ℕ). count z (m .descriptor d .chain)) e,
             ))));

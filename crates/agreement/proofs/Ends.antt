@@ -1,5 +1,4 @@
 -- How a call ends, whatever the two memories hold.
--- Assumes nothing.
 use Prim.Native.Nat.{ℕ, _+_, _-_, _/_, _%_, _≤_, _<_}
 use mathlib.Core.Path.{_≡_, refl, sym, ap, subst, _∙_}
 use mathlib.Core.Logic.{_≢_, _⊎_, ⊎-map, ⊎-elim, inr, _↔_}
@@ -9,6 +8,7 @@ use native.Mathlib.Omega.{arith}
 use borrow.Author.Tests.{eq-eqb, le-leb, lt-ltb, eqb-false, ltb-true, ltb-false}
 use lib.Dec.{eqb, leb, ltb}
 use lib.ListN.{length}
+use Rattle.limits.specs.Limits.{CONTROL-BYTES, REGION-BYTES, AREA-BYTES, TASKS, CLASSES, DESCRIPTORS, MOST-BYTES}
 use Rattle.fields.specs.Columns.{View, Write, _:=_}
 use Rattle.links.specs.Link.{LinkWrite, link, linked}
 use Rattle.words.specs.Head.{itemOf, advancedWord}
@@ -19,6 +19,7 @@ use Rattle.classes.proofs.Sizes.{is-class, holds, smallest}
 use Rattle.plain.specs.Moves.{Decided, found-empty, pushed}
 use Rattle.control.specs.Layout.{Head, TaskHead, Anchor, Marks, TaskPlace, TaskClass, DescriptorRegion}
 use Rattle.control.specs.Layout.{DescriptorClass, Map, Regions, seen, changed}
+use Rattle.control.specs.Places.{IDLE, PLACES}
 use Rattle.control.specs.declared.answer.Answer.{Answer}
 use Rattle.control.specs.declared.answer.Answer.the-variants.{Accepted, Allocated, Freed, NoDescriptor, NoRegion}
 use Rattle.control.specs.declared.answer.Answer.the-variants.{Refused}
@@ -73,7 +74,7 @@ begin-tests : (P : Outcome → Type 0) (control area : ℕ) (v : View) (t : ℕ)
 unfolding Calls.whenIdle
 begin-tests P control area v t x ms r k =
     tests P control area v t _ (λ n h. r n (more testRefusals (6 ∷ ms) n h))
-    (λ T. branch P (ltb (v (TaskPlace t)) 34) (λ e. branch P (eqb (v (TaskPlace t)) 0) (λ f. k) (λ f. r 6 refl)) (λ e. r 14 refl))
+    (λ T. branch P (ltb (v (TaskPlace t)) PLACES) (λ e. branch P (eqb (v (TaskPlace t)) IDLE) (λ f. k) (λ f. r 6 refl)) (λ e. r 14 refl))
 
 module _ (control area : ℕ) (v : View) (t : ℕ) where
   pub allocate-ends : (size : ℕ) → BeginEnds allocateRefusals (Calls.allocateOutcome control area v t size)
@@ -81,7 +82,7 @@ module _ (control area : ℕ) (v : View) (t : ℕ) where
   allocate-ends size =
       let P = Beginning allocateRefusals in
       begin-ends (begin-tests P control area v t _ (8 ∷ 9 ∷ []) (λ n h. denied h)
-      (branch P (eqb size 0) (λ e. denied refl) (λ e. branch P (ltb 256 size) (λ f. denied refl) (λ f. begun))))
+      (branch P (eqb size 0) (λ e. denied refl) (λ e. branch P (ltb MOST-BYTES size) (λ f. denied refl) (λ f. begun))))
 
   pub free-ends : (u : ℕ) → BeginEnds freeRefusals (Calls.freeOutcome control area v t u)
   unfolding Calls.freeOutcome Calls.beginFree Calls.freeEntry Calls.freeBy Calls.freeOpen Calls.freeMarked
@@ -94,10 +95,10 @@ module _ (control area : ℕ) (v : View) (t : ℕ) where
       let c = v (DescriptorClass d) in
       begin-ends (begin-tests P control area v t _ (10 ∷ 11 ∷ []) (λ n h. denied h)
       (branch P (ltb (regionOf u) (v Regions)) (λ e.
-      branch P (eqb entry 0) (λ f. denied refl) (λ f. branch P (leb entry 64) (λ f.
+      branch P (eqb entry 0) (λ f. denied refl) (λ f. branch P (leb entry DESCRIPTORS) (λ f.
       branch P (ltb r (v Regions)) (λ g. branch P (eqb r (regionOf u)) (λ h.
       branch P (isAnchor a) (λ i. branch P (eqb (anchorOf a .state) EMPTY) (λ j. denied refl) (λ j.
-      branch P (ltb c 16) (λ k. branch P (isFirst c u) (λ l.
+      branch P (ltb c CLASSES) (λ k. branch P (isFirst c u) (λ l.
       branch P (isSet (v (Marks (u / 64))) (u % 64)) (λ m. begun) (λ m. denied refl))
       (λ l. denied refl)) (λ k. denied refl))) (λ i. denied refl)) (λ h. denied refl)) (λ g. denied refl)) (λ f. denied refl)))
       (λ e. denied refl)))
@@ -110,9 +111,9 @@ module _ (control area : ℕ) (v : View) (t : ℕ) where
       let P : Outcome → Type 0 = λ o. o .answer ≡ Accepted → Begun t size o in
       begin-tests P control area v t _ [] (λ n h e. absurd (accepted-no (sym e)))
       (branch P (eqb size 0) (λ e f. absurd (accepted-no (sym f))) (λ e.
-      branch P (ltb 256 size) (λ f g. absurd (accepted-no (sym g))) (λ f g.
+      branch P (ltb MOST-BYTES size) (λ f g. absurd (accepted-no (sym g))) (λ f g.
       let z : size ≢ 0 = eqb-false size 0 e in
-      let l : size ≤ 256 = ltb-false 256 size f in
+      let l : size ≤ MOST-BYTES = ltb-false MOST-BYTES size f in
       record {
         from = omega arith;
         to = l;
@@ -130,9 +131,9 @@ unfolding Calls.startIn
 start-ends size area tasks control before =
     let P = StartEnds control before in
     let bytes = length area in
-    branch P (eqb size 8192) (λ e.
-    branch P (eqb (bytes % 4096) 0 && oneTo 65536 bytes) (λ f.
-    branch P (oneTo 8 tasks) (λ g. record { leaves = λ n h. absurd (accepted-no h); answers = tt })
+    branch P (eqb size CONTROL-BYTES) (λ e.
+    branch P (eqb (bytes % REGION-BYTES) 0 && oneTo AREA-BYTES bytes) (λ f.
+    branch P (oneTo TASKS tasks) (λ g. record { leaves = λ n h. absurd (accepted-no h); answers = tt })
     (λ g. record { leaves = λ n h. (refl, refl); answers = refl }))
     (λ f. record { leaves = λ n h. (refl, refl); answers = refl }))
     (λ e. record { leaves = λ n h. (refl, refl); answers = refl })
@@ -185,9 +186,9 @@ module _ (control area : ℕ) (v : View) (link : ℕ → ℕ) (t : ℕ) where
       let P = CallEnding v t in
       let c = v (TaskClass t) in
       tests P control area v t _ (λ n h. refused (more testRefusals (7 ∷ []) n h))
-      (λ T. branch P (ltb 0 (v (TaskPlace t)))
-      (λ e. branch P (ltb c 16)
-      (λ f. at-call (step-at v link t (ltb-true c 16 f) (ltb-true 0 (v (TaskPlace t)) e)))
+      (λ T. branch P (ltb IDLE (v (TaskPlace t)))
+      (λ e. branch P (ltb c CLASSES)
+      (λ f. at-call (step-at v link t (ltb-true c CLASSES f) (ltb-true IDLE (v (TaskPlace t)) e)))
       (λ f. refused refl))
       (λ e. refused refl))
 
@@ -202,15 +203,15 @@ module _ (control area : ℕ) (v : View) (link : ℕ → ℕ) (t : ℕ) where
   end-passed a i e = not-refused (λ n f. subst IsEnd (sym e ∙ f) i)
 
   -- a step that passes the tests is that of its place
-  at-place : {place : ℕ} → Tested control area v t → v (TaskPlace t) ≡ place → 1 ≤ place → v (TaskClass t) < 16
+  at-place : {place : ℕ} → Tested control area v t → v (TaskPlace t) ≡ place → 1 ≤ place → v (TaskClass t) < CLASSES
       → o ≡ Steps.stepAt v link (v Regions) t (v (TaskClass t)) place
   unfolding Calls.stepOutcome Steps.step
   at-place T e l h =
       passed control area v t _ T
-      ∙ rw (lt-ltb 0 (v (TaskPlace t)) (omega arith), lt-ltb (v (TaskClass t)) 16 h, e)
+      ∙ rw (lt-ltb IDLE (v (TaskPlace t)) (omega arith), lt-ltb (v (TaskClass t)) CLASSES h, e)
 
   -- the step at the place of a task that is not idle is refused by 14 alone
-  pub place-goes : v (TaskClass t) < 16 → 1 ≤ v (TaskPlace t)
+  pub place-goes : v (TaskClass t) < CLASSES → 1 ≤ v (TaskPlace t)
       → Goes placeRefusals (Steps.stepAt v link (v Regions) t (v (TaskClass t)) (v (TaskPlace t)) .answer)
   place-goes fits busy = goes (step-at v link t fits busy)
 

@@ -1,18 +1,18 @@
 -- The premises of the agreement are met by a run with the moves that need care: lost exchanges of a head and of an anchor, a
 -- region closed in one return and opened again for another class, an EMPTY anchor found on a partial list, a head that changes
 -- and comes back to its item between a read and its exchange, 13, and users' writes. All of it is computed on the plain pool.
--- Assumes nothing.
 use mathlib.Core.Path.{_≡_, refl, sym, ap, subst, _∙_}
 use mathlib.Core.List.{List, [], _∷_, _++_, map}
-use Prim.Native.Nat.{ℕ, zero, suc}
+use Prim.Native.Nat.{ℕ, zero, suc, _*_}
 use native.Mathlib.Omega.{arith}
 use native.Mathlib.Decide.{ℕ-discrete, decLt, decLe}
 use lib.ListN.{length, replicate}
+use Rattle.limits.specs.Limits.{CONTROL-BYTES, REGION-BYTES, SPARE-DESCRIPTORS, SPARE-REGIONS}
 use Rattle.rows.specs.Branch.{both}
 use Rattle.rows.specs.Update.{update}
 use Rattle.classes.specs.Classes.{units, perRegion}
 use Rattle.classes.specs.Sizes.{classOf}
-use Rattle.plain.specs.State.{EMPTY, FULL, exchange, spare, popping, SPARES, REGIONS}
+use Rattle.plain.specs.State.{EMPTY, FULL, exchange, spare, popping}
 use Rattle.plain.specs.Moves.{Decided, nothing, found-empty, popped, pushed, lost, anchor-empty, took, gave}
 use Rattle.plain.specs.Moves.{anchor-lost, Answer, going, finished, ended, refused}
 use Rattle.plain.specs.Steps.{step}
@@ -28,15 +28,19 @@ use Rattle.agreement.proofs.Theorem.{agreement}
 
 -- ---- the lines of the schedule: two regions, three tasks
 
+-- an area of two regions
+abbrev pub AREA : ℕ
+AREA = 2 * REGION-BYTES
+
 abbrev pub allocates : ℕ → ℕ → List Event
-allocates t size = allocate 8192 8192 t size ∷ []
+allocates t size = allocate CONTROL-BYTES AREA t size ∷ []
 
 abbrev pub frees : ℕ → ℕ → List Event
-frees t u = free 8192 8192 t u ∷ []
+frees t u = free CONTROL-BYTES AREA t u ∷ []
 
 -- n steps of the task t
 abbrev pub steps : ℕ → ℕ → List Event
-steps t n = replicate n (go 8192 8192 t)
+steps t n = replicate n (go CONTROL-BYTES AREA t)
 
 abbrev pub writes : ℕ → ℕ → List Event
 writes at b = write at b ∷ []
@@ -45,8 +49,8 @@ writes at b = write at b ∷ []
 abbrev pub Line : Type 0
 Line = List Event × List Answer
 
--- Lists 0 to 15 are the partial descriptors of the classes, 16 the spare descriptors, 17 the spare regions. Blocks of 256
--- bytes are class 15, with n = 16; block i of region r is the unit 512 × r + 32 × i.
+-- A list of partial descriptors has the number of its class. Blocks of 256 bytes are class 15, with n = 16; block i of region
+-- r is the unit 512 × r + 32 × i.
 abbrev pub contention : List Line
 contention =
     -- Tasks 0 and 1 begin alike: each has read the head of the spare descriptors and the next of the top one.
@@ -56,10 +60,10 @@ contention =
     ∷ (steps 1 4, going (found-empty 15) ∷ [])
     -- Task 0 wins its exchange; task 1 loses it and pops the next descriptor. Each opens a region and carves its 16 blocks,
     -- and its user gets the last of them.
-    ∷ (steps 0 1, going (popped 16 0) ∷ [])
-    ∷ (steps 1 1, going (lost 16) ∷ [])
-    ∷ (steps 0 21, going (popped 17 0) ∷ finished 480 ∷ [])
-    ∷ (steps 1 24, going (popped 16 1) ∷ going (popped 17 1) ∷ finished 992 ∷ [])
+    ∷ (steps 0 1, going (popped SPARE-DESCRIPTORS 0) ∷ [])
+    ∷ (steps 1 1, going (lost SPARE-DESCRIPTORS) ∷ [])
+    ∷ (steps 0 21, going (popped SPARE-REGIONS 0) ∷ finished 480 ∷ [])
+    ∷ (steps 1 24, going (popped SPARE-DESCRIPTORS 1) ∷ going (popped SPARE-REGIONS 1) ∷ finished 992 ∷ [])
     -- The users write into their blocks, over the links, and get one block more each.
     ∷ (writes 3840 170, [])
     ∷ (writes 7936 255, [])
@@ -100,14 +104,14 @@ closing =
     ∷ (allocates 0 256, [])
     ∷ (steps 0 1, finished 416 ∷ [])
     ∷ (frees 2 416, [])
-    ∷ (steps 2 29, going (gave 1) ∷ going (pushed 17 1) ∷ going (pushed 15 1) ∷ finished 0 ∷ [])
+    ∷ (steps 2 29, going (gave 1) ∷ going (pushed SPARE-REGIONS 1) ∷ going (pushed 15 1) ∷ finished 0 ∷ [])
     ∷ []
 
 abbrev pub reopening : List Line
 reopening =
     -- Region 1 is opened again, for blocks of 224 bytes, class 14; the user writes the first and the last byte of one.
     (allocates 0 224, [])
-    ∷ (steps 0 28, going (found-empty 14) ∷ going (popped 16 2) ∷ going (popped 17 1) ∷ finished 988 ∷ [])
+    ∷ (steps 0 28, going (found-empty 14) ∷ going (popped SPARE-DESCRIPTORS 2) ∷ going (popped SPARE-REGIONS 1) ∷ finished 988 ∷ [])
     ∷ (writes 7904 7, [])
     ∷ (writes 8127 9, [])
     -- Task 1's cache has one block. Then its list has the descriptor that is EMPTY, which goes to the spare ones, and below it
@@ -115,7 +119,7 @@ reopening =
     ∷ (allocates 1 256, [])
     ∷ (steps 1 1, finished 448 ∷ [])
     ∷ (allocates 1 256, [])
-    ∷ (steps 1 8, going (popped 15 1) ∷ going (anchor-empty 1) ∷ going (pushed 16 1) ∷ [])
+    ∷ (steps 1 8, going (popped 15 1) ∷ going (anchor-empty 1) ∷ going (pushed SPARE-DESCRIPTORS 1) ∷ [])
     ∷ (steps 1 7, going (popped 15 0) ∷ going (took 0) ∷ finished 480 ∷ [])
     -- Task 1 wants 192 bytes: it has read the head of the spare descriptors, with descriptor 1 on top, and its next.
     ∷ (allocates 1 192, [])
@@ -126,16 +130,16 @@ abbrev pub meanwhile : List Line
 meanwhile =
     -- Task 2 pops descriptor 1, finds no spare region, pushes it back and ends with 13: it is on top again.
     (allocates 2 160, [])
-    ∷ (steps 2 6, going (found-empty 12) ∷ going (popped 16 1) ∷ going (found-empty 17) ∷ [])
-    ∷ (steps 2 3, ended 13 (pushed 16 1) ∷ [])
+    ∷ (steps 2 6, going (found-empty 12) ∷ going (popped SPARE-DESCRIPTORS 1) ∷ going (found-empty SPARE-REGIONS) ∷ [])
+    ∷ (steps 2 3, ended 13 (pushed SPARE-DESCRIPTORS 1) ∷ [])
     ∷ []
 
 abbrev pub ending : List Line
 ending =
     -- Task 1 loses its exchange, though the item is the one that it noted; it tries again and ends with 13.
-    (steps 1 1, going (lost 16) ∷ [])
-    ∷ (steps 1 4, going (popped 16 1) ∷ going (found-empty 17) ∷ [])
-    ∷ (steps 1 3, ended 13 (pushed 16 1) ∷ [])
+    (steps 1 1, going (lost SPARE-DESCRIPTORS) ∷ [])
+    ∷ (steps 1 4, going (popped SPARE-DESCRIPTORS 1) ∷ going (found-empty SPARE-REGIONS) ∷ [])
+    ∷ (steps 1 3, ended 13 (pushed SPARE-DESCRIPTORS 1) ∷ [])
     ∷ []
 
 abbrev pub schedule : List Line
@@ -172,7 +176,7 @@ told (a ∷ q) = toldBy (a .code) (a .decided) a (told q)
 
 -- the pool of three tasks and two regions
 abbrev started : Pool
-started = call (Plain.start 8192 8192 3) unstarted .0
+started = call (Plain.start CONTROL-BYTES AREA 3) unstarted .0
 
 -- the run as it is told above is that of the plain pool
 pub told-whole : told (wholeAnswers (events schedule) started) ≡ answers schedule
@@ -194,7 +198,7 @@ reopened = after (events reopening) closed
 -- for class 14, by descriptor 2.
 pub region-closed :
     (contended .mem .descriptor 1 .state ≡ FULL) × (closed .mem .descriptor 1 .state ≡ EMPTY) × (closed .mem .map 1 ≡ 0)
-    × (closed .mem .row REGIONS ≡ 1 ∷ []) × (reopened .mem .map 1 ≡ 3) × (reopened .mem .descriptor 2 .class ≡ 14)
+    × (closed .mem .row SPARE-REGIONS ≡ 1 ∷ []) × (reopened .mem .map 1 ≡ 3) × (reopened .mem .descriptor 2 .class ≡ 14)
 unfolding call step startMem rising units perRegion update ℕ-discrete decLt decLe both unstarted classOf
 region-closed = (refl, refl, refl, refl, refl, refl)
 
@@ -203,9 +207,9 @@ returned = after (events meanwhile) reopened
 
 -- Task 1 noted 4 won exchanges of the spare descriptors. There are two more when it tries its own, and the row is the same.
 pub head-returned :
-    (reopened .mem .task 1 .place ≡ popping (spare 13) (exchange 4)) × (reopened .mem .won SPARES ≡ 4)
-    × (returned .mem .task 1 .place ≡ popping (spare 13) (exchange 4)) × (returned .mem .won SPARES ≡ 6)
-    × (reopened .mem .row SPARES ≡ 1 ∷ rising 61 3) × (returned .mem .row SPARES ≡ 1 ∷ rising 61 3)
+    (reopened .mem .task 1 .place ≡ popping (spare 13) (exchange 4)) × (reopened .mem .won SPARE-DESCRIPTORS ≡ 4)
+    × (returned .mem .task 1 .place ≡ popping (spare 13) (exchange 4)) × (returned .mem .won SPARE-DESCRIPTORS ≡ 6)
+    × (reopened .mem .row SPARE-DESCRIPTORS ≡ 1 ∷ rising 61 3) × (returned .mem .row SPARE-DESCRIPTORS ≡ 1 ∷ rising 61 3)
 unfolding call step startMem rising units perRegion update ℕ-discrete decLt decLe both unstarted classOf
 head-returned = (refl, refl, refl, refl, refl, refl)
 
@@ -213,7 +217,7 @@ head-returned = (refl, refl, refl, refl, refl, refl)
 
 -- the schedule on an area, whose bytes may be any
 abbrev pub scheduleOn : List ℕ → List Event
-scheduleOn area = start 8192 area 3 ∷ events schedule
+scheduleOn area = start CONTROL-BYTES area 3 ∷ events schedule
 
 -- every write is into a block in a user's hands
 writes-held : Writes (events schedule) started
@@ -223,12 +227,12 @@ writes-held = found (writes? (events schedule) started) tt
 few : length (events schedule) ≡ 239
 few = refl
 
-pub premises : (area : List ℕ) → length area ≡ 8192 → Premises (scheduleOn area) unstarted
+pub premises : (area : List ℕ) → length area ≡ AREA → Premises (scheduleOn area) unstarted
 unfolding unstarted
 premises area h = (
   tt,
-  subst (λ (n : ℕ). Premises (events schedule) (call (Plain.start 8192 n 3) unstarted .0)) (sym h)
-      (short 1 (events schedule) started (most 0 (Plain.start 8192 8192 3) unstarted (λ k. absurd (omega arith))) (omega (arith, few)) writes-held),
+  subst (λ (n : ℕ). Premises (events schedule) (call (Plain.start CONTROL-BYTES n 3) unstarted .0)) (sym h)
+      (short 1 (events schedule) started (most 0 (Plain.start CONTROL-BYTES AREA 3) unstarted (λ k. absurd (omega arith))) (omega (arith, few)) writes-held),
 )
 
 -- what the stepped run does on the bytes: it agrees with the plain pool, and tells what the schedule tells
@@ -236,7 +240,7 @@ pub record Example (area : List ℕ) (s₁ : Memories) : Type 0 where
   pub agrees : Agree (scheduleOn area) s₁ unstarted
   pub tells : told (steppedAnswers (scheduleOn area) s₁) ≡ answers schedule
 
-pub example : (area : List ℕ) (s₁ : Memories) → length area ≡ 8192 → Unstarted s₁ → Example area s₁
+pub example : (area : List ℕ) (s₁ : Memories) → length area ≡ AREA → Unstarted s₁ → Example area s₁
 unfolding call unstarted ℕ-discrete both decLt
 example area s₁ h U =
     let p = premises area h in
@@ -244,6 +248,6 @@ example area s₁ h U =
       agrees = agreement (scheduleOn area) s₁ U p;
       tells =
           ap told (answered (scheduleOn area) s₁ U p)
-          ∙ subst (λ (n : ℕ). told (call (Plain.start 8192 n 3) unstarted .1 ∷ wholeAnswers (events schedule) (call (Plain.start 8192 n 3) unstarted .0)) ≡ answers schedule)
+          ∙ subst (λ (n : ℕ). told (call (Plain.start CONTROL-BYTES n 3) unstarted .1 ∷ wholeAnswers (events schedule) (call (Plain.start CONTROL-BYTES n 3) unstarted .0)) ≡ answers schedule)
           (sym h) told-whole;
     }

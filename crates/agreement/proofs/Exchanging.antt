@@ -1,5 +1,4 @@
 -- The exchange of step 3 of a free, in both pools: the group goes before the chain.
--- Assumes nothing.
 use mathlib.Core.Path.{_≡_, refl, sym, ap, subst, _∙_}
 use mathlib.Core.List.{List, [], _∷_, _++_}
 use Prim.Native.Nat.{ℕ, _+_, _≤_, _<_}
@@ -8,6 +7,7 @@ use native.Mathlib.Decide.{ℕ-discrete}
 use borrow.Author.Tests.{eq-eqb, ne-eqb, lt-ltb, le-leb, eqb-true}
 use lib.Dec.{eqb}
 use lib.ListN.{length, length-append}
+use Rattle.limits.specs.Limits.{DESCRIPTORS, MOST-BLOCKS}
 use Rattle.rows.specs.Linked.{Linked}
 use Rattle.rows.proofs.Linked.{linked-append, linked-append-one}
 use Rattle.rows.proofs.Weights.{when-same}
@@ -30,6 +30,7 @@ use Rattle.plain.proofs.Places.{placeHolds, taskOf}
 use Rattle.plain.proofs.States.{open-holds}
 use Rattle.control.specs.Layout.{layout, Anchor, GroupCount, GroupFirst, TaskAnchor, TaskClass, TaskDescriptor}
 use Rattle.control.specs.Layout.{TaskPlace, TaskRegion, TaskState, TaskUnit}
+use Rattle.control.specs.Places.{PUSH-OFFER, F1, F2, F3-READ, F4-CLEAR}
 use Rattle.stepped.specs.Free as Free
 use Rattle.agreement.specs.Memory.{Slot, slotOf, memoryOf}
 use Rattle.agreement.specs.Relation.{ChainRelated, GroupRelated, NoteRelated, PlaceRelated, PushRelated}
@@ -163,9 +164,9 @@ module _ {regions : ℕ} {v : View} {area : List ℕ} {m : Mem} {t : ℕ} {k : �
         meet _ _ i (record {
           says = refl;
           keeps = (refl, refl);
-          rel = rw (← (G .region)) (gives EMPTY (rw i) tt _ (part 33)
+          rel = rw (← (G .region)) (gives EMPTY (rw i) tt _ (part F4-CLEAR)
               (f4-clear c u d (n .state) (v (TaskRegion t)))
-              (place-written 33) refl refl (r-f4-clear refl (N .state)));
+              (place-written F4-CLEAR) refl refl (r-f4-clear refl (N .state)));
           sound = (omega (arith, w .pair .turn .fits), sound);
           apart = tt;
         })
@@ -182,17 +183,17 @@ module _ {regions : ℕ} {v : View} {area : List ℕ} {m : Mem} {t : ℕ} {k : �
     some e =
         let i = ne-eqb (anchorOf a .count + h) (perRegion c) (λ f. e (sym counted ∙ f)) in
         let to = gives PARTIAL (rw i) (record { linked = rw (own .class) joined; counts = counted }) in
-        let v₂ = assigned (TaskPlace t := 29 ∷ GroupCount t := 0 ∷ ws) v in
+        let v₂ = assigned (TaskPlace t := F2 ∷ GroupCount t := 0 ∷ ws) v in
         miss _ _ i (five w (gave d) ws (setDescriptor d (chained (m .descriptor d) PARTIAL J) m) u sound (refl, refl)
-        (to _ (part 28) (f1 c u) (place-written 28) refl refl (r-f1 refl))
-        (to v₂ (toGrouped 0 (part 29)) (f2 c u [])
+        (to _ (part F1) (f1 c u) (place-written F1) refl refl (r-f1 refl))
+        (to v₂ (toGrouped 0 (part F2)) (f2 c u [])
         (record {
           shared = anchor-written v (slotOf v₂) area d (anchorWord new);
           own = rw (eq-eqb t t refl);
           others = λ j d. rw (ne-eqb t j d);
         }) refl refl (r-f2 refl refl))
         (anchorOf a .state) (n .state) d (N .state)
-        (to _ (part 20) (pushing (offer c u d) read) (place-written 20) refl refl
+        (to _ (part PUSH-OFFER) (pushing (offer c u d) read) (place-written PUSH-OFFER) refl refl
         (r-offer (PushRelated.at-read refl))))
 
     won : (e : Dec (length J ≡ perRegion c))
@@ -214,14 +215,14 @@ module _ {regions : ℕ} {v : View} {area : List ℕ} {m : Mem} {t : ℕ} {k : �
       let O = open-holds (m .descriptor d .state) (own .counts) (w .pair .turn .inv .chains d (own .fits)) in
       let M = re-note {m = m} {m′ = m} refl (sym (own .class)) N in
       pass _ (both-true (both-true (both-true (both-true
-      (lt-ltb d 64 (own .fits))
+      (lt-ltb d DESCRIPTORS (own .fits))
       (lt-ltb (v (GroupFirst t)) (perRegion c) first-fits))
       (both-true (le-leb 1 h (omega (arith, G .counts))) (le-leb h (perRegion c) (omega arith))))
       (note-anchor a h N room)) (note-room a h N room))
       (pass _ (both-true (both-true
       (le-leb (anchorOf b .state) 2 (rw (D .state) (number-max (m .descriptor d .state))))
-      (le-leb (anchorOf b .avail) 512 (C .descriptors .avails d (own .fits))))
-      (le-leb (anchorOf b .count) 512 (C .descriptors .chainCounts d (own .fits))))
+      (le-leb (anchorOf b .avail) MOST-BLOCKS (C .descriptors .avails d (own .fits))))
+      (le-leb (anchorOf b .count) MOST-BLOCKS (C .descriptors .chainCounts d (own .fits))))
       (decide (eqb b a) (asNoted? (m .descriptor d) n)
       (λ e. same-unmoved m d n D chain-of O M (anchor-word-same b a (eqb-true b a e)))
       (λ q. eq-eqb b a (same-anchor-word b a (unmoved-same m d n D chain-of O M q)))
@@ -229,7 +230,7 @@ module _ {regions : ℕ} {v : View} {area : List ℕ} {m : Mem} {t : ℕ} {k : �
       (λ e q. record {
         says = refl;
         keeps = (refl, refl);
-        rel = goes w (TaskPlace t := 30 ∷ []) (toPlace 30 (slotOf v t)) (f3-read c u y g)
+        rel = goes w (TaskPlace t := F3-READ ∷ []) (toPlace F3-READ (slotOf v t)) (f3-read c u y g)
             refl (rw (eq-eqb t t refl)) (λ j n. rw (ne-eqb t j n)) refl refl
             (r-f3-read refl (same-group refl refl refl refl G));
         sound = omega (arith, w .pair .turn .fits);

@@ -1,5 +1,4 @@
 -- Steps 4 and 8 of allocate, in both pools: a block of a taken chain, or of a new region, goes to the cache.
--- Assumes nothing.
 use mathlib.Core.Path.{_≡_, refl, sym, ap, subst, _∙_}
 use mathlib.Core.Bool.{_&&_}
 use mathlib.Core.List.{List, [], _∷_}
@@ -30,6 +29,7 @@ use Rattle.plain.proofs.Blocks.{counts-block}
 use Rattle.plain.proofs.Owners.{home-of}
 use Rattle.plain.proofs.Places.{placeHolds}
 use Rattle.control.specs.Layout.{TaskPlace, TaskClass, TaskRegion, TaskIndex, TaskLeft, CacheTop, CacheCount}
+use Rattle.control.specs.Places.{A1, A4, A8}
 use Rattle.control.specs.declared.answer.Answer.the-variants.{Accepted}
 use Rattle.stepped.specs.Ranges.{oneTo, isTop}
 use Rattle.stepped.specs.Allocate as Allocate
@@ -62,7 +62,7 @@ module _ {regions : ℕ} {v : View} {area : List ℕ} {m : Mem} {t : ℕ} {k : �
       let f : perRegion c - i ≡ suc (perRegion c - suc i) = omega (arith, placeHolds (w .pair .turn)) in
       omega (arith, ap (λ (n : ℕ). count (unitOf r c i) (blocksFrom r c i n)) f, when-same (unitOf r c i) 1)
 
-  put-both : At regions v area m t (a8 (v (TaskClass t)) (v (TaskRegion t)) (v (TaskIndex t))) k → v (TaskPlace t) ≡ 27
+  put-both : At regions v area m t (a8 (v (TaskClass t)) (v (TaskRegion t)) (v (TaskIndex t))) k → v (TaskPlace t) ≡ A8
       → (d : Dec (suc (v (TaskIndex t)) ≡ perRegion (v (TaskClass t))))
       → Both regions v area m
       (Allocate.a8Put v (link area) regions t (v (TaskClass t)) (unitOf (v (TaskRegion t)) (v (TaskClass t)) (v (TaskIndex t)))
@@ -76,7 +76,7 @@ module _ {regions : ℕ} {v : View} {area : List ℕ} {m : Mem} {t : ℕ} {k : �
       let c = v (TaskClass t) in
       let i = v (TaskIndex t) in
       meet _ (eqb (i + 1) (perRegion c)) (eq-eqb (i + 1) (perRegion c) (omega arith))
-      (push-both w Accepted nothing (TaskPlace t := 1 ∷ []) (unitOf (v (TaskRegion t)) c i) (toPlace 1 (slotOf v t)) (a1 c)
+      (push-both w Accepted nothing (TaskPlace t := A1 ∷ []) (unitOf (v (TaskRegion t)) c i) (toPlace A1 (slotOf v t)) (a1 c)
       (carved-here w) (omega (arith, placeHolds (w .pair .turn))) (omega (arith, w .pair .turn .fits)) (refl, refl)
       refl (rw (eq-eqb t t refl)) (λ j d. rw (ne-eqb t j d)) refl refl (r-a1 refl))
   put-both w e (no f) =
@@ -89,7 +89,7 @@ module _ {regions : ℕ} {v : View} {area : List ℕ} {m : Mem} {t : ℕ} {k : �
       (omega (arith, w .pair .turn .fits, placeHolds (w .pair .turn), perRegion-high c)) (refl, refl)
       refl (rw (eq-eqb t t refl, add-one i)) (λ j d. rw (ne-eqb t j d)) refl refl (r-a8 e))
 
-  pub a8-both : At regions v area m t (a8 (v (TaskClass t)) (v (TaskRegion t)) (v (TaskIndex t))) k → v (TaskPlace t) ≡ 27
+  pub a8-both : At regions v area m t (a8 (v (TaskClass t)) (v (TaskRegion t)) (v (TaskIndex t))) k → v (TaskPlace t) ≡ A8
       → Both regions v area m (Allocate.a8 v (link area) regions t (v (TaskClass t)))
       (Steps.stepAt t k (a8 (v (TaskClass t)) (v (TaskRegion t)) (v (TaskIndex t))) m)
   unfolding Allocate.a8
@@ -111,7 +111,7 @@ module _ {regions : ℕ} {v : View} {area : List ℕ} {m : Mem} {t : ℕ} {k : �
   -- ---- step 4: the chain's first block is where the index says
 
   -- the block x moves, and q is left
-  move-both : (x : ℕ) (q : List ℕ) → At regions v area m t (a4 (v (TaskClass t)) x q) k → v (TaskPlace t) ≡ 25
+  move-both : (x : ℕ) (q : List ℕ) → At regions v area m t (a4 (v (TaskClass t)) x q) k → v (TaskPlace t) ≡ A4
       → Linked (link area) (indexOf (v (TaskClass t))) (perRegion (v (TaskClass t))) (link area x) q
       → v (TaskLeft t) ≡ suc (length q)
       → ((y : ℕ) → count y (x ∷ q) ≤ isBlock y (v (TaskRegion t)) (v (TaskClass t)))
@@ -123,7 +123,7 @@ module _ {regions : ℕ} {v : View} {area : List ℕ} {m : Mem} {t : ℕ} {k : �
   move-both x [] w e l f h =
       let c = v (TaskClass t) in
       meet _ (eqb (v (TaskLeft t)) 1) (eq-eqb (v (TaskLeft t)) 1 f)
-      (push-both w Accepted nothing (TaskPlace t := 1 ∷ []) x (toPlace 1 (slotOf v t)) (a1 c)
+      (push-both w Accepted nothing (TaskPlace t := A1 ∷ []) x (toPlace A1 (slotOf v t)) (a1 c)
       (omega (arith, when-same x 1)) (omega (arith, placeHolds (w .pair .turn))) (omega (arith, w .pair .turn .fits)) (refl, refl)
       refl (rw (eq-eqb t t refl)) (λ j d. rw (ne-eqb t j d)) refl refl (r-a1 refl))
   move-both x (y ∷ q) w e l f h =
@@ -143,7 +143,7 @@ module _ {regions : ℕ} {v : View} {area : List ℕ} {m : Mem} {t : ℕ} {k : �
       (r-a4 e (linked-frame (row-agrees (w .pair) x (v (CacheTop t c)) (y ∷ q) o (λ z. omega arith) once) l) (omega arith)
       (λ z. omega (arith, h z)))))
 
-  pub a4-both : {x : ℕ} {q : List ℕ} → At regions v area m t (a4 (v (TaskClass t)) x q) k → v (TaskPlace t) ≡ 25
+  pub a4-both : {x : ℕ} {q : List ℕ} → At regions v area m t (a4 (v (TaskClass t)) x q) k → v (TaskPlace t) ≡ A4
       → Linked (link area) (indexOf (v (TaskClass t))) (perRegion (v (TaskClass t))) (v (TaskIndex t)) (x ∷ q)
       → v (TaskLeft t) ≡ suc (length q)
       → ((y : ℕ) → count y (x ∷ q) ≤ isBlock y (v (TaskRegion t)) (v (TaskClass t)))

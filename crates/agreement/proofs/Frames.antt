@@ -4,6 +4,7 @@ use mathlib.Core.Logic.{_≢_}
 use mathlib.Core.List.{List, [], _∷_}
 use Prim.Native.Nat.{ℕ, _≤_, _<_}
 use native.Mathlib.Omega.{arith}
+use Rattle.limits.specs.Limits.{TASKS, CLASSES}
 use Rattle.words.specs.declared.anchor.Anchor.{Anchor}
 use Rattle.words.specs.declared.head.Head.{Head}
 use Rattle.rows.specs.Counting.{count}
@@ -135,7 +136,7 @@ kept-slot {T = T} K S = record {
   fits = S .fits;
   place = kept-place {p = T .place} {k = T .cache} K (S .place);
   caches = record {
-    tops = λ c l. linked-frame (λ v h. K .links v (omega (arith, total-one 16 (rowWeight v) (T .cache) c l)))
+    tops = λ c l. linked-frame (λ v h. K .links v (omega (arith, total-one CLASSES (rowWeight v) (T .cache) c l)))
         (S .caches .tops c l);
     counts = S .caches .counts;
   };
@@ -143,10 +144,10 @@ kept-slot {T = T} K S = record {
 
 -- a task's step: what stands after it for that task, and what is kept for the others
 pub after : {regions : ℕ} {a a′ : Memory} {m m′ : Mem} (t : ℕ) (s : Slot) (T : Task) → a′ .slot ≡ update (a .slot) t s → m′ .task ≡ update (m .task) t T
-    → Core regions a′ m′ → SlotRelated regions a′ m′ s T → ((j : ℕ) → j < 8 → j ≢ t → Kept a a′ m m′ (m .task j))
-    → ((j : ℕ) → j < 8 → SlotRelated regions a m (a .slot j) (m .task j)) → Related regions a′ m′
+    → Core regions a′ m′ → SlotRelated regions a′ m′ s T → ((j : ℕ) → j < TASKS → j ≢ t → Kept a a′ m m′ (m .task j))
+    → ((j : ℕ) → j < TASKS → SlotRelated regions a m (a .slot j) (m .task j)) → Related regions a′ m′
 after {regions} {a} {a′} {m} {m′} t s T e f C own kept old = record {
   core = C;
-  slots = subst (λ (F : ℕ → Slot). (j : ℕ) → j < 8 → SlotRelated regions a′ m′ (F j) (m′ .task j)) (sym e) (subst (λ (G : ℕ → Task). (j : ℕ) → j < 8 → SlotRelated regions a′ m′ (update (a .slot) t s j) (G j)) (sym f)
-      (update-all₂ (λ j z U. j < 8 → SlotRelated regions a′ m′ z U) (a .slot) (m .task) t s T (λ l. own) (λ j d l. kept-slot (kept j l d) (old j l))));
+  slots = subst (λ (F : ℕ → Slot). (j : ℕ) → j < TASKS → SlotRelated regions a′ m′ (F j) (m′ .task j)) (sym e) (subst (λ (G : ℕ → Task). (j : ℕ) → j < TASKS → SlotRelated regions a′ m′ (update (a .slot) t s j) (G j)) (sym f)
+      (update-all₂ (λ j z U. j < TASKS → SlotRelated regions a′ m′ z U) (a .slot) (m .task) t s T (λ l. own) (λ j d l. kept-slot (kept j l d) (old j l))));
 }

@@ -1,5 +1,4 @@
 -- Step 2 of a free, in both pools: a cache's top goes into the group, or the group is closed.
--- Assumes nothing.
 use mathlib.Core.Path.{_≡_, refl, sym, ap, _∙_}
 use mathlib.Core.Bool.{false, _&&_}
 use mathlib.Core.List.{List, [], _∷_, _++_}
@@ -24,6 +23,7 @@ use Rattle.plain.specs.Steps as Steps
 use Rattle.plain.proofs.Places.{lengths, placeHolds, taskOf}
 use Rattle.control.specs.Layout.{CacheTop, CacheCount, GroupCount, GroupFirst, GroupLast, TaskRegion, TaskClass}
 use Rattle.control.specs.Layout.{TaskPlace, TaskUnit}
+use Rattle.control.specs.Places.{F2, F3-READ}
 use Rattle.stepped.specs.Free as Free
 use Rattle.agreement.specs.Memory.{slotOf, memoryOf}
 use Rattle.agreement.specs.Relation.{GroupRelated, r-f2-more, r-f3-read}
@@ -40,7 +40,7 @@ use Rattle.agreement.proofs.Groups.{region-below}
 
 module _ {regions : ℕ} {v : View} {area : List ℕ} {m : Mem} {t : ℕ} {k : ℕ → List ℕ} where
   -- the first block of a group
-  first-both : At regions v area m t (f2 (v (TaskClass t)) (v (TaskUnit t)) []) k → v (TaskPlace t) ≡ 29
+  first-both : At regions v area m t (f2 (v (TaskClass t)) (v (TaskUnit t)) []) k → v (TaskPlace t) ≡ F2
       → (x : ℕ) (q : List ℕ) → k (v (TaskClass t)) ≡ x ∷ q
       → Both regions v area m
       (Free.f2First v (link area) regions t (v (TaskClass t)) (v (CacheCount t (v (TaskClass t))))
@@ -88,7 +88,7 @@ module _ {regions : ℕ} {v : View} {area : List ℕ} {m : Mem} {t : ℕ} {k : �
   module _ {y : ℕ} {g : List ℕ} (w : At regions v area m t (f2 (v (TaskClass t)) (v (TaskUnit t)) (y ∷ g)) k)
       (G : GroupRelated (memoryOf v area) (slotOf v t) y g) where
     -- a further block, linked behind the last
-    more-both : v (TaskPlace t) ≡ 29 → (x : ℕ) (q : List ℕ) → k (v (TaskClass t)) ≡ x ∷ q
+    more-both : v (TaskPlace t) ≡ F2 → (x : ℕ) (q : List ℕ) → k (v (TaskClass t)) ≡ x ∷ q
         → Both regions v area m
         (Free.f2More v (link area) regions t (v (TaskClass t)) (v (CacheCount t (v (TaskClass t))))
         (v (CacheTop t (v (TaskClass t)))) (v (GroupCount t)) (v (TaskRegion t))) (
@@ -153,7 +153,7 @@ module _ {regions : ℕ} {v : View} {area : List ℕ} {m : Mem} {t : ℕ} {k : �
     close-both = record {
       says = refl;
       keeps = (refl, refl);
-      rel = goes w (TaskPlace t := 30 ∷ []) (toPlace 30 (slotOf v t)) (f3-read (v (TaskClass t)) (v (TaskUnit t)) y g)
+      rel = goes w (TaskPlace t := F3-READ ∷ []) (toPlace F3-READ (slotOf v t)) (f3-read (v (TaskClass t)) (v (TaskUnit t)) y g)
           refl (rw (eq-eqb t t refl)) (λ j n. rw (ne-eqb t j n)) refl refl
           (r-f3-read refl (same-group refl refl refl refl G));
       sound = omega (arith, w .pair .turn .fits);
@@ -161,7 +161,7 @@ module _ {regions : ℕ} {v : View} {area : List ℕ} {m : Mem} {t : ℕ} {k : �
     }
 
   -- with an empty group the cache has a block
-  pub f2-both : At regions v area m t (f2 (v (TaskClass t)) (v (TaskUnit t)) []) k → v (TaskPlace t) ≡ 29
+  pub f2-both : At regions v area m t (f2 (v (TaskClass t)) (v (TaskUnit t)) []) k → v (TaskPlace t) ≡ F2
       → v (GroupCount t) ≡ 0
       → Both regions v area m (Free.f2 v (link area) regions t (v (TaskClass t)))
       (Steps.stepAt t k (f2 (v (TaskClass t)) (v (TaskUnit t)) []) m)
@@ -180,7 +180,7 @@ module _ {regions : ℕ} {v : View} {area : List ℕ} {m : Mem} {t : ℕ} {k : �
 
   -- beside a group, the cache may be empty
   pub f2-more-both : {y : ℕ} {g : List ℕ} → At regions v area m t (f2 (v (TaskClass t)) (v (TaskUnit t)) (y ∷ g)) k
-      → v (TaskPlace t) ≡ 29 → GroupRelated (memoryOf v area) (slotOf v t) y g
+      → v (TaskPlace t) ≡ F2 → GroupRelated (memoryOf v area) (slotOf v t) y g
       → Both regions v area m (Free.f2 v (link area) regions t (v (TaskClass t)))
       (Steps.stepAt t k (f2 (v (TaskClass t)) (v (TaskUnit t)) (y ∷ g)) m)
   unfolding Free.f2 Free.f2Top

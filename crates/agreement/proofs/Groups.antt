@@ -1,5 +1,4 @@
 -- A group of blocks that a free returns: where its blocks lie, and what a written last link leaves of it.
--- Assumes nothing.
 use mathlib.Core.Path.{_≡_, sym, ap, subst, _∙_}
 use mathlib.Core.List.{List, [], _∷_, _++_}
 use Prim.Native.Nat.{ℕ, _≤_, _<_}

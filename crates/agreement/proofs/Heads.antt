@@ -1,5 +1,4 @@
 -- The eighteen lists, for pops and pushes alike: what the relation says of one, and the steps that both moves have.
--- Assumes nothing.
 use mathlib.Core.Path.{_≡_, refl, _∙_}
 use mathlib.Core.Logic.{_≢_}
 use mathlib.Core.Bool.{cond}
@@ -9,13 +8,14 @@ use native.Mathlib.Omega.{arith}
 use native.Mathlib.Decide.{ℕ-discrete}
 use borrow.Author.Tests.{eq-eqb, ne-eqb, eqb-true}
 use lib.Dec.{eqb}
+use Rattle.limits.specs.Limits.{DESCRIPTORS, TAGS, SPARE-REGIONS, LISTS}
 use Rattle.rows.specs.Branch.{if}
 use Rattle.rows.specs.Linked.{Linked}
 use Rattle.fields.specs.Columns.{Field, View, Write, _:=_, assigned}
 use Rattle.words.specs.Head.{itemOf, tagOf, headOf, advancedWord}
 use Rattle.words.specs.declared.head.Head.{Head as HeadWord}
 use Rattle.words.proofs.Heads.{itemOf-advanced, tagOf-advanced}
-use Rattle.plain.specs.State.{Place, Mem, setRow, REGIONS}
+use Rattle.plain.specs.State.{Place, Mem, setRow}
 use Rattle.plain.specs.Moves.{Decided, nothing, going}
 use Rattle.plain.specs.Steps.{Result, at}
 use Rattle.plain.proofs.Places.{taskOf}
@@ -36,13 +36,13 @@ use Rattle.agreement.proofs.Sharing.{shares}
 
 -- The two kinds of list: its number, how many items there are, the field of an item's next, the column of the nexts.
 pub data Kind (regions : ℕ) : ℕ → ℕ → (ℕ → Field) → (Memory → ℕ → ℕ) → Type 0 where
-  descriptors : {ℓ : ℕ} → ℓ < 17 → Kind regions ℓ 64 DescriptorNext (λ a. a .lists .descriptorNext)
-  spare-regions : Kind regions REGIONS regions RegionNext (λ a. a .lists .regionNext)
+  descriptors : {ℓ : ℕ} → ℓ < SPARE-REGIONS → Kind regions ℓ DESCRIPTORS DescriptorNext (λ a. a .lists .descriptorNext)
+  spare-regions : Kind regions SPARE-REGIONS regions RegionNext (λ a. a .lists .regionNext)
 
 -- what the relation says of a list
 pub record Listed (v : View) (m : Mem) (ℓ items : ℕ) (nx : ℕ → Field) : Type 0 where
-  pub below : ℓ < 18
-  pub most : items ≤ 64
+  pub below : ℓ < LISTS
+  pub most : items ≤ DESCRIPTORS
   pub linked : Linked (λ (x : ℕ). v (nx x)) suc 0 (itemOf (v (Head ℓ))) (m .row ℓ)
   pub nexts : (x : ℕ) → x < items → v (nx x) ≤ items
   pub noted : Noted m ℓ (headOf (v (Head ℓ))) (m .won ℓ)
@@ -51,18 +51,18 @@ pub record Listed (v : View) (m : Mem) (ℓ items : ℕ) (nx : ℕ → Field) : 
 -- the exchange with the noted head is won, and leaves the item x, which is a number plus one, on top of the row q
 pub record Won (v : View) (m : Mem) (t ℓ : ℕ) (nx : ℕ → Field) (x : ℕ) (q : List ℕ) : Type 0 where
   pub tag : wrap (tagOf (v (TaskHead t)) + 1) ≡ wrap (m .won ℓ + 1)
-  pub most : x ≤ 64
+  pub most : x ≤ DESCRIPTORS
   pub linked : Linked (λ (y : ℕ). v (nx y)) suc 0 x q
 
 -- a list of one kind is linked by the nexts of that kind
 module _ (v : View) {f : ℕ} {q : List ℕ} {regions : ℕ} where
   of-descriptors : {ℓ items : ℕ} {nx : ℕ → Field} {column : Memory → ℕ → ℕ} → Kind regions ℓ items nx column
-      → Linked (λ (y : ℕ). v (nx y)) suc 0 f q → ℓ < 17 → Linked (λ (y : ℕ). v (DescriptorNext y)) suc 0 f q
+      → Linked (λ (y : ℕ). v (nx y)) suc 0 f q → ℓ < SPARE-REGIONS → Linked (λ (y : ℕ). v (DescriptorNext y)) suc 0 f q
   of-descriptors (descriptors l) h b = h
   of-descriptors spare-regions h b = absurd (omega arith)
 
   of-regions : {ℓ items : ℕ} {nx : ℕ → Field} {column : Memory → ℕ → ℕ} → Kind regions ℓ items nx column
-      → Linked (λ (y : ℕ). v (nx y)) suc 0 f q → ℓ ≡ REGIONS → Linked (λ (y : ℕ). v (RegionNext y)) suc 0 f q
+      → Linked (λ (y : ℕ). v (nx y)) suc 0 f q → ℓ ≡ SPARE-REGIONS → Linked (λ (y : ℕ). v (RegionNext y)) suc 0 f q
   of-regions (descriptors l) h b = absurd (omega arith)
   of-regions spare-regions h b = h
 
@@ -87,7 +87,7 @@ module _ {regions : ℕ} {v : View} {area : List ℕ} {m : Mem} {t : ℕ} {p : P
         most = omega (arith, w .pair .small);
         linked = C .lists .spareRow;
         nexts = C .lists .regionNexts;
-        noted = fresh (headOf (v (Head REGIONS))) (C .lists .tags REGIONS (omega arith)) (top-of (C .lists .spareRow));
+        noted = fresh (headOf (v (Head SPARE-REGIONS))) (C .lists .tags SPARE-REGIONS (omega arith)) (top-of (C .lists .spareRow));
         head = top-le (C .lists .spareRow) (listed-region (w .pair .turn .inv));
       }
 
@@ -111,7 +111,7 @@ module _ {regions : ℕ} {v : View} {area : List ℕ} {m : Mem} {t : ℕ} {p : P
   }
 
   -- the head read: the head word is noted
-  pub notes : (ℓ b : ℕ) (p′ : Place) → ℓ < 18 → b < 256
+  pub notes : (ℓ b : ℕ) (p′ : Place) → ℓ < LISTS → b < 256
       → PlaceRelated regions (setSlot t (toPlace b (toHead (headOf (v (Head ℓ))) (slotOf v t))) (memoryOf v area))
       (at t k p′ m) (toPlace b (toHead (headOf (v (Head ℓ))) (slotOf v t))) p′
       → Both regions v area m (accept nothing (TaskPlace t := b ∷ TaskHead t := v (Head ℓ) ∷ []) [])
@@ -128,7 +128,7 @@ module _ {regions : ℕ} {v : View} {area : List ℕ} {m : Mem} {t : ℕ} {p : P
 
   -- the exchange is won in both pools or in neither
   pub exchanges : {ℓ items n : ℕ} {nx : ℕ → Field} → Listed v m ℓ items nx → Noted m ℓ (headOf (v (TaskHead t))) n
-      → m .won ℓ < n + 4294967296 → {o o′ : Outcome} {y y′ : Result}
+      → m .won ℓ < n + TAGS → {o o′ : Outcome} {y y′ : Result}
       → (m .won ℓ ≡ n → wrap (tagOf (v (TaskHead t)) + 1) ≡ wrap (m .won ℓ + 1) → Both regions v area m o y)
       → Both regions v area m o′ y′
       → Both regions v area m (cond (eqb (v (Head ℓ)) (v (TaskHead t))) o o′) (if (ℕ-discrete (m .won ℓ) n) y y′)

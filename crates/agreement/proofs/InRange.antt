@@ -1,12 +1,12 @@
 -- The fields of the control memory are in their ranges, after every event of a run that meets the premises.
--- Assumes nothing.
 use Prim.Native.Nat.{ℕ, _≤_, _<_}
 use mathlib.Core.Path.{_≡_, refl, sym, subst, _∙_}
 use mathlib.Core.Bool.{true}
-use mathlib.Core.List.{List, [], _∷_}
+use mathlib.Core.List.{List, _∷_}
 use native.Mathlib.Omega.{arith}
 use native.Mathlib.Decide.{decLt}
 use lib.ListN.{length}
+use Rattle.limits.specs.Limits.{CONTROL-BYTES, UNITS, TASKS, CLASSES, DESCRIPTORS}
 use Rattle.rows.specs.Counting.{count}
 use Rattle.rows.specs.Linked.{Linked}
 use Rattle.rows.proofs.Branch.{if-yes}
@@ -27,6 +27,7 @@ use Rattle.plain.proofs.States.{open-holds}
 use Rattle.plain.proofs.Turn.{taskHolds}
 use Rattle.control.specs.Layout.{Anchor, CacheTop, CacheCount, TaskUnit, TaskPlace, TaskClass, TaskDescriptor}
 use Rattle.control.specs.Layout.{TaskState, DescriptorClass, Regions, seen}
+use Rattle.control.specs.Places.{PUSH-RELEASE, PUSH-OFFER, A3-READ, A8, F1, F3-EXCHANGE, F4-CLEAR}
 use Rattle.stepped.specs.Ranges.{isBlock, isTop}
 use Rattle.agreement.specs.Memory.{slotOf, memoryOf}
 use Rattle.agreement.specs.Relation.{PlaceRelated, Related}
@@ -54,9 +55,9 @@ use Rattle.agreement.proofs.TaskLists.{noted-at}
 -- What a free has under way, by the task's place: the block that is freed, and the descriptor that it owes to the partial list
 -- from its exchange on, where it found the anchor FULL.
 data Freeing (v : View) (t : ℕ) (p : Place) : Type 0 where
-  allocates : v (TaskPlace t) ≤ 16 → Freeing v t p
-  fills : 23 ≤ v (TaskPlace t) → v (TaskPlace t) ≤ 27 → Freeing v t p
-  frees : 20 ≤ v (TaskPlace t) → v (TaskPlace t) ≤ 32 → classAt p ≡ v (TaskClass t) → 1 ≤ count (v (TaskUnit t)) (underWay p)
+  allocates : v (TaskPlace t) < PUSH-RELEASE → Freeing v t p
+  fills : A3-READ ≤ v (TaskPlace t) → v (TaskPlace t) ≤ A8 → Freeing v t p
+  frees : PUSH-OFFER ≤ v (TaskPlace t) → v (TaskPlace t) ≤ F3-EXCHANGE → classAt p ≡ v (TaskClass t) → 1 ≤ count (v (TaskUnit t)) (underWay p)
       → Freeing v t p
   owes : (v (TaskState t) ≡ FULL → 1 ≤ holdsDescriptor (v (TaskDescriptor t)) p) → classAt p ≡ v (TaskClass t)
       → 1 ≤ count (v (TaskUnit t)) (underWay p) → Freeing v t p
@@ -105,35 +106,35 @@ module _ (regions : ℕ) (v : View) (area : List ℕ) (m : Mem) (t : ℕ) where
     freed-unit e h = subst (λ (z : ℕ). isBlock regions z u ≡ true) e (under-unit w u h)
 
     -- at the places of a free, which are 17 to 22 and 28 to 33
-    unit-at : Freeing v t p → 17 ≤ v (TaskPlace t) → (23 ≤ v (TaskPlace t) → 28 ≤ v (TaskPlace t)) → isBlock regions c u ≡ true
+    unit-at : Freeing v t p → PUSH-RELEASE ≤ v (TaskPlace t) → (A3-READ ≤ v (TaskPlace t) → F1 ≤ v (TaskPlace t)) → isBlock regions c u ≡ true
     unit-at (allocates h) i j = absurd (omega arith)
     unit-at (fills h l) i j = absurd (omega (arith, j h))
     unit-at (frees h l e o) i j = freed-unit e o
     unit-at (owes f e o) i j = freed-unit e o
 
     -- at those where a descriptor may be owed, which are 17 to 19 and 33
-    owed-at : Freeing v t p → 17 ≤ v (TaskPlace t) → (20 ≤ v (TaskPlace t) → 33 ≤ v (TaskPlace t)) → v (TaskState t) ≡ FULL → d < 64
+    owed-at : Freeing v t p → PUSH-RELEASE ≤ v (TaskPlace t) → (PUSH-OFFER ≤ v (TaskPlace t) → F4-CLEAR ≤ v (TaskPlace t)) → v (TaskState t) ≡ FULL → d < DESCRIPTORS
     owed-at (allocates h) i j f = absurd (omega arith)
     owed-at (fills h l) i j f = absurd (omega (arith, j (omega arith)))
     owed-at (frees h l e o) i j f = absurd (omega (arith, j h))
     owed-at (owes g e o) i j f = descriptor-in-hand (w .turn) d (g f)
 
     -- a cache's two fields
-    module _ (e : ℕ) (l : e < 16) where
+    module _ (e : ℕ) (l : e < CLASSES) where
       abbrev row : List ℕ
       row = k e
 
       count-is : v (CacheCount t e) ≡ length row
-      count-is = sym (if-yes (decLt e 16) (v (CacheCount t e)) 0 l) ∙ mine w .caches .counts e l
+      count-is = sym (if-yes (decLt e CLASSES) (v (CacheCount t e)) 0 l) ∙ mine w .caches .counts e l
 
-      top-linked : Linked (link area) (λ x. x) 8192 (v (CacheTop t e)) row
+      top-linked : Linked (link area) (λ x. x) UNITS (v (CacheTop t e)) row
       top-linked =
-          subst (λ (z : ℕ). Linked (link area) (λ x. x) 8192 z row) (if-yes (decLt e 16) (v (CacheTop t e)) 0 l) (mine w .caches .tops e l)
+          subst (λ (z : ℕ). Linked (link area) (λ x. x) UNITS z row) (if-yes (decLt e CLASSES) (v (CacheTop t e)) 0 l) (mine w .caches .tops e l)
 
       top-is : isTop regions e (v (CacheCount t e)) (v (CacheTop t e)) ≡ true
       top-is = rw count-is (below-tested w e (v (CacheTop t e)) row (λ x. omega arith) top-linked)
 
-      top-below : v (CacheTop t e) ≤ 8192
+      top-below : v (CacheTop t e) ≤ UNITS
       top-below = top-max w e (v (CacheTop t e)) row top-linked (λ x. omega arith)
 
     task-in-range : PlaceRelated regions (memoryOf v area) m (slotOf v t) p → TaskInRange regions v t
@@ -168,7 +169,7 @@ chain-most PARTIAL n l o h = omega arith
 chain-most Plain.FULL n l o h = omega arith
 
 module _ {regions : ℕ} (v : View) {area : List ℕ} {m : Mem} (R : Related regions (memoryOf v area) m) (I : Invariant regions m) where
-  open-anchor : (e : ℕ) → e < 64 → 1 ≤ anchorOf (v (Anchor e)) .state
+  open-anchor : (e : ℕ) → e < DESCRIPTORS → 1 ≤ anchorOf (v (Anchor e)) .state
       → OpenAnchor (perRegion (v (DescriptorClass e))) (anchorOf (v (Anchor e)) .avail) (anchorOf (v (Anchor e)) .count)
   open-anchor e l h =
       let D = R .core .descriptors .each e l in
@@ -192,7 +193,7 @@ in-range {s₁} {s} S noted started =
     let C = R .core in
     let I = S .good .inv q in
     let e : v Regions ≡ s .regions = S .regions q in
-    let pair : (t : ℕ) (l : t < 8) → Pair (s .regions) (memoryOf v (s₁ .area)) (s .mem) t (s .mem .task t .place) (s .mem .task t .cache) =
+    let pair : (t : ℕ) (l : t < TASKS) → Pair (s .regions) (memoryOf v (s₁ .area)) (s .mem) t (s .mem .task t .place) (s .mem .task t .cache) =
     λ t l. record { rel = R; turn = record { inv = I; fits = l; is = refl }; small = S .good .small q } in
     record {
       widths = fitting (s₁ .control) (S .bytes);
@@ -230,7 +231,7 @@ ranges es s₁ U p = along RangedAfter ranged-after (from-unstarted U) es p
 
 -- The same from an accepted start on any memories and in any pool: right after it, and along every list of events behind it.
 pub ranges-from-start : (es : List Event) (s₁ : Memories) (s : Pool) (area : List ℕ) (tasks : ℕ) → Calls.Area (length area)
-    → Calls.Tasks tasks → Premises es (whole (start 8192 area tasks) s .0) → Along RangedAfter (start 8192 area tasks ∷ es) s₁ s
+    → Calls.Tasks tasks → Premises es (whole (start CONTROL-BYTES area tasks) s .0) → Along RangedAfter (start CONTROL-BYTES area tasks ∷ es) s₁ s
 ranges-from-start es s₁ s area tasks a t p =
     let R = from-start s₁ s area tasks a t in
     (reached-ranged R, along RangedAfter ranged-after R es p)

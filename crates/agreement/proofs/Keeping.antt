@@ -1,5 +1,4 @@
 -- Step 1 of a free, in both pools: the block goes on the cache, or the cache is full.
--- Assumes nothing.
 use mathlib.Core.Path.{refl}
 use mathlib.Core.List.{List, [], _∷_}
 use Prim.Native.Nat.{ℕ, _≤_, _<_}
@@ -19,6 +18,7 @@ use Rattle.plain.specs.Moves.{finished}
 use Rattle.plain.specs.Steps as Steps
 use Rattle.plain.proofs.Places.{lengths}
 use Rattle.control.specs.Layout.{CacheCount, CacheTop, GroupCount, TaskClass, TaskPlace, TaskUnit}
+use Rattle.control.specs.Places.{IDLE, F2}
 use Rattle.stepped.specs.Free as Free
 use Rattle.agreement.specs.Memory.{slotOf}
 use Rattle.agreement.specs.Relation.{r-f2, r-idle}
@@ -48,7 +48,7 @@ module _ {regions : ℕ} {v : View} {area : List ℕ} {m : Mem} {t : ℕ} {k : �
       pass _ (both-true (under-unit (w .pair) u under) (top-tested w)) (record {
         says = refl;
         keeps = (refl, refl);
-        rel = cache-push w (TaskPlace t := 0 ∷ []) u (toPlace 0 (slotOf v t)) idle under
+        rel = cache-push w (TaskPlace t := IDLE ∷ []) u (toPlace IDLE (slotOf v t)) idle under
             refl (rw (eq-eqb t t refl)) (λ j n. rw (ne-eqb t j n)) refl refl (r-idle refl);
         sound = omega (arith, w .pair .turn .fits, mine (w .pair) .fits, under-max w u under, perRegion-high c);
         apart = (mine-apart (w .pair) u (mine-under (w .pair) u under .0), tt);
@@ -68,7 +68,7 @@ module _ {regions : ℕ} {v : View} {area : List ℕ} {m : Mem} {t : ℕ} {k : �
       (λ h l. record {
         says = refl;
         keeps = (refl, refl);
-        rel = goes w (TaskPlace t := 29 ∷ GroupCount t := 0 ∷ []) (toPlace 29 (toGrouped 0 (slotOf v t)))
+        rel = goes w (TaskPlace t := F2 ∷ GroupCount t := 0 ∷ []) (toPlace F2 (toGrouped 0 (slotOf v t)))
             (f2 c (v (TaskUnit t)) []) refl (rw (eq-eqb t t refl)) (λ j n. rw (ne-eqb t j n)) refl refl (r-f2 refl refl);
         sound = omega (arith, w .pair .turn .fits);
         apart = tt;

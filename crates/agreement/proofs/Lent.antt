@@ -1,6 +1,5 @@
 -- The calls of the stepped run are the calls on bytes: with the lengths of the pool's memories they are the calls on these, and
 -- with other lengths they answer as the calls on the other memories do, which leave these as they are.
--- Assumes nothing.
 use mathlib.Core.Path.{_≡_, refl}
 use mathlib.Core.Logic.{_≢_, _⊎_, inl, inr}
 use mathlib.Core.Bool.{Bool, true, false, cond, _&&_}
@@ -10,6 +9,7 @@ use native.Mathlib.Omega.{arith}
 use borrow.Author.Tests.{ne-eqb}
 use lib.Dec.{eqb}
 use lib.ListN.{length}
+use Rattle.limits.specs.Limits.{CONTROL-BYTES, REGION-BYTES, AREA-BYTES, TASKS}
 use Rattle.fields.specs.Columns.{View}
 use Rattle.plain.specs.Moves.{nothing}
 use Rattle.control.specs.Layout.{Regions}
@@ -52,16 +52,16 @@ module _ (s : Memories) where
 -- ---- other memories
 
 -- a control memory of another length: whatever it holds
-pub other-control : (control area : ℕ) (v : View) (t : ℕ) (x : Outcome) → control ≢ 8192
+pub other-control : (control area : ℕ) (v : View) (t : ℕ) (x : Outcome) → control ≢ CONTROL-BYTES
     → Stepped.tested control area v t x ≡ refuse 1
 unfolding Stepped.tested
-other-control control area v t x h = rw (ne-eqb control 8192 h)
+other-control control area v t x h = rw (ne-eqb control CONTROL-BYTES h)
 
 -- the pool's control memory and an area of another length: no field but the started numbers and no link is read
-pub other-area : (control area : ℕ) (v : View) (t : ℕ) (x y : Outcome) → area ≢ 4096 * v Regions
+pub other-area : (control area : ℕ) (v : View) (t : ℕ) (x y : Outcome) → area ≢ REGION-BYTES * v Regions
     → Stepped.tested control area v t x ≡ Stepped.tested control area v t y
 unfolding Stepped.tested
-other-area control area v t x y h = rw (ne-eqb area (4096 * v Regions) h)
+other-area control area v t x y h = rw (ne-eqb area (REGION-BYTES * v Regions) h)
 
 -- ---- starts
 
@@ -72,7 +72,7 @@ module _ (area : List ℕ) (tasks : ℕ) where
       cond p
       (cond q
       (cond r
-      (record { answer = Accepted; decided = nothing; control = startImage tasks (length area / 4096); area = area })
+      (record { answer = Accepted; decided = nothing; control = startImage tasks (length area / REGION-BYTES); area = area })
       (effect (refuse 3) c b))
       (effect (refuse 2) c b))
       (effect (refuse 1) c b)
@@ -100,13 +100,13 @@ module _ (area : List ℕ) (tasks : ℕ) where
       ⊎ BothRefused (Stepped.startIn size area tasks c b) (Stepped.startIn size area tasks c′ b′) c b c′ b′
   unfolding Stepped.startIn
   start-elsewhere size =
-      elsewhere (eqb size 8192) (eqb (length area % 4096) 0 && oneTo 65536 (length area)) (oneTo 8 tasks)
+      elsewhere (eqb size CONTROL-BYTES) (eqb (length area % REGION-BYTES) 0 && oneTo AREA-BYTES (length area)) (oneTo TASKS tasks)
 
   -- An accepted start "leaves the area as it is": its area is the one that it is lent.
   pub start-leaves : (size : ℕ) (c b : List ℕ) → codeOf (Stepped.startIn size area tasks c b .answer) ≡ 0
       → Stepped.startIn size area tasks c b .area ≡ area
   unfolding Stepped.startIn
-  start-leaves size = area-kept (eqb size 8192) (eqb (length area % 4096) 0 && oneTo 65536 (length area)) (oneTo 8 tasks)
+  start-leaves size = area-kept (eqb size CONTROL-BYTES) (eqb (length area % REGION-BYTES) 0 && oneTo AREA-BYTES (length area)) (oneTo TASKS tasks)
 
 -- ---- refusals
 

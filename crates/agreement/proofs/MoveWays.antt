@@ -1,5 +1,4 @@
 -- How the steps of the pops and the pushes end, and free's steps 5 and 6 that follow two of them.
--- Assumes nothing.
 use Prim.Native.Nat.{ℕ, _+_, _-_, _<_}
 use mathlib.Core.Path.{_≡_, refl}
 use mathlib.Core.Logic.{inl, inr}
@@ -8,6 +7,7 @@ use mathlib.Core.List.{List, [], _∷_}
 use native.Mathlib.Omega.{arith}
 use borrow.Author.Tests.{eqb-true, leb-true, ltb-true}
 use lib.Dec.{eqb, leb, ltb}
+use Rattle.limits.specs.Limits.{CLASSES}
 use Rattle.fields.specs.Columns.{View, Write, _:=_}
 use Rattle.links.specs.Link.{LinkWrite}
 use Rattle.words.specs.Head.{itemOf, advancedWord}
@@ -15,6 +15,7 @@ use Rattle.words.specs.Anchor.{FULL, isState}
 use Rattle.classes.specs.Classes.{perRegion}
 use Rattle.plain.specs.Moves.{Decided, found-empty, popped, pushed}
 use Rattle.control.specs.Layout.{Head, TaskHead, CacheCount, TaskPlace, TaskClass, TaskNext, TaskState, Regions}
+use Rattle.control.specs.Places.{A3-READ, A7, F1, F2}
 use Rattle.control.specs.declared.moves.Pop.{Pop}
 use Rattle.control.specs.declared.moves.Pop.the-variants.{Partial, Spare, Region}
 use Rattle.control.specs.declared.moves.Push.{Push}
@@ -40,7 +41,7 @@ next-keeps t Back x y u = refl
 next-keeps t Release x y u = refl
 next-keeps t Offer x y u = refl
 
-module _ (v : View) (t : ℕ) (fits : v (TaskClass t) < 16) where
+module _ (v : View) (t : ℕ) (fits : v (TaskClass t) < CLASSES) where
   abbrev c : ℕ
   c = v (TaskClass t)
 
@@ -73,9 +74,9 @@ module _ (v : View) (t : ℕ) (fits : v (TaskClass t) < 16) where
       (test (leb (v (Lists.popNextField p (item - 1))) items) (to (popPlace p + 2) (omega (arith, before p)) (λ u. refl)))
 
   when-popped : (p : Pop) (x : ℕ) (e : Decided) (ws : List Write) → Keeps t ws → End (Lists.whenPopped v regions t c p x e ws)
-  when-popped Partial x e ws h = to 23 (omega arith) (λ u. h _)
+  when-popped Partial x e ws h = to A3-READ (omega arith) (λ u. h _)
   when-popped Spare x e ws h = to (popPlace Region) (omega arith) (λ u. h _)
-  when-popped Region x e ws h = to 26 (omega arith) (λ u. h _)
+  when-popped Region x e ws h = to A7 (omega arith) (λ u. h _)
 
   pub pop-exchange : (p : Pop) → End (Lists.popExchange v regions t c p)
   unfolding Lists.popExchange
@@ -118,7 +119,7 @@ module _ (v : View) (t : ℕ) (fits : v (TaskClass t) < 16) where
   unfolding Lists.f6
   f6 e ws h =
       let k = v (CacheCount t c) in
-      test (leb k (perRegion c)) (either (eqb k 0) (to 28 (omega arith) h) (to 29 (omega arith) (λ u. h _)))
+      test (leb k (perRegion c)) (either (eqb k 0) (to F1 (omega arith) h) (to F2 (omega arith) (λ u. h _)))
 
   pub f5 : (was : ℕ) (e : Decided) (ws : List Write) → Keeps t ws → End (Lists.f5 v regions t c was e ws)
   unfolding Lists.f5

@@ -1,5 +1,4 @@
 -- The next of an item that a task holds, which a push writes, for both kinds of list.
--- Assumes nothing.
 use mathlib.Core.Path.{_≡_, refl}
 use mathlib.Core.List.{List, [], _∷_}
 use Prim.Native.Nat.{ℕ, _≤_, _<_}

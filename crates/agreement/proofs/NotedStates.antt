@@ -1,6 +1,6 @@
 -- The state that each task noted is one of the three, once the pool is started, after every event.
 use Prim.Native.Nat.{ℕ, _/_, _%_, _≤_, _<_}
-use mathlib.Core.Path.{_≡_, refl, sym, subst, _∙_}
+use mathlib.Core.Path.{_≡_, refl, sym, subst}
 use mathlib.Core.Bool.{Bool, true, false, cond, _&&_}
 use mathlib.Core.List.{List, [], _∷_}
 use native.Mathlib.Omega.{arith}
@@ -18,7 +18,7 @@ use Rattle.stepped.specs.Ranges.{oneTo}
 use Rattle.stepped.specs.Start.{startImage}
 use Rattle.stepped.specs.Calls as Calls
 use Rattle.stepped.specs.Calls.{Tested}
-use Rattle.stepped.proofs.Conjunction.{left-true, right-true}
+use Rattle.stepped.proofs.Conjunction.{right-true}
 use Rattle.agreement.specs.Events.{Event, start, allocate, free, go, write, stepped}
 use Rattle.agreement.proofs.Ways.{branch, tests}
 use Rattle.agreement.proofs.Starts.{at-state}

@@ -1,11 +1,11 @@
 -- The tests of a noted anchor, before a group is put before its chain.
--- Assumes nothing.
 use mathlib.Core.Path.{_≡_, refl, _∙_}
 use mathlib.Core.Bool.{Bool, true, false, _||_}
 use Prim.Native.Nat.{ℕ, zero, suc, _+_, _≤_}
 use native.Mathlib.Omega.{arith}
 use borrow.Author.Tests.{eq-eqb, le-leb, lt-ltb}
 use lib.Dec.{eqb, ltb}
+use Rattle.limits.specs.Limits.{MOST-BLOCKS}
 use Rattle.words.specs.Anchor.{anchorOf}
 use Rattle.words.specs.declared.anchor.Anchor.{Anchor}
 use Rattle.classes.specs.Classes.{perRegion}
@@ -22,7 +22,7 @@ either-true true e = refl
 either-true false e = e
 
 -- a noted avail is at most n, as is every index or none
-pub note-max : {m : Mem} {c d : ℕ} {n : Note} {b : Anchor} → NoteRelated m c d n b → b .avail ≤ 512
+pub note-max : {m : Mem} {c d : ℕ} {n : Note} {b : Anchor} → NoteRelated m c d n b → b .avail ≤ MOST-BLOCKS
 note-max {m} {c} {d} {n} N =
     omega (arith, N .avail, first-max (m .descriptor d .region) c (n .first) (N .first), perRegion-high c)
 
@@ -32,8 +32,8 @@ module _ {m : Mem} {c d : ℕ} {n : Note} (w g : ℕ) (N : NoteRelated m c d n (
   pub note-anchor : isAnchor w ≡ true
   note-anchor = both-true (both-true
       (le-leb (anchorOf w .state) 2 (rw (N .state) (number-max (n .state))))
-      (le-leb (anchorOf w .avail) 512 (note-max N)))
-      (le-leb (anchorOf w .count) 512 (omega (arith, perRegion-high c)))
+      (le-leb (anchorOf w .avail) MOST-BLOCKS (note-max N)))
+      (le-leb (anchorOf w .count) MOST-BLOCKS (omega (arith, perRegion-high c)))
 
   -- avail names a block where the chain has one
   named : (f : ℕ) → FirstIn (m .descriptor d .region) c f → anchorOf w .avail ≡ firstIndex c f

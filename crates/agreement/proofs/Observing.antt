@@ -1,12 +1,12 @@
 -- From the relation to what is compared.
--- Assumes nothing.
 use mathlib.Core.Path.{_≡_, refl, sym, ap, subst, _∙_}
 use mathlib.Core.Logic.{_≢_}
 use mathlib.Core.List.{List, [], _∷_, _++_}
 use Prim.Native.Nat.{ℕ, zero, suc, _+_, _≤_, _<_}
 use native.Mathlib.Omega.{arith}
 use native.Mathlib.Decide.{ℕ-discrete, decLe}
-use lib.ListN.{length, getD}
+use lib.ListN.{length}
+use Rattle.limits.specs.Limits.{REGIONS, TASKS, CLASSES, DESCRIPTORS, SPARE-REGIONS}
 use Rattle.rows.specs.Branch.{if, both}
 use Rattle.rows.specs.Weights.{below}
 use Rattle.rows.specs.Counting.{count}
@@ -18,7 +18,7 @@ use Rattle.rows.proofs.Linked.{linked-walk, linked-append-one}
 use Rattle.classes.specs.Places.{unitOf, indexOf, Block}
 use Rattle.classes.proofs.Places.{unit-again, unit-below}
 use Rattle.links.specs.Link.{link}
-use Rattle.plain.specs.State.{State, EMPTY, PARTIAL, FULL, numberOf, Phase, Place, Mem, REGIONS}
+use Rattle.plain.specs.State.{State, EMPTY, PARTIAL, FULL, numberOf, Phase, Place, Mem}
 use Rattle.plain.specs.Calls.{rising, NotEmpty, Opens, opens?}
 use Rattle.plain.specs.States.{ifOpen, IfOpen}
 use Rattle.plain.specs.Blocks.{isBlock}
@@ -32,6 +32,8 @@ use Rattle.plain.proofs.Homes.{inside-open}
 use Rattle.plain.proofs.OnePlace.{found}
 use Rattle.plain.proofs.Places.{placeHolds}
 use Rattle.plain.proofs.Starts.{rising-count, length-rising}
+use Rattle.control.specs.Places.{IDLE, A1, A3-READ, A3-EXCHANGE, A4, A7, A8, F1, F2, F3-READ, F3-LINK, F3-EXCHANGE}
+use Rattle.control.specs.Places.{F4-CLEAR}
 use Rattle.agreement.specs.Memory.{Memory}
 use Rattle.agreement.specs.Relation.{PopRelated, PushRelated, GroupRelated, PlaceRelated, r-idle, r-a1}
 use Rattle.agreement.specs.Relation.{r-partial, r-spare, r-region, r-retire, r-back, r-release, r-offer}
@@ -39,7 +41,8 @@ use Rattle.agreement.specs.Relation.{r-a3-read, r-a3-exchange, r-a4, r-a
 use Rattle.agreement.specs.Relation.{r-f3-read, r-f3-link, r-f3-exchange, r-f4-clear, DescriptorRelated}
 use Rattle.agreement.specs.Relation.{Related}
 use Rattle.agreement.specs.Observe.{listFrom, classBy, chainBy, plainClassBy, plainChainBy, plainClass}
-use Rattle.agreement.specs.Observe.{plainChain, underWayAt, inCache, withTask, hands, task, chain, holderOf}
+use Rattle.agreement.specs.Observe.{plainChain, underWays, blocksAt, inCache, withTask, hands, task, chain}
+use Rattle.agreement.specs.Observe.{holderOf}
 use Rattle.agreement.specs.Observe.{Same}
 use Rattle.agreement.proofs.Couple.{Pair}
 use Rattle.agreement.proofs.Notes.{number-open}
@@ -76,7 +79,7 @@ module _ {regions : ℕ} {a : Memory} {m : Mem} (R : Related regions a m) (I : I
   empty-not FULL h = tt
 
   -- the tests of an open region come out alike
-  tests : {X : Type 0} (d r : ℕ) → d < 64 → (x y x′ y′ : X) → (1 ≤ numberOf (m .descriptor d .state) → m .descriptor d .region ≡ r → x ≡ x′)
+  tests : {X : Type 0} (d r : ℕ) → d < DESCRIPTORS → (x y x′ y′ : X) → (1 ≤ numberOf (m .descriptor d .state) → m .descriptor d .region ≡ r → x ≡ x′)
       → y ≡ y′ → if (both (ℕ-discrete (a .descriptors .region d) r) (decLe 1 (a .descriptors .anchor d .state))) x y ≡ if (opens? (m .descriptor d) r) x′ y′
   tests d r l x y x′ y′ f g = go (both (ℕ-discrete (a .descriptors .region d) r) (decLe 1 (a .descriptors .anchor d .state))) (opens? (m .descriptor d) r)
     where
@@ -89,11 +92,11 @@ module _ {regions : ℕ} {a : Memory} {m : Mem} (R : Related regions a m) (I : I
       go (no p) (yes q) = absurd (p (D .region ∙ q .0, omega (arith, D .state, not-empty (m .descriptor d .state) (q .1))))
       go (no p) (no q) = g
 
-  classes : (z r : ℕ) → z ≤ 64 → classBy z r a ≡ plainClassBy z r m
+  classes : (z r : ℕ) → z ≤ DESCRIPTORS → classBy z r a ≡ plainClassBy z r m
   classes zero r l = refl
   classes (suc d) r l = tests d r l (suc (a .descriptors .class d)) 0 (suc (m .descriptor d .class)) 0 (λ h e. ap suc (R .core .descriptors .each d l .class)) refl
 
-  chains : (z r : ℕ) → z ≤ 64 → chainBy z r a ≡ plainChainBy z r m
+  chains : (z r : ℕ) → z ≤ DESCRIPTORS → chainBy z r a ≡ plainChainBy z r m
   chains zero r l = refl
   chains (suc d) r l =
       tests d r l (walk (link (a .area)) (unitOf r (a .descriptors .class d)) (a .descriptors .anchor d .avail) (a .descriptors .anchor d .count)) [] (m .descriptor d .chain) [] walked refl
@@ -128,29 +131,29 @@ module _ {regions : ℕ} {a : Memory} {m : Mem} {t : ℕ} {k : ℕ → List ℕ}
       ∙ sym (G .is)
 
   -- at the place n the table of what is under way has q
-  at-place : {p : Place} (w : Pair regions a m t p k) (n : ℕ) (q : List ℕ) → a .slot t .place ≡ n → getD (underWayAt (a .slot t) a) n [] ≡ q
-      → getD (underWayAt (a .slot t) a) (a .slot t .place) [] ≡ q
-  at-place w n q e h = ap (λ (z : ℕ). getD (underWayAt (a .slot t) a) z []) e ∙ h
+  at-place : {p : Place} (w : Pair regions a m t p k) (n : ℕ) (q : List ℕ) → a .slot t .place ≡ n → blocksAt (underWays (a .slot t) a) n ≡ q
+      → blocksAt (underWays (a .slot t) a) (a .slot t .place) ≡ q
+  at-place w n q e h = ap (λ (z : ℕ). blocksAt (underWays (a .slot t) a) z) e ∙ h
 
   -- so it is at the three places of a list move
   in-pop : {p : Place} {b ℓ items : ℕ} {φ : Phase} (w : Pair regions a m t p k)
-      → (getD (underWayAt (a .slot t) a) b [] ≡ []) × (getD (underWayAt (a .slot t) a) (b + 1) [] ≡ []) × (getD (underWayAt (a .slot t) a) (b + 2) [] ≡ [])
-      → PopRelated m (a .slot t) b ℓ items φ → getD (underWayAt (a .slot t) a) (a .slot t .place) [] ≡ []
+      → (blocksAt (underWays (a .slot t) a) b ≡ []) × (blocksAt (underWays (a .slot t) a) (b + 1) ≡ []) × (blocksAt (underWays (a .slot t) a) (b + 2) ≡ [])
+      → PopRelated m (a .slot t) b ℓ items φ → blocksAt (underWays (a .slot t) a) (a .slot t .place) ≡ []
   in-pop {b = b} w h (PopRelated.at-read e) = at-place w b [] e (h .0)
   in-pop {b = b} w h (PopRelated.at-next e N i l) = at-place w (b + 1) [] e (h .1)
   in-pop {b = b} w h (PopRelated.at-exchange e N i l x f) = at-place w (b + 2) [] e (h .2)
 
   in-push : {p : Place} {b ℓ items z : ℕ} {nx : ℕ → ℕ} {φ : Phase} (w : Pair regions a m t p k) (q : List ℕ)
-      → (getD (underWayAt (a .slot t) a) b [] ≡ q) × (getD (underWayAt (a .slot t) a) (b + 1) [] ≡ q) × (getD (underWayAt (a .slot t) a) (b + 2) [] ≡ q)
-      → PushRelated m (a .slot t) b ℓ items z nx φ → getD (underWayAt (a .slot t) a) (a .slot t .place) [] ≡ q
+      → (blocksAt (underWays (a .slot t) a) b ≡ q) × (blocksAt (underWays (a .slot t) a) (b + 1) ≡ q) × (blocksAt (underWays (a .slot t) a) (b + 2) ≡ q)
+      → PushRelated m (a .slot t) b ℓ items z nx φ → blocksAt (underWays (a .slot t) a) (a .slot t .place) ≡ q
   in-push {b = b} w q h (PushRelated.at-read e) = at-place w b q e (h .0)
   in-push {b = b} w q h (PushRelated.at-next e N l) = at-place w (b + 1) q e (h .1)
   in-push {b = b} w q h (PushRelated.at-exchange e N l f) = at-place w (b + 2) q e (h .2)
 
   under-way : {p : Place} (w : Pair regions a m t p k) → PlaceRelated regions a m (a .slot t) p
-      → getD (underWayAt (a .slot t) a) (a .slot t .place) [] ≡ underWay p
-  under-way w (r-idle e) = at-place w 0 [] e refl
-  under-way w (r-a1 e) = at-place w 1 [] e refl
+      → blocksAt (underWays (a .slot t) a) (a .slot t .place) ≡ underWay p
+  under-way w (r-idle e) = at-place w IDLE [] e refl
+  under-way w (r-a1 e) = at-place w A1 [] e refl
   under-way w (r-partial h) = in-pop w (refl, refl, refl) h
   under-way w (r-spare h) = in-pop w (refl, refl, refl) h
   under-way w (r-region h) = in-pop w (refl, refl, refl) h
@@ -158,28 +161,28 @@ module _ {regions : ℕ} {a : Memory} {m : Mem} {t : ℕ} {k : ℕ → List ℕ}
   under-way w (r-back h) = in-push w [] (refl, refl, refl) h
   under-way w (r-release i h) = in-push w (a .slot t .unit ∷ []) (refl, refl, refl) h
   under-way w (r-offer h) = in-push w (a .slot t .unit ∷ []) (refl, refl, refl) h
-  under-way w (r-a3-read e) = at-place w 23 [] e refl
-  under-way w (r-a3-exchange e N i j l o) = at-place w 24 [] e refl
+  under-way w (r-a3-read e) = at-place w A3-READ [] e refl
+  under-way w (r-a3-exchange e N i j l o) = at-place w A3-EXCHANGE [] e refl
   under-way w (r-a4 {x = x} {q = q} e l n f) =
       let s = a .slot t in
-      at-place w 25 (x ∷ q) e
+      at-place w A4 (x ∷ q) e
       (ap (walk (link (a .area)) (unitOf (s .hand .region) (s .class)) (s .hand .index)) n
       ∙ linked-walk (unitOf (s .hand .region) (s .class)) l (λ v h. unit-again (counts-block (s .hand .region) (s .class) v (omega (arith, f v)))))
-  under-way w (r-a7 e) = at-place w 26 [] e refl
-  under-way w (r-a8 e) = at-place w 27 _ e refl
-  under-way w (r-f1 e) = at-place w 28 (a .slot t .unit ∷ []) e refl
+  under-way w (r-a7 e) = at-place w A7 [] e refl
+  under-way w (r-a8 e) = at-place w A8 _ e refl
+  under-way w (r-f1 e) = at-place w F1 (a .slot t .unit ∷ []) e refl
   under-way w (r-f2 e z) =
       let s = a .slot t in
-      at-place w 29 (s .unit ∷ []) e (freed-with (ap (walk (link (a .area)) (unitOf (s .hand .region) (s .class)) (s .group .first)) z))
+      at-place w F2 (s .unit ∷ []) e (freed-with (ap (walk (link (a .area)) (unitOf (s .hand .region) (s .class)) (s .group .first)) z))
   under-way w (r-f2-more {y = y} {g = g} e G) =
-      at-place w 29 (a .slot t .unit ∷ y ∷ g) e (freed-with (group-is w G (λ v. omega arith) refl (placeHolds (w .turn) .3)))
+      at-place w F2 (a .slot t .unit ∷ y ∷ g) e (freed-with (group-is w G (λ v. omega arith) refl (placeHolds (w .turn) .3)))
   under-way w (r-f3-read {y = y} {g = g} e G) =
-      at-place w 30 (a .slot t .unit ∷ y ∷ g) e (freed-with (group-is w G (λ v. omega arith) refl (placeHolds (w .turn) .2)))
+      at-place w F3-READ (a .slot t .unit ∷ y ∷ g) e (freed-with (group-is w G (λ v. omega arith) refl (placeHolds (w .turn) .2)))
   under-way w (r-f3-link {y = y} {g = g} e G N l) =
-      at-place w 31 (a .slot t .unit ∷ y ∷ g) e (freed-with (group-is w G (λ v. omega arith) refl (placeHolds (w .turn) .2)))
+      at-place w F3-LINK (a .slot t .unit ∷ y ∷ g) e (freed-with (group-is w G (λ v. omega arith) refl (placeHolds (w .turn) .2)))
   under-way w (r-f3-exchange {y = y} {g = g} e G N l f) =
-      at-place w 32 (a .slot t .unit ∷ y ∷ g) e (freed-with (group-is w G (λ v. omega arith) refl (placeHolds (w .turn) .2)))
-  under-way w (r-f4-clear e f) = at-place w 33 (a .slot t .unit ∷ []) e refl
+      at-place w F3-EXCHANGE (a .slot t .unit ∷ y ∷ g) e (freed-with (group-is w G (λ v. omega arith) refl (placeHolds (w .turn) .2)))
+  under-way w (r-f4-clear e f) = at-place w F4-CLEAR (a .slot t .unit ∷ []) e refl
 
 -- ---- holders
 
@@ -189,15 +192,15 @@ holder-same zero f g c t h = refl
 holder-same (suc n) f g c t h =
     rw (h t (omega arith) (omega arith), holder-same n f g c (suc t) (λ j l k. h j (omega arith) (omega arith)))
 
-module _ {regions : ℕ} {a : Memory} {m : Mem} (small : regions ≤ 16) (R : Related regions a m) (I : Invariant regions m) where
-  with-task : (t v : ℕ) → t < 8 → withTask a t v ≡ blockWeight v t (m .task t)
+module _ {regions : ℕ} {a : Memory} {m : Mem} (small : regions ≤ REGIONS) (R : Related regions a m) (I : Invariant regions m) where
+  with-task : (t v : ℕ) → t < TASKS → withTask a t v ≡ blockWeight v t (m .task t)
   with-task t v l =
       let S = R .slots t l in
       let w : Pair regions a m t (m .task t .place) (m .task t .cache) = record { rel = R; turn = record { inv = I; fits = l; is = refl }; small = small } in
       omega (
         arith,
         ap (count v) (under-way w (S .place)),
-        total-same 16 (λ c n. inCache a v (a .slot t .caches .top c) n) (a .slot t .caches .count) (rowWeight v) (m .task t .cache) (λ c i.
+        total-same CLASSES (λ c n. inCache a v (a .slot t .caches .top c) n) (a .slot t .caches .count) (rowWeight v) (m .task t .cache) (λ c i.
             ap (λ (n : ℕ). inCache a v (a .slot t .caches .top c) n) (S .caches .counts c i) ∙ ap (count v) (linked-walk (λ u. u) (S .caches .tops c i) (λ u e. refl))),
       )
 
@@ -216,17 +219,17 @@ module _ {regions : ℕ} {a : Memory} {m : Mem} (small : regions ≤ 16) (R : Re
   own-blocks v j PARTIAL L = L .inside v
   own-blocks v j FULL L = L .inside v
 
-  one-in : (z r c v : ℕ) → m .map r ≡ z → z ≤ 64 → plainClassBy z r m ≡ suc c → Block r c v
-      → m .hands v + total 8 (blockWeight v) (m .task) + count v (plainChainBy z r m) ≡ 1
+  one-in : (z r c v : ℕ) → m .map r ≡ z → z ≤ DESCRIPTORS → plainClassBy z r m ≡ suc c → Block r c v
+      → m .hands v + total TASKS (blockWeight v) (m .task) + count v (plainChainBy z r m) ≡ 1
   one-in zero r c v e l f b = absurd (omega arith)
   one-in (suc d) r c v e l f b = go (opens? (m .descriptor d) r) f
     where
-      lone : (j : ℕ) → j < 64 → j ≢ d → insideWeight v d (m .descriptor d) ≡ 1 → chainWeight v j (m .descriptor j) ≡ 0
+      lone : (j : ℕ) → j < DESCRIPTORS → j ≢ d → insideWeight v d (m .descriptor d) ≡ 1 → chainWeight v j (m .descriptor j) ≡ 0
       lone j k n i =
-          omega (arith, total-two 64 (insideWeight v) (m .descriptor) j d n k l, inside-open I v, own-blocks v j (m .descriptor j .state) (I .chains j k))
+          omega (arith, total-two DESCRIPTORS (insideWeight v) (m .descriptor) j d n k l, inside-open I v, own-blocks v j (m .descriptor j .state) (I .chains j k))
 
       go : (q : Dec (Opens (m .descriptor d) r)) → if q (suc (m .descriptor d .class)) 0 ≡ suc c
-          → m .hands v + total 8 (blockWeight v) (m .task) + count v (if q (m .descriptor d .chain) []) ≡ 1
+          → m .hands v + total TASKS (blockWeight v) (m .task) + count v (if q (m .descriptor d .chain) []) ≡ 1
       go (no q) f = absurd (omega arith)
       go (yes q) f =
           let D = m .descriptor d in
@@ -238,16 +241,16 @@ module _ {regions : ℕ} {a : Memory} {m : Mem} (small : regions ≤ 16) (R : Re
             I .blocks v,
             i,
             inside-open I v,
-            total-one 64 (insideWeight v) (m .descriptor) d l,
+            total-one DESCRIPTORS (insideWeight v) (m .descriptor) d l,
             g (count v (D .chain)),
-            total-only 64 (chainWeight v) (m .descriptor) d l (λ j k n. lone j k n i),
+            total-only DESCRIPTORS (chainWeight v) (m .descriptor) d l (λ j k n. lone j k n i),
           )
 
   plain-one : (r c v : ℕ) → r < regions → plainClass m r ≡ suc c → Block r c v
-      → m .hands v + total 8 (blockWeight v) (m .task) + count v (plainChain m r) ≡ 1
+      → m .hands v + total TASKS (blockWeight v) (m .task) + count v (plainChain m r) ≡ 1
   plain-one r c v l f b = one-in (m .map r) r c v refl (I .entries r) f b
 
-  chain-blocks : (z r c v : ℕ) → z ≤ 64 → plainClassBy z r m ≡ suc c → 1 ≤ count v (plainChainBy z r m) → Block r c v
+  chain-blocks : (z r c v : ℕ) → z ≤ DESCRIPTORS → plainClassBy z r m ≡ suc c → 1 ≤ count v (plainChainBy z r m) → Block r c v
   chain-blocks zero r c v l f h = absurd (omega arith)
   chain-blocks (suc d) r c v l f h = go (opens? (m .descriptor d) r) f h
     where
@@ -262,18 +265,18 @@ module _ {regions : ℕ} {a : Memory} {m : Mem} (small : regions ≤ 16) (R : Re
 
   pub observed : Same regions a m
   observed = record {
-    lists = λ ℓ l. list-read 65 (R .core .lists .rows ℓ l) (more (short 64 (m .row ℓ) (λ v. omega (arith, I .descriptors v, total-one 17 (rowWeight v) (m .row) ℓ l))));
-    spares = list-read (suc regions) (R .core .lists .spareRow) (more (short regions (m .row REGIONS) (λ v. omega (arith, I .regions v))));
+    lists = λ ℓ l. list-read (suc DESCRIPTORS) (R .core .lists .rows ℓ l) (more (short DESCRIPTORS (m .row ℓ) (λ v. omega (arith, I .descriptors v, total-one SPARE-REGIONS (rowWeight v) (m .row) ℓ l))));
+    spares = list-read (suc regions) (R .core .lists .spareRow) (more (short regions (m .row SPARE-REGIONS) (λ v. omega (arith, I .regions v))));
     classes = classes-at;
     chains = chains-at;
     holders = λ r v l k.
-        rw (R .core .entries .marks v k, chains-at r l, holder-same 8 (λ t. withTask a t v) (λ t. blockWeight v t (m .task t)) (count v (plainChain m r)) 0 (λ t i j. with-task t v (omega arith)));
+        rw (R .core .entries .marks v k, chains-at r l, holder-same TASKS (λ t. withTask a t v) (λ t. blockWeight v t (m .task t)) (count v (plainChain m r)) 0 (λ t i j. with-task t v (omega arith)));
     one-place = λ r c v l f b. omega (
       arith,
       plain-one r c v l (sym (classes-at r l) ∙ f) b,
       R .core .entries .marks v (omega (arith, unit-below b (omega arith))),
       ap (count v) (chains-at r l),
-      total-same 8 (λ t s. withTask a t v) (a .slot) (blockWeight v) (m .task) (λ t i. with-task t v i),
+      total-same TASKS (λ t s. withTask a t v) (a .slot) (blockWeight v) (m .task) (λ t i. with-task t v i),
     );
     plain-one-place = plain-one;
     own-blocks = λ r c v l f h. chain-blocks (m .map r) r c v (I .entries r) f h;

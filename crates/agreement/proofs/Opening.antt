@@ -7,6 +7,7 @@ use native.Mathlib.Omega.{arith}
 use native.Mathlib.Numerals.{add-one}
 use borrow.Author.Tests.{eq-eqb, ne-eqb, lt-ltb}
 use lib.Dec.{ltb}
+use Rattle.limits.specs.Limits.{TASKS, CLASSES, DESCRIPTORS, MOST-BLOCKS}
 use Rattle.rows.specs.Linked.{ends}
 use Rattle.rows.specs.Tests.{same, other, same?}
 use Rattle.rows.specs.Update.{update}
@@ -35,6 +36,7 @@ use Rattle.plain.proofs.Turn.{Turn}
 use Rattle.control.specs.Layout
 use Rattle.control.specs.Layout.{TaskPlace, TaskClass, TaskDescriptor, TaskRegion, TaskIndex, TaskLeft}
 use Rattle.control.specs.Layout.{DescriptorRegion, DescriptorClass, Map}
+use Rattle.control.specs.Places.{A8}
 use Rattle.stepped.specs.Allocate as Allocate
 use Rattle.agreement.specs.Memory.{Memory, Slot, slotOf, memoryOf}
 use Rattle.agreement.specs.Relation.{DescriptorRelated, SlotRelated, Core, Related, r-a8}
@@ -85,7 +87,7 @@ opened r c = record { state = FULL; region = r; class = c; chain = [] }
 
 -- the change over records: the descriptor d is written whole, and the map's entry e of the region r names it
 opening : {regions : ℕ} {a : Memory} {m : Mem} {t c d r : ℕ} {k : ℕ → List ℕ} (w : Pair regions a m t (a7 c d r) k) (e : ℕ)
-    (s : Slot) (T : Task) → c < 16 → e ≡ suc d
+    (s : Slot) (T : Task) → c < CLASSES → e ≡ suc d
     → SlotRelated regions (setSlot t s (setOwner d (full (perRegion c)) r c e a))
     (setTask t T (setMap r (suc d) (setDescriptor d (opened r c) m))) s T
     → Related regions (setSlot t s (setOwner d (full (perRegion c)) r c e a))
@@ -97,7 +99,7 @@ opening {regions} {a} {m} {t} {c} {d} {r} w e s T low i own =
     omega (
       arith,
       w .turn .inv .spares d,
-      total-one 8 (spareWeight d) (m .task) t (w .turn .fits),
+      total-one TASKS (spareWeight d) (m .task) t (w .turn .fits),
       ap (spareWeight d t) (w .turn .is),
       when-same d 1,
       empty-max (m .descriptor d .state),
@@ -107,13 +109,13 @@ opening {regions} {a} {m} {t} {c} {d} {r} w e s T low i own =
       lists = C .lists;
       descriptors = record {
         each = descriptors C;
-        avails = update-all (λ j x. j < 64 → x .avail ≤ 512) (a .descriptors .anchor) d (full (perRegion c))
+        avails = update-all (λ j x. j < DESCRIPTORS → x .avail ≤ MOST-BLOCKS) (a .descriptors .anchor) d (full (perRegion c))
             (λ l. perRegion-high c) (λ j n. C .descriptors .avails j);
-        chainCounts = update-all (λ j x. j < 64 → x .count ≤ 512) (a .descriptors .anchor) d (full (perRegion c))
+        chainCounts = update-all (λ j x. j < DESCRIPTORS → x .count ≤ MOST-BLOCKS) (a .descriptors .anchor) d (full (perRegion c))
             (λ l. omega arith) (λ j n. C .descriptors .chainCounts j);
-        regionNumbers = update-all (λ j x. j < 64 → x < regions) (a .descriptors .region) d r (λ l. lr)
+        regionNumbers = update-all (λ j x. j < DESCRIPTORS → x < regions) (a .descriptors .region) d r (λ l. lr)
             (λ j n. C .descriptors .regionNumbers j);
-        classNumbers = update-all (λ j x. j < 64 → x < 16) (a .descriptors .class) d c (λ l. low)
+        classNumbers = update-all (λ j x. j < DESCRIPTORS → x < CLASSES) (a .descriptors .class) d c (λ l. low)
             (λ j n. C .descriptors .classNumbers j);
       };
       entries = map-related (C .entries) r e (suc d) i;
@@ -135,7 +137,7 @@ opening {regions} {a} {m} {t} {c} {d} {r} w e s T low i own =
     })
     (w .rel .slots)
   where
-    descriptors : Core regions a m → (j : ℕ) → j < 64
+    descriptors : Core regions a m → (j : ℕ) → j < DESCRIPTORS
         → DescriptorRelated (link (a .area)) (update (a .descriptors .anchor) d (full (perRegion c)) j) (update (a .descriptors .region) d r j)
         (update (a .descriptors .class) d c j) (update (m .descriptor) d (opened r c) j)
     descriptors C j l = elim (same? j d) [
@@ -167,15 +169,15 @@ module _ {regions : ℕ} {v : View} {area : List ℕ} {m : Mem} {t : ℕ} {k : �
       let r = v (TaskRegion t) in
       let ld = descriptor-in-hand (w .pair .turn) d (omega (arith, when-same d 1)) in
       let lr = region-in-hand (w .pair .turn) r (omega (arith, when-same r 1)) in
-      let s = toPlace 27 (toChain r 0 (v (TaskLeft t)) (slotOf v t)) in
-      let S = slotOf (assigned (TaskPlace t := 27 ∷ TaskIndex t := 0 ∷ []) v) in
+      let s = toPlace A8 (toChain r 0 (v (TaskLeft t)) (slotOf v t)) in
+      let S = slotOf (assigned (TaskPlace t := A8 ∷ TaskIndex t := 0 ∷ []) v) in
       let word = anchorWord (full (perRegion c)) in
       let writes = Layout.Anchor d := word ∷ DescriptorRegion d := r ∷ DescriptorClass d := c ∷ Map r := (d + 1) ∷ [] in
-      pass (ltb d 64 && ltb r regions) (both-true (lt-ltb d 64 ld) (lt-ltb r regions lr)) (record {
+      pass (ltb d DESCRIPTORS && ltb r regions) (both-true (lt-ltb d DESCRIPTORS ld) (lt-ltb r regions lr)) (record {
         says = refl;
         keeps = (refl, refl);
         rel = shares w
-            (TaskPlace t := 27 ∷ TaskIndex t := 0 ∷ writes) s (a8 c r 0)
+            (TaskPlace t := A8 ∷ TaskIndex t := 0 ∷ writes) s (a8 c r 0)
             (setOwner d (full (perRegion c)) r c (d + 1) (memoryOf v area)) (setMap r (suc d) (setDescriptor d (opened r c) m))
             (opening (w .pair) (d + 1) s (taskOf (a8 c r 0) k) (mine (w .pair) .fits) (add-one d))
             (owner-written v S area d word r c (d + 1)

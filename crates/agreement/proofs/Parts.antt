@@ -2,6 +2,7 @@
 use mathlib.Core.Path.{_≡_, refl, sym, subst, _∙_}
 use Prim.Native.Nat.{ℕ, suc, _≤_, _<_}
 use mathlib.Core.List.{List}
+use Rattle.limits.specs.Limits.{UNITS, DESCRIPTORS, MOST-BLOCKS, SPARE-REGIONS, LISTS}
 use Rattle.words.specs.declared.anchor.Anchor.{Anchor}
 use Rattle.words.specs.declared.head.Head.{Head}
 use Rattle.rows.specs.Counting.{count}
@@ -21,31 +22,31 @@ use Rattle.agreement.proofs.Sets.{withMarks}
 module _ {regions : ℕ} {l : Lists} {won : ℕ → ℕ} {row : ℕ → List ℕ} (R : ListsRelated regions l won row) where
   -- a head, whose list has the row q after n won exchanges
   pub head-related : (ℓ : ℕ) (h : Head) (n : ℕ) (q : List ℕ) → h .tag ≡ wrap n
-      → (ℓ < 17 → Linked (l .descriptorNext) suc 0 (h .item) q) → (ℓ ≡ 17 → Linked (l .regionNext) suc 0 (h .item) q)
+      → (ℓ < SPARE-REGIONS → Linked (l .descriptorNext) suc 0 (h .item) q) → (ℓ ≡ SPARE-REGIONS → Linked (l .regionNext) suc 0 (h .item) q)
       → ListsRelated regions (withHeads (update (l .head) ℓ h) l) (update won ℓ n) (update row ℓ q)
   head-related ℓ h n q e f g = record {
-    tags = update-all₂ (λ j x y. j < 18 → x .tag ≡ wrap y) (l .head) won ℓ h n (λ i. e) (λ j d. R .tags j);
-    rows = update-all₂ (λ j x r. j < 17 → Linked (l .descriptorNext) suc 0 (x .item) r) (l .head) row ℓ h q f
+    tags = update-all₂ (λ j x y. j < LISTS → x .tag ≡ wrap y) (l .head) won ℓ h n (λ i. e) (λ j d. R .tags j);
+    rows = update-all₂ (λ j x r. j < SPARE-REGIONS → Linked (l .descriptorNext) suc 0 (x .item) r) (l .head) row ℓ h q f
         (λ j d. R .rows j);
-    spareRow = update-all₂ (λ j x r. j ≡ 17 → Linked (l .regionNext) suc 0 (x .item) r) (l .head) row ℓ h q g
-        (λ j d i. subst (λ (z : ℕ). Linked (l .regionNext) suc 0 (l .head z .item) (row z)) (sym i) (R .spareRow)) 17 refl;
+    spareRow = update-all₂ (λ j x r. j ≡ SPARE-REGIONS → Linked (l .regionNext) suc 0 (x .item) r) (l .head) row ℓ h q g
+        (λ j d i. subst (λ (z : ℕ). Linked (l .regionNext) suc 0 (l .head z .item) (row z)) (sym i) (R .spareRow)) SPARE-REGIONS refl;
     descriptorNexts = R .descriptorNexts;
     regionNexts = R .regionNexts;
   }
 
   -- the next of a descriptor that is in no list
-  pub descriptorNext-related : (x n : ℕ) → ((ℓ : ℕ) → ℓ < 17 → count x (row ℓ) ≡ 0) → n ≤ 64
+  pub descriptorNext-related : (x n : ℕ) → ((ℓ : ℕ) → ℓ < SPARE-REGIONS → count x (row ℓ) ≡ 0) → n ≤ DESCRIPTORS
       → ListsRelated regions (withDescriptorNexts (update (l .descriptorNext) x n) l) won row
   descriptorNext-related x n off b = record {
     tags = R .tags;
     rows = λ ℓ i. linked-update x n (off ℓ i) (R .rows ℓ i);
     spareRow = R .spareRow;
-    descriptorNexts = update-all (λ d y. d < 64 → y ≤ 64) (l .descriptorNext) x n (λ i. b) (λ d e. R .descriptorNexts d);
+    descriptorNexts = update-all (λ d y. d < DESCRIPTORS → y ≤ DESCRIPTORS) (l .descriptorNext) x n (λ i. b) (λ d e. R .descriptorNexts d);
     regionNexts = R .regionNexts;
   }
 
   -- the next of a region that is not spare
-  pub regionNext-related : (x n : ℕ) → count x (row 17) ≡ 0 → n ≤ regions
+  pub regionNext-related : (x n : ℕ) → count x (row SPARE-REGIONS) ≡ 0 → n ≤ regions
       → ListsRelated regions (withRegionNexts (update (l .regionNext) x n) l) won row
   regionNext-related x n off b = record {
     tags = R .tags;
@@ -58,22 +59,22 @@ module _ {regions : ℕ} {l : Lists} {won : ℕ → ℕ} {row : ℕ → List ℕ
 -- ---- the descriptors
 module _ {regions : ℕ} {nx : ℕ → ℕ} {D : Descriptors} {P : ℕ → Descriptor} (R : DescriptorsRelated regions nx D P) where
   -- an anchor: the region and the class stay
-  pub anchor-related : (d : ℕ) (b : Anchor) (E : Descriptor) → d < 64 → b .state ≡ numberOf (E .state)
+  pub anchor-related : (d : ℕ) (b : Anchor) (E : Descriptor) → d < DESCRIPTORS → b .state ≡ numberOf (E .state)
       → E .region ≡ P d .region → E .class ≡ P d .class → IfOpen (E .state) (ChainRelated nx b E)
-      → b .avail ≤ 512 → b .count ≤ 512
+      → b .avail ≤ MOST-BLOCKS → b .count ≤ MOST-BLOCKS
       → DescriptorsRelated regions nx (withAnchors (update (D .anchor) d b) D) (update P d E)
   anchor-related d b E l e f g c i₁ i₂ = record {
-    each = update-all₂ (λ j x F. j < 64 → DescriptorRelated nx x (D .region j) (D .class j) F) (D .anchor) P d b E
+    each = update-all₂ (λ j x F. j < DESCRIPTORS → DescriptorRelated nx x (D .region j) (D .class j) F) (D .anchor) P d b E
         (λ i. record { state = e; region = R .each d l .region ∙ sym f; class = R .each d l .class ∙ sym g; chain = c })
         (λ j n. R .each j);
-    avails = update-all (λ j x. j < 64 → x .avail ≤ 512) (D .anchor) d b (λ i. i₁) (λ j n. R .avails j);
-    chainCounts = update-all (λ j x. j < 64 → x .count ≤ 512) (D .anchor) d b (λ i. i₂) (λ j n. R .chainCounts j);
+    avails = update-all (λ j x. j < DESCRIPTORS → x .avail ≤ MOST-BLOCKS) (D .anchor) d b (λ i. i₁) (λ j n. R .avails j);
+    chainCounts = update-all (λ j x. j < DESCRIPTORS → x .count ≤ MOST-BLOCKS) (D .anchor) d b (λ i. i₂) (λ j n. R .chainCounts j);
     regionNumbers = R .regionNumbers;
     classNumbers = R .classNumbers;
   }
 
   -- other links, which are as they were in the chains of open descriptors
-  pub links-related : (nx′ : ℕ → ℕ) → ((d : ℕ) → d < 64 → IsOpen (P d .state) → Agree nx nx′ (P d .chain))
+  pub links-related : (nx′ : ℕ → ℕ) → ((d : ℕ) → d < DESCRIPTORS → IsOpen (P d .state) → Agree nx nx′ (P d .chain))
       → DescriptorsRelated regions nx′ D P
   links-related nx′ same = record {
     each = λ d l. record {
@@ -105,5 +106,5 @@ module _ {regions : ℕ} {E : Entries} {map hands : ℕ → ℕ} (R : EntriesRel
   pub mark-related : (u b : ℕ) → EntriesRelated regions (withMarks (update (E .mark) u b) E) map (update hands u b)
   mark-related u b = record {
     maps = R .maps;
-    marks = update-all₂ (λ j x y. j < 8192 → x ≡ y) (E .mark) hands u b b (λ l. refl) (λ j n. R .marks j);
+    marks = update-all₂ (λ j x y. j < UNITS → x ≡ y) (E .mark) hands u b b (λ l. refl) (λ j n. R .marks j);
   }

@@ -1,5 +1,4 @@
 -- The three steps of a pop, in both pools, for every reason.
--- Assumes nothing.
 use mathlib.Core.Path.{_≡_, refl, sym, ap, subst, _∙_}
 use mathlib.Core.Bool.{_&&_}
 use mathlib.Core.List.{List, [], _∷_}
@@ -8,16 +7,18 @@ use native.Mathlib.Omega.{arith}
 use native.Mathlib.Numerals.{sub-one}
 use borrow.Author.Tests.{eq-eqb, ne-eqb, le-leb}
 use lib.Dec.{eqb, leb}
+use Rattle.limits.specs.Limits.{CLASSES, DESCRIPTORS, TAGS, SPARE-DESCRIPTORS, SPARE-REGIONS}
 use Rattle.rows.specs.Linked.{Linked}
 use Rattle.fields.specs.Columns.{Field, View, _:=_, assigned}
 use Rattle.words.specs.Head.{itemOf, headOf, advancedWord}
 use Rattle.words.proofs.Heads.{advancedWord-below}
-use Rattle.plain.specs.State.{Phase, read, next, exchange, Place, idle, popping, pushing, Mem, setRow, SPARES, REGIONS}
+use Rattle.plain.specs.State.{Phase, read, next, exchange, Place, idle, popping, pushing, Mem, setRow}
 use Rattle.plain.specs.State as Plain
 use Rattle.plain.specs.Moves.{Decided, found-empty, popped, lost, going}
 use Rattle.plain.specs.Steps.{top}
 use Rattle.plain.specs.Steps as Steps
 use Rattle.control.specs.Layout.{Head, TaskPlace, TaskHead, TaskNext, TaskClass, TaskDescriptor, TaskRegion}
+use Rattle.control.specs.Places.{IDLE, POP-SPARE, POP-REGION, PUSH-BACK, A3-READ, A7}
 use Rattle.control.specs.declared.answer.Answer.the-variants.{Accepted, NoDescriptor}
 use Rattle.control.specs.declared.moves.Pop.{Pop}
 use Rattle.control.specs.declared.moves.Pop.the-variants.{Partial, Spare, Region}
@@ -66,10 +67,10 @@ nexts Partial a = a .lists .descriptorNext
 nexts Spare a = a .lists .descriptorNext
 nexts Region a = a .lists .regionNext
 
-pop-kind : (P : Pop) (regions c : ℕ) → c < 16
+pop-kind : (P : Pop) (regions c : ℕ) → c < CLASSES
     → Kind regions (Lists.popList P c) (Lists.popItems P regions) (Lists.popNextField P) (nexts P)
 pop-kind Partial regions c h = descriptors {ℓ = c} (omega arith)
-pop-kind Spare regions c h = descriptors {ℓ = SPARES} (omega arith)
+pop-kind Spare regions c h = descriptors {ℓ = SPARE-DESCRIPTORS} (omega arith)
 pop-kind Region regions c h = spare-regions
 
 -- the place of a pop
@@ -106,11 +107,11 @@ module _ {regions : ℕ} {v : View} {area : List ℕ} {m : Mem} {t : ℕ} {k : �
       (Steps.popRead t k (popOf v t P) [] m)
   found-none Partial w =
       let c = v (TaskClass t) in
-      moves w Accepted (found-empty c) 5 (popping (Plain.spare c) read) (omega arith)
+      moves w Accepted (found-empty c) POP-SPARE (popping (Plain.spare c) read) (omega arith)
       (r-spare (PopRelated.at-read refl))
-  found-none Spare w = moves w NoDescriptor (found-empty SPARES) 0 idle (omega arith) (r-idle refl)
+  found-none Spare w = moves w NoDescriptor (found-empty SPARE-DESCRIPTORS) IDLE idle (omega arith) (r-idle refl)
   found-none Region w =
-      moves w Accepted (found-empty REGIONS) 14 (pushing (Plain.back (v (TaskClass t)) (v (TaskDescriptor t))) read)
+      moves w Accepted (found-empty SPARE-REGIONS) PUSH-BACK (pushing (Plain.back (v (TaskClass t)) (v (TaskDescriptor t))) read)
       (omega arith) (r-back (PushRelated.at-read refl))
 
   pub pop-read : (P : Pop) → At regions v area m t (popping (popOf v t P) read) k
@@ -166,7 +167,7 @@ module _ {regions : ℕ} {v : View} {area : List ℕ} {m : Mem} {t : ℕ} {k : �
   -- won with the descriptor x, which is then in hand
   descriptor-won : {ℓ items : ℕ} {nx : ℕ → Field} {column : Memory → ℕ → ℕ} {p : Place} {q : List ℕ}
       → At regions v area m t p k → Kind regions ℓ items nx column → Won v m t ℓ nx (v (TaskNext t)) q
-      → (e : Decided) (x b : ℕ) (p′ : Place) → x < 64 → b < 256
+      → (e : Decided) (x b : ℕ) (p′ : Place) → x < DESCRIPTORS → b < 256
       → PlaceRelated regions (setSlot t (toPlace b (toDescriptor x (slotOf v t)))
       (setHead ℓ (headOf (advanced v t)) (memoryOf v area))) (Steps.at t k p′ (setRow ℓ q m))
       (toPlace b (toDescriptor x (slotOf v t))) p′
@@ -186,7 +187,7 @@ module _ {regions : ℕ} {v : View} {area : List ℕ} {m : Mem} {t : ℕ} {k : �
 
   -- won with the item x
   pop-won : (P : Pop) {n : ℕ} {q : List ℕ} → At regions v area m t (popping (popOf v t P) (exchange n)) k
-      → (x : ℕ) → x < 64
+      → (x : ℕ) → x < DESCRIPTORS
       → Won v m t (listOf v t P) (Lists.popNextField P) (v (TaskNext t)) q
       → Both regions v area m
       (Lists.whenPopped v regions t (v (TaskClass t)) P x (popped (listOf v t P) x)
@@ -194,18 +195,18 @@ module _ {regions : ℕ} {v : View} {area : List ℕ} {m : Mem} {t : ℕ} {k : �
       (Steps.at t k (Steps.whenPopped (popOf v t P) x) (setRow (listOf v t P) q m), going (popped (listOf v t P) x))
   pop-won Partial w x l W =
       let c = v (TaskClass t) in
-      descriptor-won w (kind Partial w) W (popped c x) x 23 (Plain.a3-read c x) l (omega arith) (r-a3-read refl)
+      descriptor-won w (kind Partial w) W (popped c x) x A3-READ (Plain.a3-read c x) l (omega arith) (r-a3-read refl)
   pop-won Spare w x l W =
-      descriptor-won w (kind Spare w) W (popped SPARES x) x 8 (popping (Plain.region (v (TaskClass t)) x) read) l
+      descriptor-won w (kind Spare w) W (popped SPARE-DESCRIPTORS x) x POP-REGION (popping (Plain.region (v (TaskClass t)) x) read) l
       (omega arith) (r-region (PopRelated.at-read refl))
   pop-won Region w x l W =
-      let ws = TaskPlace t := 26 ∷ TaskRegion t := x ∷ Head REGIONS := advanced v t ∷ [] in
+      let ws = TaskPlace t := A7 ∷ TaskRegion t := x ∷ Head SPARE-REGIONS := advanced v t ∷ [] in
       record {
         says = refl;
         keeps = (refl, refl);
-        rel = wins w (kind Region w) W ws (toPlace 26 (toRegion x (slotOf v t)))
+        rel = wins w (kind Region w) W ws (toPlace A7 (toRegion x (slotOf v t)))
             (Plain.a7 (v (TaskClass t)) (v (TaskDescriptor t)) x)
-            (head-written v (slotOf (assigned ws v)) area REGIONS (advanced v t))
+            (head-written v (slotOf (assigned ws v)) area SPARE-REGIONS (advanced v t))
             (rw (eq-eqb t t refl)) (λ j n. rw (ne-eqb t j n)) refl refl (r-a7 refl);
         sound = omega (arith, w .pair .turn .fits, advanced-fits W);
         apart = tt;
@@ -213,7 +214,7 @@ module _ {regions : ℕ} {v : View} {area : List ℕ} {m : Mem} {t : ℕ} {k : �
 
   pub pop-exchange : (P : Pop) {n : ℕ} → At regions v area m t (popping (popOf v t P) (exchange n)) k
       → PopRelated m (slotOf v t) (Lists.popPlace P) (listOf v t P) (Lists.popItems P regions) (exchange n)
-      → m .won (listOf v t P) < n + 4294967296
+      → m .won (listOf v t P) < n + TAGS
       → Both regions v area m (Lists.popExchange v regions t (v (TaskClass t)) P)
       (Steps.popStep t k (popOf v t P) (exchange n) m)
   unfolding Lists.popExchange

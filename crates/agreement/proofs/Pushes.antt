@@ -1,5 +1,4 @@
 -- The three steps of a push, in both pools, for every reason.
--- Assumes nothing.
 use mathlib.Core.Path.{_≡_, refl, sym, subst, _∙_}
 use mathlib.Core.Bool.{_&&_}
 use mathlib.Core.List.{List, [], _∷_}
@@ -8,17 +7,19 @@ use native.Mathlib.Omega.{arith}
 use native.Mathlib.Numerals.{add-one}
 use borrow.Author.Tests.{lt-ltb, le-leb}
 use lib.Dec.{ltb, leb}
+use Rattle.limits.specs.Limits.{CLASSES, TAGS, SPARE-DESCRIPTORS, SPARE-REGIONS}
 use Rattle.rows.specs.Linked.{Linked, links}
 use Rattle.rows.proofs.Weights.{when-same}
 use Rattle.fields.specs.Columns.{View, _:=_}
 use Rattle.words.specs.Head.{itemOf}
 use Rattle.words.specs.Anchor.{isState}
 use Rattle.plain.specs.State.{State, EMPTY, PARTIAL, FULL, numberOf, Phase, read, next, exchange}
-use Rattle.plain.specs.State.{Place, idle, popping, pushing, Mem, SPARES, REGIONS}
+use Rattle.plain.specs.State.{Place, idle, popping, pushing, Mem}
 use Rattle.plain.specs.State as Plain
 use Rattle.plain.specs.Moves.{pushed, lost}
 use Rattle.plain.specs.Steps as Steps
 use Rattle.control.specs.Layout.{Head, TaskPlace, TaskHead, TaskClass, TaskUnit, TaskDescriptor, TaskRegion, TaskState}
+use Rattle.control.specs.Places.{IDLE, POP-PARTIAL}
 use Rattle.control.specs.declared.answer.Answer.the-variants.{Accepted, NoRegion}
 use Rattle.control.specs.declared.moves.Push.{Push}
 use Rattle.control.specs.declared.moves.Push.the-variants.{Retire, Back, Release, Offer}
@@ -91,10 +92,10 @@ place-max Back = omega arith
 place-max Release = omega arith
 place-max Offer = omega arith
 
-push-kind : (P : Push) (regions c : ℕ) → c < 16
+push-kind : (P : Push) (regions c : ℕ) → c < CLASSES
     → Kind regions (Lists.pushList P c) (Lists.pushItems P regions) (Lists.pushNextField P) (pushNexts P)
-push-kind Retire regions c h = descriptors {ℓ = SPARES} (omega arith)
-push-kind Back regions c h = descriptors {ℓ = SPARES} (omega arith)
+push-kind Retire regions c h = descriptors {ℓ = SPARE-DESCRIPTORS} (omega arith)
+push-kind Back regions c h = descriptors {ℓ = SPARE-DESCRIPTORS} (omega arith)
 push-kind Release regions c h = spare-regions
 push-kind Offer regions c h = descriptors {ℓ = c} (omega arith)
 
@@ -132,7 +133,7 @@ next-is v area t Release = refl
 next-is v area t Offer = refl
 
 -- the item is held
-item-held : (v : View) (regions t : ℕ) (h : v (TaskClass t) < 16) (z : State) (P : Push) (φ : Phase)
+item-held : (v : View) (regions t : ℕ) (h : v (TaskClass t) < CLASSES) (z : State) (P : Push) (φ : Phase)
     → Holds (push-kind P regions (v (TaskClass t)) h) (itemAt v t P) (pushing (pushOf v t z P) φ)
 unfolding push-kind
 item-held v regions t h z Retire φ = omega (arith, when-same (v (TaskDescriptor t)) 1)
@@ -195,15 +196,15 @@ module _ {regions : ℕ} {v : View} {area : List ℕ} {m : Mem} {t : ℕ} {k : �
       (Steps.pushPut t k (pushOf v t z P) m)
   push-won Retire z w f W =
       let d = v (TaskDescriptor t) in
-      leads-to w (kind Retire w) d W Accepted (pushed SPARES d) 2 (popping (Plain.partial (v (TaskClass t))) read)
+      leads-to w (kind Retire w) d W Accepted (pushed SPARE-DESCRIPTORS d) POP-PARTIAL (popping (Plain.partial (v (TaskClass t))) read)
       (omega arith) (r-partial (PopRelated.at-read refl))
   push-won Back z w f W =
       let d = v (TaskDescriptor t) in
-      leads-to w (kind Back w) d W NoRegion (pushed SPARES d) 0 idle (omega arith) (r-idle refl)
+      leads-to w (kind Back w) d W NoRegion (pushed SPARE-DESCRIPTORS d) IDLE idle (omega arith) (r-idle refl)
   push-won Release z w f W =
       let r = v (TaskRegion t) in
       let was = v (TaskState t) in
-      pass (isState was) (le-leb was 2 (state-max was z f)) (leads-five w (kind Release w) r W (pushed REGIONS r) z f)
+      pass (isState was) (le-leb was 2 (state-max was z f)) (leads-five w (kind Release w) r W (pushed SPARE-REGIONS r) z f)
   push-won Offer z w f W =
       let d = v (TaskDescriptor t) in
       leads-six w (kind Offer w) d W (pushed (v (TaskClass t)) d)
@@ -212,7 +213,7 @@ module _ {regions : ℕ} {v : View} {area : List ℕ} {m : Mem} {t : ℕ} {k : �
       → Found P (v (TaskState t)) z
       → PushRelated m (slotOf v t) (Lists.pushPlace P) (listOf v t P) (Lists.pushItems P regions)
       (inHand P (slotOf v t)) (pushNexts P (memoryOf v area)) (exchange n)
-      → m .won (listOf v t P) < n + 4294967296
+      → m .won (listOf v t P) < n + TAGS
       → Both regions v area m (Lists.pushExchange v regions t (v (TaskClass t)) P)
       (Steps.pushStep t k (pushOf v t z P) (exchange n) m)
   unfolding Lists.pushExchange kind

@@ -1,5 +1,4 @@
 -- Where a won push of the item x leads, after which the list's row is q: to a place alone, or to step 5 or 6 of free.
--- Assumes nothing.
 use mathlib.Core.Path.{_≡_, refl}
 use mathlib.Core.List.{List, [], _∷_}
 use Prim.Native.Nat.{ℕ, _+_, _<_}
@@ -13,6 +12,7 @@ use Rattle.plain.specs.Moves.{Decided, going}
 use Rattle.plain.specs.Steps as Steps
 use Rattle.control.specs.Layout.{layout, Head, GroupCount, TaskPlace, TaskHead, TaskClass}
 use Rattle.control.specs.Layout.{TaskUnit, TaskDescriptor, TaskState}
+use Rattle.control.specs.Places.{PUSH-OFFER, F1, F2}
 use Rattle.control.specs.Answers.{codeOf, valueOf}
 use Rattle.control.specs.declared.answer.Answer.{Answer}
 use Rattle.stepped.specs.Outcome.{close}
@@ -62,11 +62,11 @@ module _ {regions : ℕ} {v : View} {area : List ℕ} {m : Mem} {t : ℕ} {p : P
 
   -- to step 2 of a free, with a group of none
   leads-f2 : Related regions
-      (memoryOf (assigned (TaskPlace t := 29 ∷ GroupCount t := 0 ∷ Head ℓ := advanced v t x ∷ []) v) area)
+      (memoryOf (assigned (TaskPlace t := F2 ∷ GroupCount t := 0 ∷ Head ℓ := advanced v t x ∷ []) v) area)
       (Steps.at t k (f2 (v (TaskClass t)) (v (TaskUnit t)) []) (setRow ℓ q m))
   leads-f2 =
-      let ws = TaskPlace t := 29 ∷ GroupCount t := 0 ∷ Head ℓ := advanced v t x ∷ [] in
-      wins w K W ws (toPlace 29 (toGrouped 0 (slotOf v t))) (f2 (v (TaskClass t)) (v (TaskUnit t)) [])
+      let ws = TaskPlace t := F2 ∷ GroupCount t := 0 ∷ Head ℓ := advanced v t x ∷ [] in
+      wins w K W ws (toPlace F2 (toGrouped 0 (slotOf v t))) (f2 (v (TaskClass t)) (v (TaskUnit t)) [])
       (head-written v (slotOf (assigned ws v)) area ℓ (advanced v t x))
       (rw (eq-eqb t t refl)) (λ j n. rw (ne-eqb t j n)) refl refl (r-f2 refl refl)
 
@@ -76,7 +76,7 @@ module _ {regions : ℕ} {v : View} {area : List ℕ} {m : Mem} {t : ℕ} {p : P
       (Steps.at t k (Steps.f6 (k (v (TaskClass t))) (v (TaskClass t)) (v (TaskUnit t))) (setRow ℓ q m), going e)
   leads-six e =
       six w e (Head ℓ := advanced v t x ∷ []) (setRow ℓ q m) (v (TaskUnit t)) exchange-sound (refl, refl)
-      (leads 28 (f1 (v (TaskClass t)) (v (TaskUnit t))) (r-f1 refl)) leads-f2
+      (leads F1 (f1 (v (TaskClass t)) (v (TaskUnit t))) (r-f1 refl)) leads-f2
 
   -- to step 5
   pub leads-five : (e : Decided) (z : State) → v (TaskState t) ≡ numberOf z
@@ -90,5 +90,5 @@ module _ {regions : ℕ} {v : View} {area : List ℕ} {m : Mem} {t : ℕ} {p : P
       let c = v (TaskClass t) in
       let u = v (TaskUnit t) in
       let d = v (TaskDescriptor t) in
-      five w e (Head ℓ := advanced v t x ∷ []) (setRow ℓ q m) u exchange-sound (refl, refl) (leads 28 (f1 c u) (r-f1 refl)) leads-f2
-      (v (TaskState t)) z d f (leads 20 (pushing (offer c u d) read) (r-offer (PushRelated.at-read refl)))
+      five w e (Head ℓ := advanced v t x ∷ []) (setRow ℓ q m) u exchange-sound (refl, refl) (leads F1 (f1 c u) (r-f1 refl)) leads-f2
+      (v (TaskState t)) z d f (leads PUSH-OFFER (pushing (offer c u d) read) (r-offer (PushRelated.at-read refl)))

@@ -1,11 +1,11 @@
 -- Step 3 of a free, in both pools: the anchor is read, the last link is written, the anchor is exchanged.
--- Assumes nothing.
 use mathlib.Core.Path.{_≡_, refl, ap, _∙_}
 use mathlib.Core.List.{List, [], _∷_, _++_}
 use Prim.Native.Nat.{ℕ, suc, _+_, _-_, _≤_, _<_}
 use native.Mathlib.Omega.{arith}
 use borrow.Author.Tests.{eq-eqb, ne-eqb, lt-ltb, le-leb}
 use lib.ListN.{length, length-append}
+use Rattle.limits.specs.Limits.{DESCRIPTORS}
 use Rattle.rows.specs.Counting.{count}
 use Rattle.rows.proofs.Linked.{linked-frame}
 use Rattle.rows.proofs.Weights.{when-same}
@@ -24,6 +24,7 @@ use Rattle.plain.proofs.Groups as Joined
 use Rattle.plain.proofs.States.{open-holds}
 use Rattle.control.specs.Layout.{Anchor, GroupCount, GroupLast, Map, TaskAnchor, TaskClass, TaskDescriptor}
 use Rattle.control.specs.Layout.{TaskPlace, TaskRegion, TaskUnit}
+use Rattle.control.specs.Places.{F3-LINK, F3-EXCHANGE}
 use Rattle.stepped.specs.Free as Free
 use Rattle.agreement.specs.Memory.{slotOf, memoryOf}
 use Rattle.agreement.specs.Relation.{GroupRelated, NoteRelated, r-f3-exchange, r-f3-link}
@@ -66,8 +67,8 @@ module _ {regions : ℕ} {v : View} {area : List ℕ} {m : Mem} {t : ℕ} {k : �
         pass _ (both-true (note-anchor (v (Anchor d)) n N l) (note-room (v (Anchor d)) n N l)) (record {
           says = refl;
           keeps = (refl, refl);
-          rel = goes w (TaskPlace t := 31 ∷ TaskDescriptor t := d ∷ TaskAnchor t := v (Anchor d) ∷ [])
-              (toPlace 31 (toDescriptor d (toAnchor (anchorOf (v (Anchor d))) (slotOf v t))))
+          rel = goes w (TaskPlace t := F3-LINK ∷ TaskDescriptor t := d ∷ TaskAnchor t := v (Anchor d) ∷ [])
+              (toPlace F3-LINK (toDescriptor d (toAnchor (anchorOf (v (Anchor d))) (slotOf v t))))
               (f3-link c (v (TaskUnit t)) y g d (noted (m .descriptor d)))
               refl (rw (eq-eqb t t refl)) (λ j n. rw (ne-eqb t j n)) refl refl
               (r-f3-link refl (same-group refl refl refl refl G) (re-note refl refl N) l);
@@ -91,7 +92,7 @@ module _ {regions : ℕ} {v : View} {area : List ℕ} {m : Mem} {t : ℕ} {k : �
       let i : v (Map r) - 1 ≡ h .d = omega arith in
       pass _ (both-true (lt-ltb r regions l)
       (both-true (le-leb 1 n (omega (arith, G .counts))) (le-leb n (perRegion c) (omega (arith, G .counts, o .1)))))
-      (pass _ (both-true (le-leb 1 (v (Map r)) (omega arith)) (le-leb (v (Map r)) 64 (omega (arith, h .fits))))
+      (pass _ (both-true (le-leb 1 (v (Map r)) (omega arith)) (le-leb (v (Map r)) DESCRIPTORS (omega (arith, h .fits))))
       (rw (i, h .named) (read-of w (h .d) (h .named) G)))
 
   -- ---- the last link
@@ -116,7 +117,7 @@ module _ {regions : ℕ} {v : View} {area : List ℕ} {m : Mem} {t : ℕ} {k : �
       let fs = front-sub (w .pair) G (λ z. omega arith) refl (o .2) in
       let z : 0 + anchorOf a .count ≤ perRegion c = omega arith in
       let wr = wrote (w .pair) l x lu (omega (arith, note-max N)) in
-      let s = toPlace 32 (slotOf v t) in
+      let s = toPlace F3-EXCHANGE (slotOf v t) in
       let p = f3-exchange c (v (TaskUnit t)) y g (v (TaskDescriptor t)) n in
       pass _ (both-true (both-true (both-true
       (lt-ltb (v (TaskRegion t)) regions (region-below (w .pair) G (λ z. omega arith) refl (o .2)))
@@ -125,7 +126,7 @@ module _ {regions : ℕ} {v : View} {area : List ℕ} {m : Mem} {t : ℕ} {k : �
       (record {
         says = refl;
         keeps = (refl, refl);
-        rel = rw (L .at) (link-written w (assigned (TaskPlace t := 32 ∷ []) v) s (taskOf p k) l x
+        rel = rw (L .at) (link-written w (assigned (TaskPlace t := F3-EXCHANGE ∷ []) v) s (taskOf p k) l x
             (record { shared = refl; own = rw (eq-eqb t t refl); others = λ j d. rw (ne-eqb t j d) })
             (mine-under (w .pair) l lu .0)
             (re-link (w .pair) _ _ s p (λ e i. cache-agrees (w .pair) l x lu e i) refl refl

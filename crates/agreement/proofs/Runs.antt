@@ -1,11 +1,11 @@
 -- What a list of events answers in each run; and how a list is seen to meet the premises by running the plain pool.
--- Assumes nothing.
 use mathlib.Core.Path.{_≡_, refl, ap, _∙_}
 use mathlib.Core.List.{List, [], _∷_}
 use Prim.Native.Nat.{ℕ, suc, _+_, _*_, _/_, _≤_, _<_}
 use native.Mathlib.Omega.{arith}
 use native.Mathlib.Decide.{decLt, decLe}
 use lib.ListN.{length}
+use Rattle.limits.specs.Limits.{UNIT-BYTES, TAGS}
 use Rattle.rows.specs.Branch.{both}
 use Rattle.classes.specs.Classes.{block}
 use Rattle.classes.specs.Places.{unitOf, regionOf, indexOf}
@@ -61,12 +61,12 @@ after (e ∷ es) s = after es (whole e s .0)
 -- ---- the premise on heads
 
 -- a head that has changed fewer than 2^32 times in all has not changed 2^32 times since a task's read
-recent : (won : ℕ) (φ : Phase) → won < 4294967296 → Recent won φ
+recent : (won : ℕ) (φ : Phase) → won < TAGS → Recent won φ
 recent won read h = tt
 recent won (next n) h = tt
 recent won (exchange n) h = omega arith
 
-near : (m : Mem) (p : Place) → ((ℓ : ℕ) → m .won ℓ < 4294967296) → Near m p
+near : (m : Mem) (p : Place) → ((ℓ : ℕ) → m .won ℓ < TAGS) → Near m p
 near m idle h = tt
 near m (a1 c) h = tt
 near m (popping p φ) h = recent (m .won (popList p)) φ (h (popList p))
@@ -87,13 +87,13 @@ near m (f4-clear c u d w r) h = tt
 
 -- the block that the byte lies in, by the class of its region
 abbrev pub blockAt : ℕ → Pool → ℕ
-blockAt at s = let c = classThere (at / 8) s in unitOf (regionOf (at / 8)) c (indexOf c (at / 8))
+blockAt at s = let c = classThere (at / UNIT-BYTES) s in unitOf (regionOf (at / UNIT-BYTES)) c (indexOf c (at / UNIT-BYTES))
 
 -- it is in a user's hands, and the byte lies in it
 abbrev pub HeldAt : ℕ → Pool → Type 0
 HeldAt at s =
     let u = blockAt at s in
-    (1 ≤ s .tasks) × ((1 ≤ s .mem .hands u) × ((8 * u ≤ at) × (at < 8 * u + block (classThere u s))))
+    (1 ≤ s .tasks) × ((1 ≤ s .mem .hands u) × ((UNIT-BYTES * u ≤ at) × (at < UNIT-BYTES * u + block (classThere u s))))
 
 -- every write of the list is into a block in a user's hands
 abbrev pub Writes : List Event → Pool → Type 0
@@ -114,7 +114,7 @@ writes? (go control area t ∷ es) s = writes? es (whole (go control area t) s .
 writes? (write at b ∷ es) s =
     let u = blockAt at s in
     both
-    (both (decLe 1 (s .tasks)) (both (decLe 1 (s .mem .hands u)) (both (decLe (8 * u) at) (decLt at (8 * u + block (classThere u s))))))
+    (both (decLe 1 (s .tasks)) (both (decLe 1 (s .mem .hands u)) (both (decLe (UNIT-BYTES * u) at) (decLt at (UNIT-BYTES * u + block (classThere u s))))))
     (writes? es s)
 
 -- the answer of a test is yes
@@ -130,7 +130,7 @@ found (no n) h = absurd h
 
 -- A list of events that ends before the 2^32nd, counted from the last start, meets the premise on heads; so what is left to
 -- ask is that of the writes. No list of the pool s has won more than n exchanges.
-pub short : (n : ℕ) (es : List Event) (s : Pool) → AtMost n s → n + length es ≤ 4294967296 → Writes es s → Premises es s
+pub short : (n : ℕ) (es : List Event) (s : Pool) → AtMost n s → n + length es ≤ TAGS → Writes es s → Premises es s
 short n [] s a l w = tt
 short n (start control area tasks ∷ es) s a l w =
     (tt, short (suc n) es _ (most n (Plain.start control (length area) tasks) s a) (omega arith) w)

@@ -1,5 +1,4 @@
 -- A task's turn that writes what is shared, too: from the writes to the relation after it.
--- Assumes nothing.
 use mathlib.Core.Path.{_≡_, sym, subst}
 use mathlib.Core.Logic.{_≢_}
 use mathlib.Core.List.{List}

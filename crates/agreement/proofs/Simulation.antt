@@ -1,5 +1,4 @@
 -- How one call keeps the bytes of the stepped run tied to the plain pool.
--- Assumes nothing.
 use mathlib.Core.Path.{_≡_, refl, sym, _∙_}
 use mathlib.Core.Bool.{cond}
 use mathlib.Core.List.{List}
@@ -9,6 +8,7 @@ use native.Mathlib.Decide.{ℕ-discrete, decLt}
 use borrow.Author.Tests.{eq-eqb, ne-eqb, le-leb, lt-ltb, le-ltb}
 use lib.Dec.{eqb, ltb}
 use lib.ListN.{length}
+use Rattle.limits.specs.Limits.{CONTROL-BYTES, REGIONS, REGION-BYTES, TASKS}
 use Rattle.rows.specs.Branch.{if}
 use Rattle.rows.proofs.Branch.{if-yes, if-no}
 use Rattle.fields.specs.Little.{Bytes}
@@ -25,8 +25,6 @@ use Rattle.control.specs.Layout.{layout, Tasks, Regions, seen, changed}
 use Rattle.control.proofs.Fields.{seen-changed}
 use Rattle.stepped.specs.Outcome.{Outcome, effect, refuse}
 use Rattle.stepped.specs.Calls as Stepped
-use Rattle.agreement.specs.Memory.{memoryOf}
-use Rattle.agreement.specs.Relation.{Related}
 use Rattle.stepped.specs.Outcome.{Memories}
 use Rattle.agreement.specs.Events.{ran, Taken}
 use Rattle.agreement.specs.Tied.{Tied}
@@ -84,51 +82,51 @@ module _ {s₁ : Memories} {s : Pool} (S : Tied s₁ s) where
     abbrev Run : Outcome → Memories × Answer
     Run o = ran (effect o (s₁ .control) (s₁ .area))
 
-    test-five : control ≡ 8192 → 1 ≤ s .tasks → area ≡ 4096 * s .regions → (d : Dec (t < s .tasks))
+    test-five : control ≡ CONTROL-BYTES → 1 ≤ s .tasks → area ≡ REGION-BYTES * s .regions → (d : Dec (t < s .tasks))
         → Alike (Kept s₁ s) (Run (cond (ltb t (v Tasks)) x (refuse 5))) (if d (Plain.became s y) (Plain.refuse 5 s))
     test-five p q r (yes l) =
         let T : Taken control area t s = record { control-is = p; started = q; area-is = r; below = l } in
         rw (S .tasks, lt-ltb t (s .tasks) l) (moves x y q (g T) (both T))
     test-five p q r (no l) = rw (S .tasks, le-ltb t (s .tasks) (omega arith)) (stays (Kept s₁ s) (λ at k. refl) 5)
 
-    test-two : control ≡ 8192 → 1 ≤ s .tasks → (d : Dec (area ≡ 4096 * s .regions))
-        → Alike (Kept s₁ s) (Run (cond (eqb area (4096 * v Regions)) (cond (ltb t (v Tasks)) x (refuse 5)) (refuse 2)))
+    test-two : control ≡ CONTROL-BYTES → 1 ≤ s .tasks → (d : Dec (area ≡ REGION-BYTES * s .regions))
+        → Alike (Kept s₁ s) (Run (cond (eqb area (REGION-BYTES * v Regions)) (cond (ltb t (v Tasks)) x (refuse 5)) (refuse 2)))
         (if d (if (decLt t (s .tasks)) (Plain.became s y) (Plain.refuse 5 s)) (Plain.refuse 2 s))
     test-two p q (yes e) =
-        rw (S .regions q, eq-eqb area (4096 * s .regions) e) (test-five p q e (decLt t (s .tasks)))
-    test-two p q (no e) = rw (S .regions q, ne-eqb area (4096 * s .regions) e) (stays (Kept s₁ s) (λ at k. refl) 2)
+        rw (S .regions q, eq-eqb area (REGION-BYTES * s .regions) e) (test-five p q e (decLt t (s .tasks)))
+    test-two p q (no e) = rw (S .regions q, ne-eqb area (REGION-BYTES * s .regions) e) (stays (Kept s₁ s) (λ at k. refl) 2)
 
     -- the stored numbers are in their ranges
-    test-four : control ≡ 8192 → (d : Dec (s .tasks ≡ 0))
-        → Alike (Kept s₁ s) (Run (Stepped.tested 8192 area v t x))
+    test-four : control ≡ CONTROL-BYTES → (d : Dec (s .tasks ≡ 0))
+        → Alike (Kept s₁ s) (Run (Stepped.tested CONTROL-BYTES area v t x))
         (if d (Plain.refuse 4 s)
-        (if (ℕ-discrete area (4096 * s .regions)) (if (decLt t (s .tasks)) (Plain.became s y) (Plain.refuse 5 s)) (Plain.refuse 2 s)))
+        (if (ℕ-discrete area (REGION-BYTES * s .regions)) (if (decLt t (s .tasks)) (Plain.became s y) (Plain.refuse 5 s)) (Plain.refuse 2 s)))
     unfolding Stepped.tested
     test-four p (yes e) =
-        rw (le-leb (v Tasks) 8 (omega (arith, S .tasks)), eq-eqb (v Tasks) 0 (S .tasks ∙ e)) (stays (Kept s₁ s) (λ at k. refl) 4)
+        rw (le-leb (v Tasks) TASKS (omega (arith, S .tasks)), eq-eqb (v Tasks) 0 (S .tasks ∙ e)) (stays (Kept s₁ s) (λ at k. refl) 4)
     test-four p (no e) =
         let q : 1 ≤ s .tasks = omega arith in
         rw (
-          le-leb (v Tasks) 8 (omega (arith, S .tasks, S .good .few)),
+          le-leb (v Tasks) TASKS (omega (arith, S .tasks, S .good .few)),
           ne-eqb (v Tasks) 0 (λ i. e (sym (S .tasks) ∙ i)),
           le-leb 1 (v Regions) (omega (arith, S .regions q, S .some q)),
-          le-leb (v Regions) 16 (omega (arith, S .regions q, S .good .small q)),
+          le-leb (v Regions) REGIONS (omega (arith, S .regions q, S .good .small q)),
         )
-        (test-two p q (ℕ-discrete area (4096 * s .regions)))
+        (test-two p q (ℕ-discrete area (REGION-BYTES * s .regions)))
 
-    pub tested-alike : (d : Dec (control ≡ 8192))
+    pub tested-alike : (d : Dec (control ≡ CONTROL-BYTES))
         → Alike (Kept s₁ s) (Run (Stepped.tested control area v t x))
         (if d
         (if (ℕ-discrete (s .tasks) 0) (Plain.refuse 4 s)
-        (if (ℕ-discrete area (4096 * s .regions)) (if (decLt t (s .tasks)) (Plain.became s y) (Plain.refuse 5 s)) (Plain.refuse 2 s)))
+        (if (ℕ-discrete area (REGION-BYTES * s .regions)) (if (decLt t (s .tasks)) (Plain.became s y) (Plain.refuse 5 s)) (Plain.refuse 2 s)))
         (Plain.refuse 1 s))
     unfolding Stepped.tested
     tested-alike (yes e) = rw e (test-four e (ℕ-discrete (s .tasks) 0))
-    tested-alike (no e) = rw (ne-eqb control 8192 e) (stays (Kept s₁ s) (λ at k. refl) 1)
+    tested-alike (no e) = rw (ne-eqb control CONTROL-BYTES e) (stays (Kept s₁ s) (λ at k. refl) 1)
 
 -- a call that passes the tests does what follows them
 pub taken-is : {control area t : ℕ} {s : Pool} (y : Result) → Taken control area t s → Plain.tested control area t s y ≡ Plain.became s y
 taken-is {control} {area} {t} {s} y T =
-    if-yes (ℕ-discrete control 8192) _ _ (T .control-is)
+    if-yes (ℕ-discrete control CONTROL-BYTES) _ _ (T .control-is)
     ∙ if-no (ℕ-discrete (s .tasks) 0) _ _ (λ e. absurd (omega (arith, T .started)))
-    ∙ if-yes (ℕ-discrete area (4096 * s .regions)) _ _ (T .area-is) ∙ if-yes (decLt t (s .tasks)) _ _ (T .below)
+    ∙ if-yes (ℕ-discrete area (REGION-BYTES * s .regions)) _ _ (T .area-is) ∙ if-yes (decLt t (s .tasks)) _ _ (T .below)

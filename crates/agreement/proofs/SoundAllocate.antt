@@ -1,12 +1,12 @@
 -- Every write of a step of an allocation that is no list move is to a field of the layout, its value fits there, and it is
 -- to no other task's place, whatever the two memories hold.
--- Assumes nothing.
 use Prim.Native.Nat.{ℕ, _+_, _-_, _/_, _%_, _≤_, _<_}
 use mathlib.Core.Path.{_≡_}
 use mathlib.Core.Bool.{Bool, true, _&&_}
 use native.Mathlib.Omega.{arith}
 use borrow.Author.Tests.{leb-true, ltb-true, eqb-true}
 use lib.Dec.{eqb, leb, ltb}
+use Rattle.limits.specs.Limits.{REGIONS, UNITS, TASKS, CLASSES, DESCRIPTORS, MOST-BLOCKS}
 use Rattle.fields.specs.Columns.{View}
 use Rattle.words.specs.Anchor.{EMPTY, anchorOf, anchorWord, full}
 use Rattle.words.proofs.Anchors.{anchor-below}
@@ -24,16 +24,16 @@ use Rattle.agreement.proofs.Both.{Fitting}
 use Rattle.agreement.proofs.Ways.{branch}
 use Rattle.agreement.proofs.SoundMoves.{Fit, test}
 
-module _ (regions c : ℕ) (few : regions ≤ 16) where
+module _ (regions c : ℕ) (few : regions ≤ REGIONS) where
   -- a block's unit
-  pub block-max : (u : ℕ) → isBlock regions c u ≡ true → u < 8192
+  pub block-max : (u : ℕ) → isBlock regions c u ≡ true → u < UNITS
   block-max u h = omega (arith, few, ltb-true (regionOf u) regions (left-true (ltb (regionOf u) regions) (isFirst c u) h))
 
   -- a top, of however many blocks
-  pub top-max : (k u : ℕ) → isTop regions c k u ≡ true → u ≤ 8192
-  top-max k u = branch (λ (b : Bool). b ≡ true → u ≤ 8192) (eqb k 0) (λ e h. omega (arith, eqb-true u 8192 h)) (λ e h. omega (arith, block-max u h))
+  pub top-max : (k u : ℕ) → isTop regions c k u ≡ true → u ≤ UNITS
+  top-max k u = branch (λ (b : Bool). b ≡ true → u ≤ UNITS) (eqb k 0) (λ e h. omega (arith, eqb-true u UNITS h)) (λ e h. omega (arith, block-max u h))
 
-module _ (v : View) (fits : Fitting v) (link : ℕ → ℕ) {regions t c : ℕ} (few : regions ≤ 16) (task : t < 8) (class : c < 16) where
+module _ (v : View) (fits : Fitting v) (link : ℕ → ℕ) {regions t c : ℕ} (few : regions ≤ REGIONS) (task : t < TASKS) (class : c < CLASSES) where
   abbrev n : ℕ
   n = perRegion c
 
@@ -69,12 +69,12 @@ module _ (v : View) (fits : Fitting v) (link : ℕ → ℕ) {regions t c : ℕ} 
   a3-read =
       let d = v (TaskDescriptor t) in
       let word = v (Anchor d) in
-      test (ltb d 64) (λ h. test (isAnchor word) (λ i.
+      test (ltb d DESCRIPTORS) (λ h. test (isAnchor word) (λ i.
       branch (Fit t) (eqb (anchorOf word .state) EMPTY) (λ e. record { sound = omega (arith, task); own = omega arith }) (λ e.
-      test (hasChain n word) (λ j. record { sound = omega (arith, task, fits (Anchor d) (omega (arith, ltb-true d 64 h))); own = omega arith }))))
+      test (hasChain n word) (λ j. record { sound = omega (arith, task, fits (Anchor d) (omega (arith, ltb-true d DESCRIPTORS h))); own = omega arith }))))
 
   -- what a chain to be taken has
-  chain-max : (word : ℕ) → hasChain n word ≡ true → (anchorOf word .avail < 512) × (anchorOf word .count ≤ 512)
+  chain-max : (word : ℕ) → hasChain n word ≡ true → (anchorOf word .avail < MOST-BLOCKS) × (anchorOf word .count ≤ MOST-BLOCKS)
   chain-max word h =
       let a = anchorOf word in
       let p = both (eqb (a .state) 1 && oneTo n (a .count)) (ltb (a .avail) n) h in
@@ -91,18 +91,18 @@ module _ (v : View) (fits : Fitting v) (link : ℕ → ℕ) {regions t c : ℕ} 
       let d = v (TaskDescriptor t) in
       let word = v (TaskAnchor t) in
       let r = v (DescriptorRegion d) in
-      test (ltb d 64 && hasChain n word) (λ h. test (isAnchor (v (Anchor d))) (λ i.
+      test (ltb d DESCRIPTORS && hasChain n word) (λ h. test (isAnchor (v (Anchor d))) (λ i.
       branch (Fit t) (eqb (v (Anchor d)) word)
       (λ e. test (ltb r regions) (λ j.
-      let p = both (ltb d 64) (hasChain n word) h in
+      let p = both (ltb d DESCRIPTORS) (hasChain n word) h in
       record {
-        sound = omega (arith, task, few, ltb-true d 64 (p .0), ltb-true r regions j, chain-max word (p .1), full-below);
+        sound = omega (arith, task, few, ltb-true d DESCRIPTORS (p .0), ltb-true r regions j, chain-max word (p .1), full-below);
         own = omega arith;
       }))
       (λ e. record { sound = omega (arith, task); own = omega arith })))
 
   -- a block on top of a cache
-  a4-move : (u left k top : ℕ) → u < 8192 → left ≤ 512 → k ≤ 511 → Fit t (Allocate.a4Move v link regions t c u left k top)
+  a4-move : (u left k top : ℕ) → u < UNITS → left ≤ MOST-BLOCKS → k < MOST-BLOCKS → Fit t (Allocate.a4Move v link regions t c u left k top)
   unfolding Allocate.a4Move
   a4-move u left k top a b d =
       branch (Fit t) (eqb left 1) (λ e. record { sound = omega (arith, task, class, a, d); own = omega arith })
@@ -110,7 +110,7 @@ module _ (v : View) (fits : Fitting v) (link : ℕ → ℕ) {regions t c : ℕ} 
       record { sound = omega (arith, task, class, a, b, d, perRegion-high c, ltb-true (link u) n h); own = omega arith }))
 
   -- the unit of a block of a region of the area
-  unit-max : (r i : ℕ) → r < regions → i < n → unitOf r c i < 8192
+  unit-max : (r i : ℕ) → r < regions → i < n → unitOf r c i < UNITS
   unit-max r i h l = unit-below (block-at r c i l) (omega (arith, few, h))
 
   pub a4 : Fit t (Allocate.a4 v link regions t c)
@@ -138,11 +138,11 @@ module _ (v : View) (fits : Fitting v) (link : ℕ → ℕ) {regions t c : ℕ} 
   a7 =
       let d = v (TaskDescriptor t) in
       let r = v (TaskRegion t) in
-      test (ltb d 64 && ltb r regions) (λ h.
-      let p = both (ltb d 64) (ltb r regions) h in
-      record { sound = omega (arith, task, class, few, ltb-true d 64 (p .0), ltb-true r regions (p .1), full-below); own = omega arith })
+      test (ltb d DESCRIPTORS && ltb r regions) (λ h.
+      let p = both (ltb d DESCRIPTORS) (ltb r regions) h in
+      record { sound = omega (arith, task, class, few, ltb-true d DESCRIPTORS (p .0), ltb-true r regions (p .1), full-below); own = omega arith })
 
-  a8-put : (u i k top : ℕ) → u < 8192 → i < 512 → k ≤ 511 → Fit t (Allocate.a8Put v link regions t c u i k top)
+  a8-put : (u i k top : ℕ) → u < UNITS → i < MOST-BLOCKS → k < MOST-BLOCKS → Fit t (Allocate.a8Put v link regions t c u i k top)
   unfolding Allocate.a8Put
   a8-put u i k top a b d =
       branch (Fit t) (eqb (i + 1) n) (λ e. record { sound = omega (arith, task, class, a, d); own = omega arith })

@@ -1,6 +1,5 @@
 -- Whatever bytes the control memory holds: each field holds after a step what the step's outcome writes to it, and no call of a
 -- task moves another.
--- Assumes nothing.
 use Prim.Native.Nat.{ℕ, _-_, _/_, _%_, _<_}
 use mathlib.Core.Path.{_≡_, refl, sym, _∙_}
 use mathlib.Core.Logic.{_≢_}
@@ -10,6 +9,7 @@ use native.Mathlib.Omega.{arith}
 use borrow.Author.Tests.{ne-eqb, ltb-true, ltb-false}
 use lib.Dec.{eqb, leb, ltb}
 use lib.ListN.{length}
+use Rattle.limits.specs.Limits.{CONTROL-BYTES, UNITS, TASKS, CLASSES, DESCRIPTORS, MOST-BYTES}
 use Rattle.fields.specs.Columns.{Field, View, Write, _:=_, assign, assigned, at, width, Has}
 use Rattle.fields.specs.Little.{Bytes}
 use Rattle.fields.proofs.Numbers.{getLE-lt}
@@ -20,6 +20,7 @@ use Rattle.classes.specs.Places.{regionOf, isFirst}
 use Rattle.classes.proofs.Sizes.{is-class}
 use Rattle.control.specs.Layout.{layout, seen, changed, Anchor, Marks, Map, Regions, DescriptorRegion}
 use Rattle.control.specs.Layout.{DescriptorClass, TaskPlace}
+use Rattle.control.specs.Places.{IDLE, PLACES}
 use Rattle.control.proofs.Fields.{seen-changed}
 use Rattle.stepped.specs.Outcome.{Outcome}
 use Rattle.stepped.specs.Ranges.{isAnchor}
@@ -35,21 +36,21 @@ use Rattle.agreement.proofs.SoundSteps.{step-fit}
 -- ---- the beginnings
 
 module _ {control area : ℕ} {v : View} (fits : Fitting v) {t : ℕ} (T : Tested control area v t) where
-  task : t < 8
+  task : t < TASKS
   task = omega (arith, T .below, T .tasks)
 
   idle-fit : (x : Outcome) → Fit t x → Fit t (Calls.whenIdle v t x)
   unfolding Calls.whenIdle
-  idle-fit x f = test (ltb (v (TaskPlace t)) 34) (λ e. branch (Fit t) (eqb (v (TaskPlace t)) 0) (λ h. f) (λ h. none))
+  idle-fit x f = test (ltb (v (TaskPlace t)) PLACES) (λ e. branch (Fit t) (eqb (v (TaskPlace t)) IDLE) (λ h. f) (λ h. none))
 
   pub allocate-fit : (size : ℕ) → Fit t (Calls.whenIdle v t (Calls.beginAllocate t size))
   unfolding Calls.beginAllocate
   allocate-fit size =
       idle-fit (Calls.beginAllocate t size)
-      (branch (Fit t) (eqb size 0) (λ e. none) (λ e. branch (Fit t) (ltb 256 size) (λ h. none)
-      (λ h. record { sound = omega (arith, task, is-class size (ltb-false 256 size h)); own = omega arith })))
+      (branch (Fit t) (eqb size 0) (λ e. none) (λ e. branch (Fit t) (ltb MOST-BYTES size) (λ h. none)
+      (λ h. record { sound = omega (arith, task, is-class size (ltb-false MOST-BYTES size h)); own = omega arith })))
 
-  marked-fit : (u c : ℕ) → u < 8192 → c < 16 → Fit t (Calls.freeMarked v t u c)
+  marked-fit : (u c : ℕ) → u < UNITS → c < CLASSES → Fit t (Calls.freeMarked v t u c)
   unfolding Calls.freeMarked
   marked-fit u c l k =
       let marks = v (Marks (u / 64)) in
@@ -71,11 +72,11 @@ module _ {control area : ℕ} {v : View} (fits : Fitting v) {t : ℕ} (T : Teste
       let c = v (DescriptorClass d) in
       idle-fit (Calls.beginFree v (v Regions) t u)
       (branch P (ltb (regionOf u) (v Regions)) (λ e.
-      branch P (eqb entry 0) (λ f. none) (λ f. test (leb entry 64) (λ f.
+      branch P (eqb entry 0) (λ f. none) (λ f. test (leb entry DESCRIPTORS) (λ f.
       test (ltb r (v Regions)) (λ g. branch P (eqb r (regionOf u)) (λ h.
       test (isAnchor a) (λ i. branch P (eqb (anchorOf a .state) EMPTY) (λ j. none) (λ j.
-      test (ltb c 16) (λ k. branch P (isFirst c u)
-      (λ l. marked-fit u c (omega (arith, ltb-true (regionOf u) (v Regions) e, T .regions)) (ltb-true c 16 k))
+      test (ltb c CLASSES) (λ k. branch P (isFirst c u)
+      (λ l. marked-fit u c (omega (arith, ltb-true (regionOf u) (v Regions) e, T .regions)) (ltb-true c CLASSES k))
       (λ l. none))))) (λ h. none))))) (λ e. none))
 
 -- ---- the bytes
@@ -115,12 +116,12 @@ module _ {t u : ℕ} (other : u ≢ t) where
   writes-keep [] own v = refl
   writes-keep ((f := x) ∷ ws) own v = writes-keep ws (own .1) (assign (f := x) v) ∙ write-keeps f x (own .0) v
 
-  module _ (area : ℕ) (b : List ℕ) (bytes : Bytes b) (task-is : u < 8) where
+  module _ (area : ℕ) (b : List ℕ) (bytes : Bytes b) (task-is : u < TASKS) where
     -- the outcome x leaves the place of u
     abbrev Stays : Outcome → Type 0
     Stays x = seen (changed (x .writes) b) (TaskPlace u) ≡ seen b (TaskPlace u)
 
-    stays : (x : Outcome) → length b ≡ 8192 → Fit t x → Stays x
+    stays : (x : Outcome) → length b ≡ CONTROL-BYTES → Fit t x → Stays x
     stays x l f = seen-changed (x .writes) b (TaskPlace u) l (f .sound) (omega (arith, task-is)) ∙ writes-keep (x .writes) (f .own) (seen b)
 
     tested-stays : (x : Outcome) → (Tested (length b) area (seen b) t → Fit t x) → Stays (Calls.tested (length b) area (seen b) t x)

@@ -1,6 +1,5 @@
 -- Every write of a step of a free that is no list move is to a field of the layout, its value fits there, and it is to no
 -- other task's place, whatever the two memories hold.
--- Assumes nothing.
 use Prim.Native.Nat.{ℕ, _+_, _-_, _%_, _≤_, _<_}
 use mathlib.Core.Path.{_≡_}
 use mathlib.Core.Bool.{true, _&&_}
@@ -9,6 +8,7 @@ use native.Mathlib.Omega.{arith}
 use native.Mathlib.Nat.{div-le-self}
 use borrow.Author.Tests.{leb-true, ltb-true}
 use lib.Dec.{eqb, leb, ltb}
+use Rattle.limits.specs.Limits.{REGIONS, REGION-UNITS, TASKS, CLASSES, DESCRIPTORS, MOST-BLOCKS}
 use Rattle.fields.specs.Columns.{View, _:=_, Sound}
 use Rattle.words.specs.Anchor.{FULL, isState, anchorOf, anchorWord, returned}
 use Rattle.words.proofs.Anchors.{anchor-below, returned-fits}
@@ -27,7 +27,7 @@ use Rattle.agreement.proofs.SoundMoves as Moves
 use Rattle.agreement.proofs.SoundMoves.{Fit, test}
 use Rattle.agreement.proofs.SoundAllocate.{block-max, top-max}
 
-module _ (v : View) (fits : Fitting v) (link : ℕ → ℕ) {regions t c : ℕ} (few : regions ≤ 16) (task : t < 8) (class : c < 16) where
+module _ (v : View) (fits : Fitting v) (link : ℕ → ℕ) {regions t c : ℕ} (few : regions ≤ REGIONS) (task : t < TASKS) (class : c < CLASSES) where
   abbrev n : ℕ
   n = perRegion c
 
@@ -53,8 +53,8 @@ module _ (v : View) (fits : Fitting v) (link : ℕ → ℕ) {regions t c : ℕ} 
       (λ i. record { sound = omega (arith, task); own = omega arith }))
 
   -- a block's index in its region
-  index-max : (u : ℕ) → indexOf c u < 512
-  index-max u = omega (arith, div-le-self (u % 512) (units c))
+  index-max : (u : ℕ) → indexOf c u < MOST-BLOCKS
+  index-max u = omega (arith, div-le-self (u % REGION-UNITS) (units c))
 
   f2-first : (k u : ℕ) → k ≤ n → isBlock regions c u ≡ true → Fit t (Free.f2First v link regions t c k u)
   unfolding Free.f2First
@@ -118,10 +118,10 @@ module _ (v : View) (fits : Fitting v) (link : ℕ → ℕ) {regions t c : ℕ} 
       let g = v (GroupCount t) in
       let entry = v (Map r) in
       let word = v (Anchor (entry - 1)) in
-      test (ltb r regions && oneTo n g) (λ h. test (oneTo 64 entry) (λ i.
+      test (ltb r regions && oneTo n g) (λ h. test (oneTo DESCRIPTORS entry) (λ i.
       test (isAnchor word && hasRoom n g word) (λ j.
-      let l = leb-true entry 64 (right-true (leb 1 entry) (leb entry 64) i) in
-      let m = leb-true 1 entry (left-true (leb 1 entry) (leb entry 64) i) in
+      let l = leb-true entry DESCRIPTORS (right-true (leb 1 entry) (leb entry DESCRIPTORS) i) in
+      let m = leb-true 1 entry (left-true (leb 1 entry) (leb entry DESCRIPTORS) i) in
       record { sound = omega (arith, task, l, m, fits (Anchor (entry - 1)) (omega (arith, l, m))); own = omega arith })))
 
   pub f3-link : Fit t (Free.f3Link v link regions t c)
@@ -154,7 +154,7 @@ module _ (v : View) (fits : Fitting v) (link : ℕ → ℕ) {regions t c : ℕ} 
       let first = v (GroupFirst t) in
       let g = v (GroupCount t) in
       let a = anchorOf word in
-      let b = ltb d 64 in
+      let b = ltb d DESCRIPTORS in
       let f = ltb first n in
       let o = oneTo n g in
       let i = isAnchor word in
@@ -166,7 +166,7 @@ module _ (v : View) (fits : Fitting v) (link : ℕ → ℕ) {regions t c : ℕ} 
       let q = both b f (left-true (b && f) o (left-true (b && f && o) i (p .0))) in
       let m = state-max word (right-true (b && f && o) i (p .0)) in
       let s : Sound layout (Anchor d := anchorWord (returned a first g n) ∷ TaskState t := a .state ∷ []) =
-      omega (arith, task, ltb-true d 64 (q .0), returned-below word first g (ltb-true first n (q .1)) (p .1)) in
+      omega (arith, task, ltb-true d DESCRIPTORS (q .0), returned-below word first g (ltb-true first n (q .1)) (p .1)) in
       branch (Fit t) (eqb (a .count + g) n) (λ k. record { sound = (omega (arith, task), s); own = omega (arith, m) })
       (λ k. Moves.f5 v fits few task class (a .state) _ _ (record { sound = s; own = omega (arith, m) })))
       (λ e. record { sound = omega (arith, task); own = omega arith })))

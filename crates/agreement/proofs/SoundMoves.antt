@@ -1,6 +1,5 @@
 -- Every write of a list move is to a field of the layout, its value fits there, and it is to no other task's place, whatever the
 -- two memories hold.
--- Assumes nothing.
 use Prim.Native.Nat.{ℕ, _+_, _-_, _≤_, _<_}
 use mathlib.Core.Path.{_≡_, refl}
 use mathlib.Core.Bool.{Bool, true, cond, _&&_}
@@ -8,6 +7,7 @@ use mathlib.Core.List.{List, [], _∷_}
 use native.Mathlib.Omega.{arith}
 use borrow.Author.Tests.{leb-true, ltb-true}
 use lib.Dec.{eqb, leb, ltb}
+use Rattle.limits.specs.Limits.{REGIONS, TASKS, CLASSES, DESCRIPTORS, LISTS}
 use Rattle.fields.specs.Columns.{View, Write, _:=_, Sound}
 use Rattle.words.specs.Head.{itemOf}
 use Rattle.words.specs.Anchor.{FULL, isState}
@@ -15,6 +15,7 @@ use Rattle.words.proofs.Heads.{advancedWord-below}
 use Rattle.classes.specs.Classes.{perRegion}
 use Rattle.plain.specs.Moves.{Decided}
 use Rattle.control.specs.Layout.{layout, Head, TaskHead, TaskPlace, TaskNext, TaskState, CacheCount}
+use Rattle.control.specs.Places.{POP-REGION, PUSH-OFFER}
 use Rattle.control.specs.declared.moves.Pop.{Pop}
 use Rattle.control.specs.declared.moves.Pop.the-variants.{Partial, Spare, Region}
 use Rattle.control.specs.declared.moves.Push.{Push}
@@ -57,7 +58,7 @@ none = record { sound = tt; own = tt }
 pub test : {t : ℕ} (b : Bool) {x : Outcome} → (b ≡ true → Fit t x) → Fit t (cond b x bad)
 test {t} b h = branch (Fit t) b h (λ e. none)
 
-module _ (v : View) (fits : Fitting v) {regions t c : ℕ} (few : regions ≤ 16) (task : t < 8) (class : c < 16) where
+module _ (v : View) (fits : Fitting v) {regions t c : ℕ} (few : regions ≤ REGIONS) (task : t < TASKS) (class : c < CLASSES) where
   -- ---- the end of a free's return
 
   pub f6 : (e : Decided) (ws : List Write) → Written t ws → Fit t (Lists.f6 v regions t c e ws)
@@ -74,17 +75,17 @@ module _ (v : View) (fits : Fitting v) {regions t c : ℕ} (few : regions ≤ 16
 
   -- ---- pops
 
-  pop-place : (p : Pop) → popPlace p ≤ 8
+  pop-place : (p : Pop) → popPlace p ≤ POP-REGION
   pop-place Partial = omega arith
   pop-place Spare = omega arith
   pop-place Region = omega arith
 
-  pop-list : (p : Pop) → popList p c < 18
+  pop-list : (p : Pop) → popList p c < LISTS
   pop-list Partial = omega (arith, class)
   pop-list Spare = omega arith
   pop-list Region = omega arith
 
-  pop-items : (p : Pop) → popItems p regions ≤ 64
+  pop-items : (p : Pop) → popItems p regions ≤ DESCRIPTORS
   pop-items Partial = omega arith
   pop-items Spare = omega arith
   pop-items Region = omega (arith, few)
@@ -136,19 +137,19 @@ module _ (v : View) (fits : Fitting v) {regions t c : ℕ} (few : regions ≤ 16
 
   -- ---- pushes
 
-  push-place : (p : Push) → pushPlace p ≤ 20
+  push-place : (p : Push) → pushPlace p ≤ PUSH-OFFER
   push-place Retire = omega arith
   push-place Back = omega arith
   push-place Release = omega arith
   push-place Offer = omega arith
 
-  push-list : (p : Push) → pushList p c < 18
+  push-list : (p : Push) → pushList p c < LISTS
   push-list Retire = omega arith
   push-list Back = omega arith
   push-list Release = omega arith
   push-list Offer = omega (arith, class)
 
-  push-items : (p : Push) → pushItems p regions ≤ 64
+  push-items : (p : Push) → pushItems p regions ≤ DESCRIPTORS
   push-items Retire = omega arith
   push-items Back = omega arith
   push-items Release = omega (arith, few)

@@ -1,15 +1,16 @@
 -- Every write of a step is to a field of the layout, its value fits there, and it is to no other task's place, whatever the two
 -- memories hold: one pass over the step list.
--- Assumes nothing.
 use Prim.Native.Nat.{ℕ, zero, suc, _≤_, _<_}
 use mathlib.Core.List.{List, [], _∷_}
 use native.Mathlib.Omega.{arith}
 use borrow.Author.Tests.{ltb-true}
 use lib.Dec.{ltb}
 use lib.ListN.{getD}
+use Rattle.limits.specs.Limits.{REGIONS, TASKS, CLASSES}
 use Rattle.fields.specs.Columns.{View}
 use Rattle.control.specs.Layout.{Regions}
 use Rattle.control.specs.Layout.{TaskPlace, TaskClass}
+use Rattle.control.specs.Places.{IDLE}
 use Rattle.control.specs.declared.moves.Pop.{Pop}
 use Rattle.control.specs.declared.moves.Pop.the-variants.{Partial, Spare, Region}
 use Rattle.control.specs.declared.moves.Push.{Push}
@@ -25,7 +26,7 @@ use Rattle.agreement.proofs.SoundAllocate as Allocate
 use Rattle.agreement.proofs.SoundFree as Free
 use Rattle.stepped.specs.Calls.{Tested}
 
-module _ (v : View) (fits : Fitting v) (link : ℕ → ℕ) {regions t c : ℕ} (few : regions ≤ 16) (task : t < 8) (class : c < 16) where
+module _ (v : View) (fits : Fitting v) (link : ℕ → ℕ) {regions t c : ℕ} (few : regions ≤ REGIONS) (task : t < TASKS) (class : c < CLASSES) where
   -- each outcome of a list is sound
   data Each : List Outcome → Type 0 where
     end : Each []
@@ -90,7 +91,7 @@ module _ {control area : ℕ} {v : View} (fits : Fitting v) (link : ℕ → ℕ)
   pub step-fit : Fit t (Steps.step v link (v Regions) t)
   unfolding Steps.step
   step-fit =
-      let task : t < 8 = omega (arith, T .below, T .tasks) in
-      branch (Fit t) (ltb 0 (v (TaskPlace t))) (λ e. branch (Fit t) (ltb (v (TaskClass t)) 16)
-      (λ f. step-at v fits link (T .regions) task (ltb-true (v (TaskClass t)) 16 f) (v (TaskPlace t)))
+      let task : t < TASKS = omega (arith, T .below, T .tasks) in
+      branch (Fit t) (ltb IDLE (v (TaskPlace t))) (λ e. branch (Fit t) (ltb (v (TaskClass t)) CLASSES)
+      (λ f. step-at v fits link (T .regions) task (ltb-true (v (TaskClass t)) CLASSES f) (v (TaskPlace t)))
       (λ f. none)) (λ e. none)

@@ -1,5 +1,4 @@
 -- A start, in both pools: on any bytes, at any time.
--- Assumes nothing.
 use mathlib.Core.Path.{_≡_, refl, sym, subst, _∙_}
 use mathlib.Core.Bool.{cond}
 use mathlib.Core.List.{List, _++_}
@@ -8,6 +7,7 @@ use native.Mathlib.Omega.{arith}
 use native.Mathlib.Decide.{ℕ-discrete, decLt, decLe}
 use borrow.Author.Tests.{eq-eqb, ne-eqb, le-leb, lt-leb}
 use lib.ListN.{length, replicate, length-replicate}
+use Rattle.limits.specs.Limits.{CONTROL-BYTES, REGIONS, REGION-BYTES, AREA-BYTES, UNITS, TASKS, DESCRIPTORS}
 use Rattle.rows.specs.Branch.{if}
 use Rattle.rows.proofs.Branch.{if-yes}
 use Rattle.fields.specs.Columns.{Field, at, width, Has, Sound}
@@ -28,12 +28,13 @@ use Rattle.stepped.specs.Calls as Stepped
 use Rattle.stepped.specs.Outcome.{Memories}
 use Rattle.agreement.specs.Events.{ran, startOn}
 use Rattle.agreement.proofs.Images.{assigned-same, getLE-zeros, zeros, fill-sound, append-sound}
-use Rattle.agreement.proofs.Starts.{zeroed, startView, start-view, at-tasks, at-regions, next-max, start-related}
+use Rattle.agreement.proofs.Starts.{CACHES, zeroed, startView, start-view, at-tasks, at-regions, next-max}
+use Rattle.agreement.proofs.Starts.{start-related}
 use Rattle.agreement.proofs.Views.{views-related}
 use Rattle.agreement.specs.Tied.{Tied}
 use Rattle.agreement.proofs.Simulation.{Alike, stays}
 
-module _ (tasks regions : ℕ) (few : tasks ≤ 8) (small : regions ≤ 16) where
+module _ (tasks regions : ℕ) (few : tasks ≤ TASKS) (small : regions ≤ REGIONS) where
   -- each write is to a field of the layout, and its value fits
   start-sound : Sound layout (startWrites tasks regions)
   unfolding startWrites
@@ -45,11 +46,11 @@ module _ (tasks regions : ℕ) (few : tasks ≤ 8) (small : regions ≤ 16) wher
         omega arith,
         (
           omega arith,
-          append-sound (fill DescriptorNext (nextUp 64) 64) (fill RegionNext (nextUp regions) regions ++ fill Top (λ i. 8192) 128)
-              (fill-sound descriptorNexts (nextUp 64) 64 64 256 (λ i x l k. omega arith) (λ i l. omega (arith, next-max 64 i l)) (omega arith))
-              (append-sound (fill RegionNext (nextUp regions) regions) (fill Top (λ i. 8192) 128)
-              (fill-sound regionNexts (nextUp regions) regions 16 256 (λ i x l k. omega arith) (λ i l. omega (arith, next-max regions i l)) small)
-              (fill-sound cacheTops (λ i. 8192) 128 128 65536 (λ i x l k. omega arith) (λ i l. omega arith) (omega arith))),
+          append-sound (fill DescriptorNext (nextUp DESCRIPTORS) DESCRIPTORS) (fill RegionNext (nextUp regions) regions ++ fill Top (λ i. UNITS) CACHES)
+              (fill-sound descriptorNexts (nextUp DESCRIPTORS) DESCRIPTORS DESCRIPTORS 256 (λ i x l k. omega arith) (λ i l. omega (arith, next-max DESCRIPTORS i l)) (omega arith))
+              (append-sound (fill RegionNext (nextUp regions) regions) (fill Top (λ i. UNITS) CACHES)
+              (fill-sound regionNexts (nextUp regions) regions REGIONS 256 (λ i x l k. omega arith) (λ i l. omega (arith, next-max regions i l)) small)
+              (fill-sound cacheTops (λ i. UNITS) CACHES CACHES 65536 (λ i x l k. omega arith) (λ i l. omega arith) (omega arith))),
         ),
       ),
     ),
@@ -59,12 +60,12 @@ module _ (tasks regions : ℕ) (few : tasks ≤ 8) (small : regions ≤ 16) wher
   pub image-view : (g : Field) → Has layout g → seen (startImage tasks regions) g ≡ startView tasks regions g
   unfolding startImage
   image-view g h =
-      seen-changed (startWrites tasks regions) (replicate 8192 0) g (length-replicate {A = ℕ} 8192 0) start-sound h
-      ∙ assigned-same (startWrites tasks regions) (seen (replicate 8192 0)) zeroed g (getLE-zeros 8192 (at layout g) (width layout g))
+      seen-changed (startWrites tasks regions) (replicate CONTROL-BYTES 0) g (length-replicate {A = ℕ} CONTROL-BYTES 0) start-sound h
+      ∙ assigned-same (startWrites tasks regions) (seen (replicate CONTROL-BYTES 0)) zeroed g (getLE-zeros CONTROL-BYTES (at layout g) (width layout g))
       ∙ start-view tasks regions g
 
   -- the image and any area of the length are related to the plain pool after a start
-  started : (area : List ℕ) → length area ≡ 4096 * regions → 1 ≤ regions → (s : Pool)
+  started : (area : List ℕ) → length area ≡ REGION-BYTES * regions → 1 ≤ regions → (s : Pool)
       → s ≡ record { tasks = tasks; regions = regions; mem = Plain.startMem regions } → Good s
       → Tied (record { control = startImage tasks regions; area = area }) s
   unfolding startImage
@@ -72,8 +73,8 @@ module _ (tasks regions : ℕ) (few : tasks ≤ 8) (small : regions ≤ 16) wher
       let G : Good (record { tasks = tasks; regions = regions; mem = Plain.startMem regions }) = subst Good i g in
       subst (λ (z : Pool). Tied (record { control = startImage tasks regions; area = area }) z) (sym i)
       (record {
-        length = length-written layout (startWrites tasks regions) (replicate 8192 0) ∙ length-replicate {A = ℕ} 8192 0;
-        bytes = bytes-written layout (startWrites tasks regions) (replicate 8192 0) (λ k. rw (zeros 8192 k) (omega arith));
+        length = length-written layout (startWrites tasks regions) (replicate CONTROL-BYTES 0) ∙ length-replicate {A = ℕ} CONTROL-BYTES 0;
+        bytes = bytes-written layout (startWrites tasks regions) (replicate CONTROL-BYTES 0) (λ k. rw (zeros CONTROL-BYTES k) (omega arith));
         tasks = image-view Tasks (omega arith) ∙ at-tasks tasks regions;
         good = G;
         some = λ k. some;
@@ -91,60 +92,60 @@ module _ {s₁ : Memories} {s : Pool} (S : Tied s₁ s) (control : ℕ) (area : 
 
   -- ---- tests 3, 2 and 1
 
-  test-three : Plain.Area bytes → (d : Dec (Plain.Tasks tasks)) → (Plain.Tasks tasks → Good (new tasks (bytes / 4096)))
+  test-three : Plain.Area bytes → (d : Dec (Plain.Tasks tasks)) → (Plain.Tasks tasks → Good (new tasks (bytes / REGION-BYTES)))
       → Alike (λ z. Unit {0})
-      (ran (cond (oneTo 8 tasks)
-      (record { answer = Accepted; decided = nothing; control = startImage tasks (bytes / 4096); area = area })
+      (ran (cond (oneTo TASKS tasks)
+      (record { answer = Accepted; decided = nothing; control = startImage tasks (bytes / REGION-BYTES); area = area })
       (effect (refuse 3) (s₁ .control) (s₁ .area))))
-      (if d (new tasks (bytes / 4096), going nothing) (Plain.refuse 3 s))
+      (if d (new tasks (bytes / REGION-BYTES), going nothing) (Plain.refuse 3 s))
   test-three a (yes t) g =
-      rw (le-leb 1 tasks (t .0), le-leb tasks 8 (t .1))
+      rw (le-leb 1 tasks (t .0), le-leb tasks TASKS (t .1))
       (record {
         says = refl;
         shows = tt;
-        tied = started tasks (bytes / 4096) (t .1) (omega (arith, a)) area (omega (arith, a)) (omega (arith, a)) (new tasks (bytes / 4096)) refl (g t);
+        tied = started tasks (bytes / REGION-BYTES) (t .1) (omega (arith, a)) area (omega (arith, a)) (omega (arith, a)) (new tasks (bytes / REGION-BYTES)) refl (g t);
       })
   test-three a (no t) g = elim (decLe 1 tasks) [
-    | yes l ↦ rw (le-leb 1 tasks l, lt-leb tasks 8 (let k : ¬ (tasks ≤ 8) = λ k. t (l, k) in omega arith)) (stays S (λ z. Unit {0}) tt 3)
+    | yes l ↦ rw (le-leb 1 tasks l, lt-leb tasks TASKS (let k : ¬ (tasks ≤ TASKS) = λ k. t (l, k) in omega arith)) (stays S (λ z. Unit {0}) tt 3)
     | no l ↦ rw (lt-leb 1 tasks (omega arith)) (stays S (λ z. Unit {0}) tt 3)
   ]
 
-  test-two : (d : Dec (Plain.Area bytes)) → (Plain.Area bytes → Plain.Tasks tasks → Good (new tasks (bytes / 4096)))
-      → Alike (λ z. Unit {0}) (ran (Stepped.startIn 8192 area tasks (s₁ .control) (s₁ .area)))
-      (if d (if (Plain.tasks? tasks) (new tasks (bytes / 4096), going nothing) (Plain.refuse 3 s)) (Plain.refuse 2 s))
+  test-two : (d : Dec (Plain.Area bytes)) → (Plain.Area bytes → Plain.Tasks tasks → Good (new tasks (bytes / REGION-BYTES)))
+      → Alike (λ z. Unit {0}) (ran (Stepped.startIn CONTROL-BYTES area tasks (s₁ .control) (s₁ .area)))
+      (if d (if (Plain.tasks? tasks) (new tasks (bytes / REGION-BYTES), going nothing) (Plain.refuse 3 s)) (Plain.refuse 2 s))
   unfolding Stepped.startIn
   test-two (yes a) g =
-      rw (eq-eqb (bytes % 4096) 0 (a .0), le-leb 1 bytes (a .1 .0), le-leb bytes 65536 (a .1 .1)) (test-three a (Plain.tasks? tasks) (g a))
-  test-two (no a) g = elim (ℕ-discrete (bytes % 4096) 0) [
-    | no l ↦ rw (ne-eqb (bytes % 4096) 0 l) (stays S (λ z. Unit {0}) tt 2)
+      rw (eq-eqb (bytes % REGION-BYTES) 0 (a .0), le-leb 1 bytes (a .1 .0), le-leb bytes AREA-BYTES (a .1 .1)) (test-three a (Plain.tasks? tasks) (g a))
+  test-two (no a) g = elim (ℕ-discrete (bytes % REGION-BYTES) 0) [
+    | no l ↦ rw (ne-eqb (bytes % REGION-BYTES) 0 l) (stays S (λ z. Unit {0}) tt 2)
     | yes e ↦ elim (decLt 0 bytes) [
-      | no l ↦ rw (eq-eqb (bytes % 4096) 0 e, lt-leb 1 bytes (omega arith)) (stays S (λ z. Unit {0}) tt 2)
-      | yes l ↦ rw (eq-eqb (bytes % 4096) 0 e, le-leb 1 bytes l, lt-leb bytes 65536 (let k : ¬ (bytes ≤ 65536) = λ k. a (e, (l, k)) in omega arith)) (stays S (λ z. Unit {0}) tt 2)
+      | no l ↦ rw (eq-eqb (bytes % REGION-BYTES) 0 e, lt-leb 1 bytes (omega arith)) (stays S (λ z. Unit {0}) tt 2)
+      | yes l ↦ rw (eq-eqb (bytes % REGION-BYTES) 0 e, le-leb 1 bytes l, lt-leb bytes AREA-BYTES (let k : ¬ (bytes ≤ AREA-BYTES) = λ k. a (e, (l, k)) in omega arith)) (stays S (λ z. Unit {0}) tt 2)
     ]
   ]
 
-  pub start-alike : (d : Dec (control ≡ 8192)) → (Plain.Area bytes → Plain.Tasks tasks → Good (new tasks (bytes / 4096)))
+  pub start-alike : (d : Dec (control ≡ CONTROL-BYTES)) → (Plain.Area bytes → Plain.Tasks tasks → Good (new tasks (bytes / REGION-BYTES)))
       → Alike (λ z. Unit {0}) (startOn control area tasks s₁)
       (if d
-      (if (Plain.area? bytes) (if (Plain.tasks? tasks) (new tasks (bytes / 4096), going nothing) (Plain.refuse 3 s)) (Plain.refuse 2 s))
+      (if (Plain.area? bytes) (if (Plain.tasks? tasks) (new tasks (bytes / REGION-BYTES), going nothing) (Plain.refuse 3 s)) (Plain.refuse 2 s))
       (Plain.refuse 1 s))
   unfolding Stepped.startIn
   start-alike (yes e) g = rw e (test-two (Plain.area? bytes) g)
-  start-alike (no e) g = rw (ne-eqb control 8192 e) (stays S (λ z. Unit {0}) tt 1)
+  start-alike (no e) g = rw (ne-eqb control CONTROL-BYTES e) (stays S (λ z. Unit {0}) tt 1)
 
 -- an accepted start, whatever was before: the control memory may have looked like a started pool, or have held anything
 pub accepted-start : (s₁ : Memories) (s : Pool) (area : List ℕ) (tasks : ℕ) → Plain.Area (length area) → Plain.Tasks tasks
-    → Alike (λ z. Unit {0}) (startOn 8192 area tasks s₁) (Plain.startCall 8192 (length area) tasks s)
+    → Alike (λ z. Unit {0}) (startOn CONTROL-BYTES area tasks s₁) (Plain.startCall CONTROL-BYTES (length area) tasks s)
 unfolding Stepped.startIn
 accepted-start s₁ s area tasks a t =
-    let regions = length area / 4096 in
+    let regions = length area / REGION-BYTES in
     rw (
-      eq-eqb (length area % 4096) 0 (a .0),
+      eq-eqb (length area % REGION-BYTES) 0 (a .0),
       le-leb 1 (length area) (a .1 .0),
-      le-leb (length area) 65536 (a .1 .1),
+      le-leb (length area) AREA-BYTES (a .1 .1),
       le-leb 1 tasks (t .0),
-      le-leb tasks 8 (t .1),
-      if-yes (ℕ-discrete 8192 8192) (if (Plain.area? (length area)) (if (Plain.tasks? tasks) (new tasks regions, going nothing) (Plain.refuse 3 s)) (Plain.refuse 2 s)) (Plain.refuse 1 s) refl,
+      le-leb tasks TASKS (t .1),
+      if-yes (ℕ-discrete CONTROL-BYTES CONTROL-BYTES) (if (Plain.area? (length area)) (if (Plain.tasks? tasks) (new tasks regions, going nothing) (Plain.refuse 3 s)) (Plain.refuse 2 s)) (Plain.refuse 1 s) refl,
       if-yes (Plain.area? (length area)) (if (Plain.tasks? tasks) (new tasks regions, going nothing) (Plain.refuse 3 s)) (Plain.refuse 2 s) a,
       if-yes (Plain.tasks? tasks) (new tasks regions, going nothing) (Plain.refuse 3 s) t,
     )

@@ -9,13 +9,13 @@ use native.Mathlib.Decide.{decLt, ℕ-discrete}
 use borrow.Author.Tests.{eq-eqb, ne-eqb}
 use lib.Dec.{eqb}
 use lib.ListN.{length}
+use Rattle.limits.specs.Limits.{REGIONS, REGION-BYTES, UNITS, TASKS, CLASSES, DESCRIPTORS, SPARE-DESCRIPTORS, SPARE-REGIONS}
 use Rattle.rows.specs.Branch.{if}
 use Rattle.rows.specs.Linked.{Linked, ends, links}
 use Rattle.rows.proofs.Branch.{if-yes}
 use Rattle.fields.specs.Columns.{Column, Field, View, _:=_, assigned}
 use Rattle.words.specs.Head.{itemOf, tagOf}
 use Rattle.words.specs.Mark.{bitAt}
-use Rattle.plain.specs.State.{SPARES, REGIONS}
 use Rattle.plain.specs.Steps.{top}
 use Rattle.plain.specs.Calls.{rising, startMem}
 use Rattle.control.specs.Layout.{field, Head, Tasks, Regions, DescriptorNext, RegionNext, Top, TaskState}
@@ -25,6 +25,10 @@ use Rattle.agreement.specs.Memory.{memoryOf}
 use Rattle.agreement.specs.Relation.{Related, r-idle}
 use Rattle.agreement.proofs.Images.{assigned-append, filled, other-fill}
 
+-- how many caches there are
+abbrev pub CACHES : ℕ
+CACHES = TASKS * CLASSES
+
 -- the view of a memory of zeros
 abbrev pub zeroed : View
 zeroed g = 0
@@ -32,31 +36,32 @@ zeroed g = 0
 module _ (tasks regions : ℕ) where
   -- the fields after a start, in the order of the writes
   abbrev first : View
-  first = assigned (Tasks := tasks ∷ Regions := regions ∷ Head SPARES := 1 ∷ Head REGIONS := 1 ∷ []) zeroed
+  first = assigned (Tasks := tasks ∷ Regions := regions ∷ Head SPARE-DESCRIPTORS := 1 ∷ Head SPARE-REGIONS := 1 ∷ []) zeroed
 
   abbrev second : View
-  second = assigned (fill DescriptorNext (nextUp 64) 64) first
+  second = assigned (fill DescriptorNext (nextUp DESCRIPTORS) DESCRIPTORS) first
 
   abbrev third : View
   third = assigned (fill RegionNext (nextUp regions) regions) second
 
   abbrev pub startView : View
-  startView = assigned (fill Top (λ i. 8192) 128) third
+  startView = assigned (fill Top (λ i. UNITS) CACHES) third
 
   -- these are all its writes
   pub start-view : (g : Field) → assigned (startWrites tasks regions) zeroed g ≡ startView g
   unfolding startWrites
   start-view g =
-      assigned-append (fill DescriptorNext (nextUp 64) 64) (fill RegionNext (nextUp regions) regions ++ fill Top (λ i. 8192) 128) first g
-      ∙ assigned-append (fill RegionNext (nextUp regions) regions) (fill Top (λ i. 8192) 128) second g
+      assigned-append (fill DescriptorNext (nextUp DESCRIPTORS) DESCRIPTORS)
+      (fill RegionNext (nextUp regions) regions ++ fill Top (λ i. UNITS) CACHES) first g
+      ∙ assigned-append (fill RegionNext (nextUp regions) regions) (fill Top (λ i. UNITS) CACHES) second g
 
   -- a column that is not filled
   unfilled : (e : Column) (j : ℕ) → eqb (Layout.cacheTops .start) (e .start) ≡ false
       → eqb (Layout.regionNexts .start) (e .start) ≡ false → eqb (Layout.descriptorNexts .start) (e .start) ≡ false
       → startView (field e j) ≡ first (field e j)
   unfilled e j p q r =
-      other-fill Layout.cacheTops (λ i. 8192) 128 third e j p ∙ other-fill Layout.regionNexts (nextUp regions) regions second e j q
-      ∙ other-fill Layout.descriptorNexts (nextUp 64) 64 first e j r
+      other-fill Layout.cacheTops (λ i. UNITS) CACHES third e j p ∙ other-fill Layout.regionNexts (nextUp regions) regions second e j q
+      ∙ other-fill Layout.descriptorNexts (nextUp DESCRIPTORS) DESCRIPTORS first e j r
 
   -- ---- the columns
 
@@ -69,21 +74,21 @@ module _ (tasks regions : ℕ) where
   pub at-state : (t : ℕ) → startView (TaskState t) ≡ 0
   at-state t = unfilled Layout.taskStates t refl refl refl
 
-  at-head : (ℓ : ℕ) → startView (Head ℓ) ≡ cond (eqb 17 ℓ) 1 (cond (eqb 16 ℓ) 1 0)
+  at-head : (ℓ : ℕ) → startView (Head ℓ) ≡ cond (eqb SPARE-REGIONS ℓ) 1 (cond (eqb SPARE-DESCRIPTORS ℓ) 1 0)
   at-head ℓ = unfilled Layout.heads ℓ refl refl refl
 
-  at-next : (d : ℕ) → d < 64 → startView (DescriptorNext d) ≡ nextUp 64 d
+  at-next : (d : ℕ) → d < DESCRIPTORS → startView (DescriptorNext d) ≡ nextUp DESCRIPTORS d
   at-next d l =
-      other-fill Layout.cacheTops (λ i. 8192) 128 third Layout.descriptorNexts d refl
+      other-fill Layout.cacheTops (λ i. UNITS) CACHES third Layout.descriptorNexts d refl
       ∙ other-fill Layout.regionNexts (nextUp regions) regions second Layout.descriptorNexts d refl
-      ∙ filled Layout.descriptorNexts (nextUp 64) 64 first d l
+      ∙ filled Layout.descriptorNexts (nextUp DESCRIPTORS) DESCRIPTORS first d l
 
   at-region-next : (r : ℕ) → r < regions → startView (RegionNext r) ≡ nextUp regions r
   at-region-next r l =
-      other-fill Layout.cacheTops (λ i. 8192) 128 third Layout.regionNexts r refl ∙ filled Layout.regionNexts (nextUp regions) regions second r l
+      other-fill Layout.cacheTops (λ i. UNITS) CACHES third Layout.regionNexts r refl ∙ filled Layout.regionNexts (nextUp regions) regions second r l
 
-  at-top : (i : ℕ) → i < 128 → startView (Top i) ≡ 8192
-  at-top i l = filled Layout.cacheTops (λ i. 8192) 128 third i l
+  at-top : (i : ℕ) → i < CACHES → startView (Top i) ≡ UNITS
+  at-top i l = filled Layout.cacheTops (λ i. UNITS) CACHES third i l
 
 -- ---- the lists
 
@@ -111,24 +116,24 @@ module _ (tasks regions : ℕ) (few : 1 ≤ regions) where
   abbrev v : View
   v = startView tasks regions
 
-  row : (ℓ : ℕ) → ℓ < 17 → (d : Dec (ℓ ≡ 16)) (e : Dec (ℓ ≡ 17))
-      → Linked (λ (x : ℕ). v (DescriptorNext x)) suc 0 (itemOf (v (Head ℓ))) (if d (rising 64 0) (if e (rising regions 0) []))
+  row : (ℓ : ℕ) → ℓ < SPARE-REGIONS → (d : Dec (ℓ ≡ SPARE-DESCRIPTORS)) (e : Dec (ℓ ≡ SPARE-REGIONS))
+      → Linked (λ (x : ℕ). v (DescriptorNext x)) suc 0 (itemOf (v (Head ℓ))) (if d (rising DESCRIPTORS 0) (if e (rising regions 0) []))
   row ℓ l (yes d) e =
-      let one : v (Head ℓ) ≡ 1 = at-head tasks regions ℓ ∙ rw (ne-eqb 17 ℓ (omega arith), eq-eqb 16 ℓ (sym d)) in
-      rises (λ (x : ℕ). v (DescriptorNext x)) 64 64 0 (at-next tasks regions) refl (itemOf (v (Head ℓ)))
-      (ap itemOf one ∙ top-rising 64 (omega arith))
+      let one : v (Head ℓ) ≡ 1 = at-head tasks regions ℓ ∙ rw (ne-eqb SPARE-REGIONS ℓ (omega arith), eq-eqb SPARE-DESCRIPTORS ℓ (sym d)) in
+      rises (λ (x : ℕ). v (DescriptorNext x)) DESCRIPTORS DESCRIPTORS 0 (at-next tasks regions) refl (itemOf (v (Head ℓ)))
+      (ap itemOf one ∙ top-rising DESCRIPTORS (omega arith))
   row ℓ l (no d) (yes e) = absurd (omega arith)
   row ℓ l (no d) (no e) =
-      let none : v (Head ℓ) ≡ 0 = at-head tasks regions ℓ ∙ rw (ne-eqb 17 ℓ (omega arith), ne-eqb 16 ℓ (λ i. d (sym i))) in
+      let none : v (Head ℓ) ≡ 0 = at-head tasks regions ℓ ∙ rw (ne-eqb SPARE-REGIONS ℓ (omega arith), ne-eqb SPARE-DESCRIPTORS ℓ (λ i. d (sym i))) in
       ends (ap itemOf none)
 
-  spare : (d : Dec (_≡_ {A = ℕ} 17 16)) (e : Dec (_≡_ {A = ℕ} 17 17))
-      → Linked (λ (x : ℕ). v (RegionNext x)) suc 0 (itemOf (v (Head REGIONS))) (if d (rising 64 0) (if e (rising regions 0) []))
+  spare : (d : Dec (_≡_ {A = ℕ} SPARE-REGIONS SPARE-DESCRIPTORS)) (e : Dec (_≡_ {A = ℕ} SPARE-REGIONS SPARE-REGIONS))
+      → Linked (λ (x : ℕ). v (RegionNext x)) suc 0 (itemOf (v (Head SPARE-REGIONS))) (if d (rising DESCRIPTORS 0) (if e (rising regions 0) []))
   spare (yes d) e = absurd (omega arith)
   spare (no d) (no e) = absurd (e refl)
   spare (no d) (yes e) =
-      rises (λ (x : ℕ). v (RegionNext x)) regions regions 0 (at-region-next tasks regions) (omega arith) (itemOf (v (Head REGIONS)))
-      (ap itemOf (at-head tasks regions 17) ∙ top-rising regions few)
+      rises (λ (x : ℕ). v (RegionNext x)) regions regions 0 (at-region-next tasks regions) (omega arith) (itemOf (v (Head SPARE-REGIONS)))
+      (ap itemOf (at-head tasks regions SPARE-REGIONS) ∙ top-rising regions few)
 
   tags : (ℓ : ℕ) (b c : Bool) → tagOf (cond b 1 (cond c 1 0)) ≡ 0
   tags ℓ true c = refl
@@ -136,15 +141,15 @@ module _ (tasks regions : ℕ) (few : 1 ≤ regions) where
   tags ℓ false false = refl
 
   -- the relation between the control memory that a start leaves, with any area of the length, and the plain pool after a start
-  pub start-related : (area : List ℕ) → length area ≡ 4096 * regions → regions ≤ 16 → Related regions (memoryOf v area) (startMem regions)
+  pub start-related : (area : List ℕ) → length area ≡ REGION-BYTES * regions → regions ≤ REGIONS → Related regions (memoryOf v area) (startMem regions)
   unfolding startMem
   start-related area e h = record {
     core = record {
       lists = record {
-        tags = λ ℓ l. ap tagOf (at-head tasks regions ℓ) ∙ tags ℓ (eqb 17 ℓ) (eqb 16 ℓ);
-        rows = λ ℓ l. row ℓ l (ℕ-discrete ℓ 16) (ℕ-discrete ℓ 17);
-        spareRow = spare (ℕ-discrete 17 16) (ℕ-discrete 17 17);
-        descriptorNexts = λ d l. rw (at-next tasks regions d l) (next-max 64 d l);
+        tags = λ ℓ l. ap tagOf (at-head tasks regions ℓ) ∙ tags ℓ (eqb SPARE-REGIONS ℓ) (eqb SPARE-DESCRIPTORS ℓ);
+        rows = λ ℓ l. row ℓ l (ℕ-discrete ℓ SPARE-DESCRIPTORS) (ℕ-discrete ℓ SPARE-REGIONS);
+        spareRow = spare (ℕ-discrete SPARE-REGIONS SPARE-DESCRIPTORS) (ℕ-discrete SPARE-REGIONS SPARE-REGIONS);
+        descriptorNexts = λ d l. rw (at-next tasks regions d l) (next-max DESCRIPTORS d l);
         regionNexts = λ r l. rw (at-region-next tasks regions r l) (next-max regions r l);
       };
       descriptors = record {
@@ -169,8 +174,8 @@ module _ (tasks regions : ℕ) (few : 1 ≤ regions) where
       fits = rw (unfilled tasks regions Layout.taskClasses t refl refl refl) (omega arith);
       place = r-idle (unfilled tasks regions Layout.taskPlaces t refl refl refl);
       caches = record {
-        tops = λ c i. ends (if-yes (decLt c 16) _ _ i ∙ at-top tasks regions (16 * t + c) (omega arith));
-        counts = λ c i. if-yes (decLt c 16) _ _ i ∙ unfilled tasks regions Layout.cacheCounts (16 * t + c) refl refl refl;
+        tops = λ c i. ends (if-yes (decLt c CLASSES) _ _ i ∙ at-top tasks regions (Layout.CacheTop t c .index) (omega arith));
+        counts = λ c i. if-yes (decLt c CLASSES) _ _ i ∙ unfilled tasks regions Layout.cacheCounts (Layout.CacheCount t c .index) refl refl refl;
       };
     };
   }

@@ -1,5 +1,4 @@
 -- How each step of the step list ends: the steps that are no list moves, and one pass over the list.
--- Assumes nothing.
 use Prim.Native.Nat.{ℕ, zero, suc, _+_, _-_, _≤_, _<_}
 use mathlib.Core.Path.{_≡_, refl}
 use mathlib.Core.Bool.{_&&_}
@@ -7,6 +6,7 @@ use mathlib.Core.List.{List, [], _∷_}
 use native.Mathlib.Omega.{arith}
 use lib.Dec.{eqb, leb, ltb}
 use lib.ListN.{getD}
+use Rattle.limits.specs.Limits.{CLASSES, DESCRIPTORS}
 use Rattle.fields.specs.Columns.{View, _:=_}
 use Rattle.words.specs.Anchor.{EMPTY, anchorOf, anchorWord, returned}
 use Rattle.classes.specs.Classes.{perRegion}
@@ -16,6 +16,7 @@ use Rattle.control.specs.Layout.{Anchor, TaskAnchor, CacheTop, CacheCount, Task
 use Rattle.control.specs.Layout.{GroupLast, GroupCount}
 use Rattle.control.specs.Layout.{TaskPlace, TaskClass, TaskDescriptor, TaskRegion, TaskState, DescriptorRegion, Map}
 use Rattle.control.specs.Layout.{Regions}
+use Rattle.control.specs.Places.{A1, A3-READ, A3-EXCHANGE, A4, A8, F2, F3-READ, F3-LINK, F3-EXCHANGE, F4-CLEAR}
 use Rattle.control.specs.declared.moves.Pop.the-variants.{Partial, Spare, Region}
 use Rattle.control.specs.declared.moves.Push.the-variants.{Retire, Back, Release, Offer}
 use Rattle.stepped.specs.Outcome.{Outcome, bad}
@@ -27,7 +28,7 @@ use Rattle.stepped.specs.Steps as Steps
 use Rattle.agreement.proofs.Ways.{PlaceEnding, wrong, either, test, to, stay, finish}
 use Rattle.agreement.proofs.MoveWays.{pop-read, pop-next, pop-exchange, push-read, push-next, push-exchange, f5}
 
-module _ (v : View) (link : ℕ → ℕ) (t : ℕ) (fits : v (TaskClass t) < 16) where
+module _ (v : View) (link : ℕ → ℕ) (t : ℕ) (fits : v (TaskClass t) < CLASSES) where
   abbrev c : ℕ
   c = v (TaskClass t)
 
@@ -52,19 +53,19 @@ module _ (v : View) (link : ℕ → ℕ) (t : ℕ) (fits : v (TaskClass t) < 16)
   a3-read =
       let d = v (TaskDescriptor t) in
       let word = v (Anchor d) in
-      test (ltb d 64) (test (isAnchor word)
+      test (ltb d DESCRIPTORS) (test (isAnchor word)
       (either (eqb (anchorOf word .state) EMPTY) (to (pushPlace Retire) (omega arith) (λ u. refl))
-      (test (hasChain (perRegion c) word) (to 24 (omega arith) (λ u. refl)))))
+      (test (hasChain (perRegion c) word) (to A3-EXCHANGE (omega arith) (λ u. refl)))))
 
   a3-exchange : End (Allocate.a3Exchange v link regions t c)
   unfolding Allocate.a3Exchange Allocate.a3ExchangeOf
   a3-exchange =
       let d = v (TaskDescriptor t) in
       let word = v (TaskAnchor t) in
-      test (ltb d 64 && hasChain (perRegion c) word) (test (isAnchor (v (Anchor d)))
+      test (ltb d DESCRIPTORS && hasChain (perRegion c) word) (test (isAnchor (v (Anchor d)))
       (either (eqb (v (Anchor d)) word)
-      (test (ltb (v (DescriptorRegion d)) regions) (to 25 (omega arith) (λ u. refl)))
-      (to 23 (omega arith) (λ u. refl))))
+      (test (ltb (v (DescriptorRegion d)) regions) (to A4 (omega arith) (λ u. refl)))
+      (to A3-READ (omega arith) (λ u. refl))))
 
   a4 : End (Allocate.a4 v link regions t c)
   unfolding Allocate.a4 Allocate.a4Move
@@ -75,11 +76,11 @@ module _ (v : View) (link : ℕ → ℕ) (t : ℕ) (fits : v (TaskClass t) < 16)
       let k = v (CacheCount t c) in
       let n = perRegion c in
       test (ltb r regions && ltb i n && oneTo n left && ltb k n && isTop regions c k (v (CacheTop t c)))
-      (either (eqb left 1) (to 1 (omega arith) (λ u. refl)) (test (ltb (link (unitOf r c i)) n) (stay (λ u. refl))))
+      (either (eqb left 1) (to A1 (omega arith) (λ u. refl)) (test (ltb (link (unitOf r c i)) n) (stay (λ u. refl))))
 
   a7 : End (Allocate.a7 v link regions t c)
   unfolding Allocate.a7
-  a7 = test (ltb (v (TaskDescriptor t)) 64 && ltb (v (TaskRegion t)) regions) (to 27 (omega arith) (λ u. refl))
+  a7 = test (ltb (v (TaskDescriptor t)) DESCRIPTORS && ltb (v (TaskRegion t)) regions) (to A8 (omega arith) (λ u. refl))
 
   a8 : End (Allocate.a8 v link regions t c)
   unfolding Allocate.a8 Allocate.a8Put
@@ -88,7 +89,7 @@ module _ (v : View) (link : ℕ → ℕ) (t : ℕ) (fits : v (TaskClass t) < 16)
       let k = v (CacheCount t c) in
       let n = perRegion c in
       test (ltb (v (TaskRegion t)) regions && ltb i n && ltb k n && isTop regions c k (v (CacheTop t c)))
-      (either (eqb (i + 1) n) (to 1 (omega arith) (λ u. refl)) (stay (λ u. refl)))
+      (either (eqb (i + 1) n) (to A1 (omega arith) (λ u. refl)) (stay (λ u. refl)))
 
   -- ---- free
 
@@ -100,7 +101,7 @@ module _ (v : View) (link : ℕ → ℕ) (t : ℕ) (fits : v (TaskClass t) < 16)
       test (leb k n)
       (either (ltb k n)
       (test (isBlock regions c (v (TaskUnit t)) && isTop regions c k (v (CacheTop t c))) (finish tt (λ u. refl)))
-      (to 29 (omega arith) (λ u. refl)))
+      (to F2 (omega arith) (λ u. refl)))
 
   f2 : End (Free.f2 v link regions t c)
   unfolding Free.f2 Free.f2Top Free.f2First Free.f2More
@@ -111,7 +112,7 @@ module _ (v : View) (link : ℕ → ℕ) (t : ℕ) (fits : v (TaskClass t) < 16)
       let r = v (TaskRegion t) in
       let n = perRegion c in
       let below = isTop regions c (k - 1) (link u) in
-      let close = to 30 (omega arith) (λ u. refl) in
+      let close = to F3-READ (omega arith) (λ u. refl) in
       test (leb k n && leb g n) (either (eqb k 0) close
       (test (isBlock regions c u) (either (eqb g 0) (test below (stay (λ u. refl)))
       (test (ltb r regions) (either (eqb (regionOf u) r)
@@ -124,8 +125,8 @@ module _ (v : View) (link : ℕ → ℕ) (t : ℕ) (fits : v (TaskClass t) < 16)
       let r = v (TaskRegion t) in
       let g = v (GroupCount t) in
       let word = v (Anchor (v (Map r) - 1)) in
-      test (ltb r regions && oneTo (perRegion c) g) (test (oneTo 64 (v (Map r)))
-      (test (isAnchor word && hasRoom (perRegion c) g word) (to 31 (omega arith) (λ u. refl))))
+      test (ltb r regions && oneTo (perRegion c) g) (test (oneTo DESCRIPTORS (v (Map r)))
+      (test (isAnchor word && hasRoom (perRegion c) g word) (to F3-LINK (omega arith) (λ u. refl))))
 
   f3-link : End (Free.f3Link v link regions t c)
   unfolding Free.f3Link
@@ -133,7 +134,7 @@ module _ (v : View) (link : ℕ → ℕ) (t : ℕ) (fits : v (TaskClass t) < 16)
       let n = perRegion c in
       let word = v (TaskAnchor t) in
       test (ltb (v (TaskRegion t)) regions && ltb (v (GroupLast t)) n && isAnchor word && hasFirst n word)
-      (to 32 (omega arith) (λ u. refl))
+      (to F3-EXCHANGE (omega arith) (λ u. refl))
 
   f3-exchange : End (Free.f3Exchange v link regions t c)
   unfolding Free.f3Exchange Free.f3ExchangeOf Free.f3Won
@@ -145,10 +146,10 @@ module _ (v : View) (link : ℕ → ℕ) (t : ℕ) (fits : v (TaskClass t) < 16)
       let n = perRegion c in
       let a = anchorOf word in
       let ws = Anchor d := anchorWord (returned a first g n) ∷ TaskState t := a .state ∷ [] in
-      test (ltb d 64 && ltb first n && oneTo n g && isAnchor word && hasRoom n g word) (test (isAnchor (v (Anchor d)))
+      test (ltb d DESCRIPTORS && ltb first n && oneTo n g && isAnchor word && hasRoom n g word) (test (isAnchor (v (Anchor d)))
       (either (eqb (v (Anchor d)) word)
-      (either (eqb (a .count + g) n) (to 33 (omega arith) (λ u. refl)) (f5 v t fits (a .state) (gave d) ws (λ u. refl)))
-      (to 30 (omega arith) (λ u. refl))))
+      (either (eqb (a .count + g) n) (to F4-CLEAR (omega arith) (λ u. refl)) (f5 v t fits (a .state) (gave d) ws (λ u. refl)))
+      (to F3-READ (omega arith) (λ u. refl))))
 
   f4-clear : End (Free.f4Clear v link regions t c)
   unfolding Free.f4Clear

@@ -1,17 +1,18 @@
 -- One step of one task, in both pools, wherever it is in the step list.
--- Assumes nothing.
 use mathlib.Core.Path.{_≡_, refl}
 use mathlib.Core.List.{List}
 use Prim.Native.Nat.{ℕ, _≤_, _<_}
 use native.Mathlib.Omega.{arith}
 use borrow.Author.Tests.{lt-ltb, ltb-false}
 use lib.Dec.{ltb}
+use Rattle.limits.specs.Limits.{REGIONS, TASKS, CLASSES}
 use Rattle.fields.specs.Columns.{View}
 use Rattle.links.specs.Link.{link}
 use Rattle.plain.specs.State.{EMPTY, Place, Mem}
 use Rattle.plain.specs.Steps as Steps
 use Rattle.plain.specs.Invariant.{Invariant}
 use Rattle.control.specs.Layout.{TaskPlace, TaskClass}
+use Rattle.control.specs.Places.{IDLE}
 use Rattle.control.specs.declared.moves.Pop.the-variants.{Partial, Spare, Region}
 use Rattle.control.specs.declared.moves.Push.the-variants.{Retire, Back, Release, Offer}
 use Rattle.stepped.specs.Outcome.{refuse}
@@ -62,14 +63,14 @@ module _ {regions : ℕ} {v : View} {area : List ℕ} {m : Mem} {t : ℕ} {k : �
   by-place w (r-f3-exchange e G N l i) n = rw e (f3-exchange-both w G N l i)
   by-place w (r-f4-clear e i) n = rw e (f4-clear-both w i)
 
--- at place 0 the list of steps has test 7
-idle-step : {regions : ℕ} {v : View} {area : List ℕ} {m : Mem} (t n : ℕ) {y : Steps.Result} → n ≡ 0
+-- at the idle place the list of steps has test 7
+idle-step : {regions : ℕ} {v : View} {area : List ℕ} {m : Mem} (t n : ℕ) {y : Steps.Result} → n ≡ IDLE
     → Both regions v area m (Stepped.stepAt v (link area) regions t (v (TaskClass t)) n) y → Both regions v area m (refuse 7) y
 unfolding Stepped.stepAt
 idle-step t n e h = rw e at h
 
 -- one step: test 7, the class, and the step at the place
-pub step-both : {regions : ℕ} {v : View} {area : List ℕ} {m : Mem} (t : ℕ) → t < 8 → regions ≤ 16 → Fitting v
+pub step-both : {regions : ℕ} {v : View} {area : List ℕ} {m : Mem} (t : ℕ) → t < TASKS → regions ≤ REGIONS → Fitting v
     → Related regions (memoryOf v area) m → Invariant regions m → Events.Near m (m .task t .place)
     → Both regions v area m (Stepped.step v (link area) regions t) (Steps.step t m)
 unfolding Stepped.step Steps.step
@@ -77,6 +78,6 @@ step-both {regions} {v} {area} {m} t l small F R I near =
     let w : At regions v area m t (m .task t .place) (m .task t .cache) =
     record { pair = record { rel = R; turn = record { inv = I; fits = l; is = refl }; small = small }; fitting = F } in
     let B = by-place w (R .slots t l .place) near in
-    choose (ltb 0 (v (TaskPlace t)))
-    (λ e. pass (ltb (v (TaskClass t)) 16) (lt-ltb (v (TaskClass t)) 16 (R .slots t l .fits)) B)
-    (λ e. idle-step t (v (TaskPlace t)) (omega (arith, ltb-false 0 (v (TaskPlace t)) e)) B)
+    choose (ltb IDLE (v (TaskPlace t)))
+    (λ e. pass (ltb (v (TaskClass t)) CLASSES) (lt-ltb (v (TaskClass t)) CLASSES (R .slots t l .fits)) B)
+    (λ e. idle-step t (v (TaskPlace t)) (omega (arith, ltb-false IDLE (v (TaskPlace t)) e)) B)

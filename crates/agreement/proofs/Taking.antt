@@ -1,5 +1,4 @@
 -- Step 1 of allocate, in both pools.
--- Assumes nothing.
 use mathlib.Core.Path.{_≡_, refl, sym, ap, subst}
 use mathlib.Core.Bool.{_&&_}
 use mathlib.Core.List.{List, [], _∷_}
@@ -8,6 +7,7 @@ use native.Mathlib.Omega.{arith}
 use borrow.Author.Tests.{eq-eqb, ne-eqb, le-leb}
 use lib.Dec.{eqb, leb}
 use lib.ListN.{length}
+use Rattle.limits.specs.Limits.{UNITS}
 use Rattle.rows.specs.Counting.{count}
 use Rattle.rows.specs.Linked.{Linked}
 use Rattle.rows.specs.Update.{update}
@@ -23,6 +23,7 @@ use Rattle.plain.specs.Moves.{nothing}
 use Rattle.plain.specs.Steps as Steps
 use Rattle.plain.proofs.Places.{taskOf, lengths}
 use Rattle.control.specs.Layout.{TaskPlace, TaskClass, CacheTop, CacheCount, Marks}
+use Rattle.control.specs.Places.{IDLE, POP-PARTIAL}
 use Rattle.control.specs.declared.answer.Answer.the-variants.{Allocated}
 use Rattle.stepped.specs.Outcome.{close}
 use Rattle.stepped.specs.Ranges
@@ -56,33 +57,33 @@ module _ {regions : ℕ} {v : View} {area : List ℕ} {m : Mem} {t : ℕ} {k : �
       let u = v (CacheTop t c) in
       let b = link area u in
       let n = v (CacheCount t c) in
-      let lk : Linked (link area) (λ u. u) 8192 u (x ∷ q) =
-      subst (Linked (link area) (λ u. u) 8192 u) e
-      (subst (λ (z : ℕ). Linked (link area) (λ u. u) 8192 z (k c)) (cache-top w) (mine (w .pair) .caches .tops c l)) in
+      let lk : Linked (link area) (λ u. u) UNITS u (x ∷ q) =
+      subst (Linked (link area) (λ u. u) UNITS u) e
+      (subst (λ (z : ℕ). Linked (link area) (λ u. u) UNITS z (k c)) (cache-top w) (mine (w .pair) .caches .tops c l)) in
       let i : u ≡ x = first-of lk in
-      let below : Linked (link area) (λ u. u) 8192 b q =
-      subst (λ (z : ℕ). Linked (link area) (λ u. u) 8192 (link area z) q) (sym i) (rest-of lk) in
+      let below : Linked (link area) (λ u. u) UNITS b q =
+      subst (λ (z : ℕ). Linked (link area) (λ u. u) UNITS (link area z) q) (sym i) (rest-of lk) in
       let n′ : n - 1 ≡ length q = omega (arith, cache-count w, ap length e) in
       let sub : (y : ℕ) → count y q ≤ count y (k c) = λ y. omega (arith, ap (count y) e) in
       let in-cache : 1 ≤ count u (k c) = omega (arith, ap (count u) e, ap (one u) i, when-same u 1) in
-      let low : u < 8192 = omega (arith, w .pair .small, home-below (w .pair) (cached-home (w .pair) c u in-cache)) in
+      let low : u < UNITS = omega (arith, w .pair .small, home-below (w .pair) (cached-home (w .pair) c u in-cache)) in
       let word = v (Marks (u / 64)) in
       pass (Ranges.isBlock regions c u && isTop regions c (n - 1) b)
       (both-true (cached-unit (w .pair) c u in-cache) (rw n′ (below-tested (w .pair) c b q sub below)))
       (subst (λ (z : ℕ). Both regions v area m
       (close (Allocated u) nothing
-      (TaskPlace t := 0 ∷ CacheTop t c := b ∷ CacheCount t c := (n - 1) ∷ Marks (u / 64) := withSet word (u % 64) ∷ []) [])
+      (TaskPlace t := IDLE ∷ CacheTop t c := b ∷ CacheCount t c := (n - 1) ∷ Marks (u / 64) := withSet word (u % 64) ∷ []) [])
       (Steps.a1Step t k c (z ∷ q) m)) i
       (record {
         says = refl;
         keeps = (refl, refl);
         rel = subst (λ (z : Memory). Related regions z (Steps.cached t k c q idle (setHands u 1 m)))
-            (sym (cache-becomes v (assigned (TaskPlace t := 0 ∷ Marks (u / 64) := withSet word (u % 64) ∷ []) v)
-            area t c b (n - 1) (toPlace 0 (slotOf v t)) (setMark u 1 (memoryOf v area)) l
-            (mark-set-written v (slotOf (assigned (TaskPlace t := 0 ∷ []) v)) area u) refl
+            (sym (cache-becomes v (assigned (TaskPlace t := IDLE ∷ Marks (u / 64) := withSet word (u % 64) ∷ []) v)
+            area t c b (n - 1) (toPlace IDLE (slotOf v t)) (setMark u 1 (memoryOf v area)) l
+            (mark-set-written v (slotOf (assigned (TaskPlace t := IDLE ∷ []) v)) area u) refl
             (rw (eq-eqb t t refl)) (λ j d. rw (ne-eqb t j d))))
-            (marking (w .pair) u 1 (toCache c b (n - 1) (toPlace 0 (slotOf v t))) (taskOf idle (update k c q))
-            (re-cache (w .pair) _ _ (toCache c b (n - 1) (toPlace 0 (slotOf v t))) idle c b (n - 1) q (λ e l y h. refl)
+            (marking (w .pair) u 1 (toCache c b (n - 1) (toPlace IDLE (slotOf v t))) (taskOf idle (update k c q))
+            (re-cache (w .pair) _ _ (toCache c b (n - 1) (toPlace IDLE (slotOf v t))) idle c b (n - 1) q (λ e l y h. refl)
             refl refl below n′ (r-idle refl)));
         sound = omega (
           arith,
@@ -108,7 +109,7 @@ module _ {regions : ℕ} {v : View} {area : List ℕ} {m : Mem} {t : ℕ} {k : �
       (λ e. record {
         says = refl;
         keeps = (refl, refl);
-        rel = goes w (TaskPlace t := 2 ∷ []) (toPlace 2 (slotOf v t)) (popping (partial c) read) refl
+        rel = goes w (TaskPlace t := POP-PARTIAL ∷ []) (toPlace POP-PARTIAL (slotOf v t)) (popping (partial c) read) refl
             (rw (eq-eqb t t refl)) (λ j d. rw (ne-eqb t j d)) refl refl (r-partial (PopRelated.at-read refl));
         sound = omega (arith, w .pair .turn .fits);
         apart = tt;

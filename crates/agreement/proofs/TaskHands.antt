@@ -1,9 +1,9 @@
 -- The fields of a task are in their ranges, by its place.
--- Assumes nothing.
 use Prim.Native.Nat.{ℕ, suc, _+_, _-_, _≤_, _<_}
 use mathlib.Core.Path.{_≡_, refl, ap}
 use mathlib.Core.List.{List, _∷_}
 use native.Mathlib.Omega.{arith}
+use Rattle.limits.specs.Limits.{DESCRIPTORS}
 use Rattle.rows.specs.Counting.{count}
 use Rattle.rows.specs.Weights.{one}
 use Rattle.rows.proofs.Weights.{when-same}
@@ -22,6 +22,7 @@ use Rattle.plain.proofs.Owners.{home-of, owner}
 use Rattle.plain.proofs.Places.{placeHolds}
 use Rattle.control.specs.Layout.{TaskAnchor, TaskIndex, GroupFirst, GroupLast, GroupCount}
 use Rattle.control.specs.Layout.{TaskPlace, TaskClass, TaskDescriptor, TaskRegion, TaskState}
+use Rattle.control.specs.Places.{F3-LINK, F3-EXCHANGE}
 use Rattle.agreement.specs.Memory.{Slot, slotOf, memoryOf}
 use Rattle.agreement.specs.Relation.{PopRelated, PushRelated, NoteRelated, GroupRelated, PlaceRelated}
 use Rattle.agreement.specs.Relation.{r-idle, r-a1, r-partial, r-spare, r-region, r-retire, r-back, r-release}
@@ -74,7 +75,7 @@ module _ (regions : ℕ) (v : View) (area : List ℕ) (m : Mem) (t : ℕ) (k : �
   Turning p = Pair regions (memoryOf v area) m t p k
 
   -- the descriptor and the region in hand
-  descriptor-held : {p : Place} → Turning p → one d d ≤ holdsDescriptor d p → d < 64
+  descriptor-held : {p : Place} → Turning p → one d d ≤ holdsDescriptor d p → d < DESCRIPTORS
   descriptor-held w h = descriptor-in-hand (w .turn) d (omega (arith, when-same d 1))
 
   region-held : {p : Place} → Turning p → one r r ≤ holdsRegion r p → r < regions
@@ -101,7 +102,7 @@ module _ (regions : ℕ) (v : View) (area : List ℕ) (m : Mem) (t : ℕ) (k : �
   }
 
   -- a group that is about to return to the chain of the noted anchor
-  returns : {n : Note} → 31 ≤ v (TaskPlace t) → v (TaskPlace t) ≤ 32 → Grouped → d < 64
+  returns : {n : Note} → F3-LINK ≤ v (TaskPlace t) → v (TaskPlace t) ≤ F3-EXCHANGE → Grouped → d < DESCRIPTORS
       → NoteRelated m c d n (anchorOf (v (TaskAnchor t)))
       → v (GroupCount t) + anchorOf (v (TaskAnchor t)) .count ≤ perRegion c → Numbers
   returns i j F f N l = let a = note-in N in (omega arith, omega arith)

@@ -1,5 +1,4 @@
 -- What a task noted of a list is in its range, by its place.
--- Assumes nothing.
 use Prim.Native.Nat.{ℕ, _+_, _≤_, _<_}
 use mathlib.Core.Path.{_≡_, sym, subst, _∙_}
 use mathlib.Core.Bool.{cond}
@@ -11,6 +10,8 @@ use Rattle.fields.specs.Columns.{View}
 use Rattle.words.specs.Head.{itemOf}
 use Rattle.plain.specs.State.{Phase, Place, Mem}
 use Rattle.control.specs.Layout.{TaskHead, TaskPlace, TaskNext}
+use Rattle.control.specs.Places.{POP-PARTIAL, POP-SPARE, POP-REGION, PUSH-RETIRE, PUSH-BACK, PUSH-RELEASE, PUSH-OFFER}
+use Rattle.control.specs.Places.{A3-READ}
 use Rattle.control.specs.declared.moves.Pop.{Pop}
 use Rattle.control.specs.declared.moves.Pop.the-variants.{Partial, Spare, Region}
 use Rattle.control.specs.declared.moves.Push.{Push}
@@ -33,12 +34,12 @@ record Span (b q : ℕ) : Type 0 where
   to : q ≤ b + 2
 
 -- the pops come first, then the pushes
-pop-first : (p : Pop) → (2 ≤ popPlace p) × (popPlace p + 2 < 11)
+pop-first : (p : Pop) → (POP-PARTIAL ≤ popPlace p) × (popPlace p + 2 < PUSH-RETIRE)
 pop-first Partial = omega arith
 pop-first Spare = omega arith
 pop-first Region = omega arith
 
-push-later : (p : Push) → (11 ≤ pushPlace p) × (pushPlace p + 2 < 23)
+push-later : (p : Push) → (PUSH-RETIRE ≤ pushPlace p) × (pushPlace p + 2 < A3-READ)
 push-later Retire = omega arith
 push-later Back = omega arith
 push-later Release = omega arith
@@ -46,21 +47,21 @@ push-later Offer = omega arith
 
 -- the pop and the push that have the place q
 abbrev popAt : ℕ → Pop
-popAt q = cond (ltb q 5) Partial (cond (ltb q 8) Spare Region)
+popAt q = cond (ltb q POP-SPARE) Partial (cond (ltb q POP-REGION) Spare Region)
 
 abbrev pushAt : ℕ → Push
-pushAt q = cond (ltb q 14) Retire (cond (ltb q 17) Back (cond (ltb q 20) Release Offer))
+pushAt q = cond (ltb q PUSH-BACK) Retire (cond (ltb q PUSH-RELEASE) Back (cond (ltb q PUSH-OFFER) Release Offer))
 
 pop-at : (p : Pop) (q : ℕ) → Span (popPlace p) q → popAt q ≡ p
-pop-at Partial q h = rw (lt-ltb q 5 (omega arith))
-pop-at Spare q h = rw (le-ltb q 5 (omega arith), lt-ltb q 8 (omega arith))
-pop-at Region q h = rw (le-ltb q 5 (omega arith), le-ltb q 8 (omega arith))
+pop-at Partial q h = rw (lt-ltb q POP-SPARE (omega arith))
+pop-at Spare q h = rw (le-ltb q POP-SPARE (omega arith), lt-ltb q POP-REGION (omega arith))
+pop-at Region q h = rw (le-ltb q POP-SPARE (omega arith), le-ltb q POP-REGION (omega arith))
 
 push-at : (p : Push) (q : ℕ) → Span (pushPlace p) q → pushAt q ≡ p
-push-at Retire q h = rw (lt-ltb q 14 (omega arith))
-push-at Back q h = rw (le-ltb q 14 (omega arith), lt-ltb q 17 (omega arith))
-push-at Release q h = rw (le-ltb q 14 (omega arith), le-ltb q 17 (omega arith), lt-ltb q 20 (omega arith))
-push-at Offer q h = rw (le-ltb q 14 (omega arith), le-ltb q 17 (omega arith), le-ltb q 20 (omega arith))
+push-at Retire q h = rw (lt-ltb q PUSH-BACK (omega arith))
+push-at Back q h = rw (le-ltb q PUSH-BACK (omega arith), lt-ltb q PUSH-RELEASE (omega arith))
+push-at Release q h = rw (le-ltb q PUSH-BACK (omega arith), le-ltb q PUSH-RELEASE (omega arith), lt-ltb q PUSH-OFFER (omega arith))
+push-at Offer q h = rw (le-ltb q PUSH-BACK (omega arith), le-ltb q PUSH-RELEASE (omega arith), le-ltb q PUSH-OFFER (omega arith))
 
 -- ---- what one move noted
 
@@ -90,7 +91,7 @@ module _ (regions : ℕ) (v : View) (area : List ℕ) (m : Mem) (t : ℕ) where
   Lists = TaskLists regions v t
 
   -- no move is under way
-  none : (2 ≤ q → q < 23 → ⊥) → Lists
+  none : (POP-PARTIAL ≤ q → q < A3-READ → ⊥) → Lists
   none h = record {
     pop-head = λ p i j. absurd (h (omega (arith, pop-first p)) (omega (arith, pop-first p)));
     pop-next = λ p i j. absurd (h (omega (arith, pop-first p)) (omega (arith, pop-first p)));

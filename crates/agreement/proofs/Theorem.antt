@@ -1,10 +1,11 @@
 -- The agreement of the stepped run with the whole run, over every list of events.
-use mathlib.Core.Path.{_≡_, sym, subst}
+use mathlib.Core.Path.{sym, subst}
 use mathlib.Core.Logic.{_≢_}
 use mathlib.Core.List.{List, _∷_}
 use Prim.Native.Nat.{ℕ}
 use native.Mathlib.Omega.{arith}
 use lib.ListN.{length}
+use Rattle.limits.specs.Limits.{CONTROL-BYTES}
 use Rattle.links.specs.Link.{link}
 use Rattle.plain.specs.Moves.{Answer}
 use Rattle.plain.specs.Calls.{Pool, unstarted}
@@ -79,10 +80,10 @@ agreement es s₁ U p = along AgreesAt reached-agrees (from-unstarted U) es p
 -- The same from an accepted start on any memories and in any pool, the start itself with it: the control memory before it may look
 -- like a started pool, or hold anything.
 pub agreement-from-start : (es : List Event) (s₁ : Memories) (s : Pool) (area : List ℕ) (tasks : ℕ) → Plain.Area (length area)
-    → Plain.Tasks tasks → Premises es (whole (start 8192 area tasks) s .0) → Agree (start 8192 area tasks ∷ es) s₁ s
+    → Plain.Tasks tasks → Premises es (whole (start CONTROL-BYTES area tasks) s .0) → Agree (start CONTROL-BYTES area tasks ∷ es) s₁ s
 unfolding Plain.call
 agreement-from-start es s₁ s area tasks a t p =
-    let e = start 8192 area tasks in
+    let e = start CONTROL-BYTES area tasks in
     let A = accepted-start s₁ s area tasks a t in (
       (agrees e s₁ s A, unchanged e s₁, untouched e s₁ s tt),
       along AgreesAt reached-agrees (from-start s₁ s area tasks a t) es p,

@@ -1,11 +1,11 @@
 -- A cache that is not empty: what its two fields say, and that the tests of its top pass.
--- Assumes nothing.
 use mathlib.Core.Path.{_≡_, ap, _∙_}
 use mathlib.Core.Bool.{true}
 use mathlib.Core.List.{List, _∷_}
 use Prim.Native.Nat.{ℕ, suc, _-_, _≤_, _<_}
 use native.Mathlib.Omega.{arith}
 use lib.ListN.{length}
+use Rattle.limits.specs.Limits.{UNITS}
 use Rattle.rows.specs.Counting.{count}
 use Rattle.rows.specs.Linked.{Linked}
 use Rattle.rows.specs.Weights.{one}
@@ -26,14 +26,14 @@ use Rattle.agreement.proofs.Turns.{At, cache-top, cache-count}
 -- the cache of the class c has the row x ∷ q; its fields say the top u and n blocks
 pub record Topped (regions : ℕ) (area : List ℕ) (c u n x : ℕ) (q : List ℕ) : Type 0 where
   pub is : u ≡ x
-  pub linked : Linked (link area) (λ z. z) 8192 (link area u) q
+  pub linked : Linked (link area) (λ z. z) UNITS (link area u) q
   pub counts : n ≡ suc (length q)
   pub rest : n - 1 ≡ length q
   pub block : isBlock regions c u ≡ true
   pub below : isTop regions c (n - 1) (link area u) ≡ true
-  pub unit : u < 8192
+  pub unit : u < UNITS
   pub index : indexOf c u < perRegion c
-  pub link-max : link area u ≤ 8192
+  pub link-max : link area u ≤ UNITS
 
 pub topped : {regions : ℕ} {v : View} {area : List ℕ} {m : Mem} {t : ℕ} {p : Place} {k : ℕ → List ℕ}
     (w : At regions v area m t p k) (x : ℕ) (q : List ℕ) → k (v (TaskClass t)) ≡ x ∷ q
@@ -41,10 +41,10 @@ pub topped : {regions : ℕ} {v : View} {area : List ℕ} {m : Mem} {t : ℕ} {p
 topped {v = v} {area} {t = t} {k = k} w x q f =
     let c = v (TaskClass t) in
     let u = v (CacheTop t c) in
-    let lk : Linked (link area) (λ z. z) 8192 u (x ∷ q) =
+    let lk : Linked (link area) (λ z. z) UNITS u (x ∷ q) =
     rw (← (cache-top w), ← f) (mine (w .pair) .caches .tops c (mine (w .pair) .fits)) in
     let i : u ≡ x = first-of lk in
-    let l : Linked (link area) (λ z. z) 8192 (link area u) q = rw i (rest-of lk) in
+    let l : Linked (link area) (λ z. z) UNITS (link area u) q = rw i (rest-of lk) in
     let n : v (CacheCount t c) ≡ suc (length q) = cache-count w ∙ ap length f in
     let r : v (CacheCount t c) - 1 ≡ length q = omega arith in
     let h : 1 ≤ count u (k c) = omega (arith, ap (count u) f, ap (one u) i, when-same u 1) in

@@ -1,9 +1,9 @@
 -- The top of a linked list, and the exchange of its head.
--- Assumes nothing.
 use mathlib.Core.Path.{_≡_, sym, ap, _∙_}
 use mathlib.Core.List.{List, _∷_}
 use Prim.Native.Nat.{ℕ, suc, pred, _+_, _≤_, _<_}
 use native.Mathlib.Omega.{arith}
+use Rattle.limits.specs.Limits.{TASKS, DESCRIPTORS, TAGS, SPARE-REGIONS}
 use Rattle.words.specs.declared.head.Head.{Head}
 use Rattle.rows.specs.Counting.{count}
 use Rattle.rows.specs.Linked.{Linked, ends, links}
@@ -43,10 +43,10 @@ next-of i (ends e) h l = absurd (omega arith)
 next-of {nx} i (links {u = u} {r = r} e k) h l = let z : pred i ≡ u = omega arith in ap nx z ∙ top-of k
 
 module _ {regions : ℕ} {m : Mem} (I : Invariant regions m) where
-  pub listed : (ℓ : ℕ) → ℓ < 17 → (v : ℕ) → 1 ≤ count v (m .row ℓ) → v < 64
-  listed ℓ l v h = below-is v 64 (omega (arith, I .descriptors v, total-one 17 (rowWeight v) (m .row) ℓ l))
+  pub listed : (ℓ : ℕ) → ℓ < SPARE-REGIONS → (v : ℕ) → 1 ≤ count v (m .row ℓ) → v < DESCRIPTORS
+  listed ℓ l v h = below-is v DESCRIPTORS (omega (arith, I .descriptors v, total-one SPARE-REGIONS (rowWeight v) (m .row) ℓ l))
 
-  pub listed-region : (v : ℕ) → 1 ≤ count v (m .row 17) → v < regions
+  pub listed-region : (v : ℕ) → 1 ≤ count v (m .row SPARE-REGIONS) → v < regions
   listed-region v h = below-is v regions (omega (arith, I .regions v))
 
 -- two heads with the same item and tag
@@ -62,7 +62,7 @@ word-same w x e = (ap (λ (z : ℕ). headOf z .item) e, ap (λ (z : ℕ). headOf
 
 -- the exchange is won in both or in neither
 module _ {m : Mem} {ℓ n : ℕ} {h : Head} (N : Noted m ℓ h n) (g : Head) (tags : g .tag ≡ wrap (m .won ℓ)) where
-  pub won-same : m .won ℓ < n + 4294967296 → SameHead g h → m .won ℓ ≡ n
+  pub won-same : m .won ℓ < n + TAGS → SameHead g h → m .won ℓ ≡ n
   won-same near u = omega (arith, u .1, N .tags, N .past)
 
   pub same-won : g .item ≡ top (m .row ℓ) → m .won ℓ ≡ n → SameHead g h
@@ -76,8 +76,8 @@ pub fresh : {m : Mem} {ℓ : ℕ} (h : Head) → h .tag ≡ wrap (m .won ℓ) �
 fresh h e f = record { past = omega arith; tags = e; same = λ i. f }
 
 -- an item in hand is one of the pool's
-pub descriptor-in-hand : {regions : ℕ} {m : Mem} {t : ℕ} {p : Place} {k : ℕ → List ℕ} → Turn regions m t (taskOf p k) → (x : ℕ) → 1 ≤ holdsDescriptor x p → x < 64
-descriptor-in-hand {m = m} {t = t} w x h = below-is x 64 (omega (arith, w .inv .descriptors x, total-one 8 (descriptorWeight x) (m .task) t (w .fits), ap (descriptorWeight x t) (w .is)))
+pub descriptor-in-hand : {regions : ℕ} {m : Mem} {t : ℕ} {p : Place} {k : ℕ → List ℕ} → Turn regions m t (taskOf p k) → (x : ℕ) → 1 ≤ holdsDescriptor x p → x < DESCRIPTORS
+descriptor-in-hand {m = m} {t = t} w x h = below-is x DESCRIPTORS (omega (arith, w .inv .descriptors x, total-one TASKS (descriptorWeight x) (m .task) t (w .fits), ap (descriptorWeight x t) (w .is)))
 
 pub region-in-hand : {regions : ℕ} {m : Mem} {t : ℕ} {p : Place} {k : ℕ → List ℕ} → Turn regions m t (taskOf p k) → (x : ℕ) → 1 ≤ holdsRegion x p → x < regions
-region-in-hand {regions = regions} {m = m} {t = t} w x h = below-is x regions (omega (arith, w .inv .regions x, total-one 8 (regionWeight x) (m .task) t (w .fits), ap (regionWeight x t) (w .is)))
+region-in-hand {regions = regions} {m = m} {t = t} w x h = below-is x regions (omega (arith, w .inv .regions x, total-one TASKS (regionWeight x) (m .task) t (w .fits), ap (regionWeight x t) (w .is)))

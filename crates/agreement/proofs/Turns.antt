@@ -1,11 +1,11 @@
 -- A task's turn, from the writes of an outcome to the relation after it.
--- Assumes nothing.
 use mathlib.Core.Path.{_≡_, refl, sym, subst, _∙_}
 use mathlib.Core.Logic.{_≢_}
 use mathlib.Core.List.{List}
 use Prim.Native.Nat.{ℕ}
 use native.Mathlib.Decide.{decLt}
 use lib.ListN.{length}
+use Rattle.limits.specs.Limits.{CLASSES}
 use Rattle.rows.proofs.Branch.{if-yes}
 use Rattle.fields.specs.Columns.{View, Write, assigned}
 use Rattle.plain.specs.State.{Place, Mem}
@@ -41,9 +41,9 @@ module _ {regions : ℕ} {v : View} {area : List ℕ} {m : Mem} {t : ℕ} {p : P
 
   -- the top of the cache of the request's class, and how many it has, as the fields say
   pub cache-top : slotOf v t .caches .top (v (TaskClass t)) ≡ v (CacheTop t (v (TaskClass t)))
-  cache-top = if-yes (decLt (v (TaskClass t)) 16) _ _ (mine (w .pair) .fits)
+  cache-top = if-yes (decLt (v (TaskClass t)) CLASSES) _ _ (mine (w .pair) .fits)
 
   pub cache-count : v (CacheCount t (v (TaskClass t))) ≡ length (k (v (TaskClass t)))
   cache-count =
-      sym (if-yes (decLt (v (TaskClass t)) 16) (v (CacheCount t (v (TaskClass t)))) 0 (mine (w .pair) .fits))
+      sym (if-yes (decLt (v (TaskClass t)) CLASSES) (v (CacheCount t (v (TaskClass t)))) 0 (mine (w .pair) .fits))
       ∙ mine (w .pair) .caches .counts (v (TaskClass t)) (mine (w .pair) .fits)

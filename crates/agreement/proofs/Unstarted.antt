@@ -1,5 +1,4 @@
 -- A pool that is not started: the relation holds of any such bytes.
--- Assumes nothing.
 use native.Mathlib.Omega.{arith}
 use Rattle.plain.specs.Calls.{unstarted}
 use Rattle.stepped.specs.Outcome.{Memories}

@@ -1,40 +1,40 @@
 -- The relation speaks of the fields of the layout alone: two views that agree there are related alike.
 use mathlib.Core.Path.{_≡_, refl, sym, subst, fun-ext}
 use mathlib.Core.List.{List}
-use Prim.Native.Nat.{ℕ, _+_, _*_, _/_, _≤_, _<_}
+use Prim.Native.Nat.{ℕ, _/_, _≤_, _<_}
 use native.Mathlib.Omega.{arith}
 use native.Mathlib.Decide.{decLt}
 use lib.ListN.{length}
+use Rattle.limits.specs.Limits.{REGIONS, TASKS, CLASSES, DESCRIPTORS, SPARE-REGIONS, LISTS}
 use Rattle.rows.specs.Branch.{if}
 use Rattle.rows.proofs.Linked.{linked-frame}
-use Rattle.fields.specs.Columns.{Column, Field, View, Has}
+use Rattle.fields.specs.Columns.{Field, View, Has}
 use Rattle.words.specs.Head.{headOf}
 use Rattle.words.specs.Anchor.{anchorOf}
 use Rattle.words.specs.declared.anchor.Anchor.{Anchor}
 use Rattle.links.specs.Link.{link}
-use Rattle.plain.specs.State.{Mem, REGIONS}
+use Rattle.plain.specs.State.{Mem}
 use Rattle.plain.specs.Invariant.{Invariant}
 use Rattle.plain.proofs.Places.{taskOf}
 use Rattle.plain.proofs.Turn.{Turn}
 use Rattle.control.specs.Layout
-use Rattle.control.specs.Layout.{layout, field}
+use Rattle.control.specs.Layout.{layout}
 use Rattle.agreement.specs.Memory.{Slot, byClass, slotOf, memoryOf}
 use Rattle.agreement.specs.Relation.{DescriptorRelated, SlotRelated, Core, Related}
 use Rattle.agreement.proofs.Frames.{Kept, kept-slot}
 use Rattle.agreement.proofs.Tops.{listed, listed-region, descriptor-in-hand, region-in-hand}
 
 module _ {v v′ : View} (same : (g : Field) → Has layout g → v′ g ≡ v g) where
-  -- a column of the caches
-  caches-same : (k : Column) (t : ℕ) → t < 8 → ((i : ℕ) → i < 128 → Has layout (field k i))
-      → byClass (λ (i : ℕ). v′ (field k i)) t ≡ byClass (λ (i : ℕ). v (field k i)) t
-  caches-same k t l has = fun-ext (λ e. go e (decLt e 16))
+  -- a column of the caches: f names a task's field by the class
+  caches-same : (f : ℕ → Field) → ((c : ℕ) → c < CLASSES → Has layout (f c)) → byClass (λ c. v′ (f c)) ≡ byClass (λ c. v (f c))
+  caches-same f has = fun-ext (λ c. go c (decLt c CLASSES))
     where
-      go : (e : ℕ) (p : Dec (e < 16)) → if p (v′ (field k (16 * t + e))) 0 ≡ if p (v (field k (16 * t + e))) 0
-      go e (yes p) = same _ (has (16 * t + e) (omega arith))
-      go e (no p) = refl
+      go : (c : ℕ) (p : Dec (c < CLASSES)) → if p (v′ (f c)) 0 ≡ if p (v (f c)) 0
+      go c (yes p) = same (f c) (has c p)
+      go c (no p) = refl
 
   -- a task's part
-  slots-same : (t : ℕ) → t < 8 → slotOf v′ t ≡ slotOf v t
+  slots-same : (t : ℕ) → t < TASKS → slotOf v′ t ≡ slotOf v t
   slots-same t l = λ i. record {
     place = same (Layout.TaskPlace t) (omega arith) i;
     class = same (Layout.TaskClass t) (omega arith) i;
@@ -57,17 +57,17 @@ module _ {v v′ : View} (same : (g : Field) → Has layout g → v′ g ≡ v g
       count = same (Layout.GroupCount t) (omega arith) i;
     };
     caches = record {
-      top = caches-same Layout.cacheTops t l (λ j h. omega arith) i;
-      count = caches-same Layout.cacheCounts t l (λ j h. omega arith) i;
+      top = caches-same (Layout.CacheTop t) (λ c h. omega arith) i;
+      count = caches-same (Layout.CacheCount t) (λ c h. omega arith) i;
     };
   }
 
-  module _ {regions : ℕ} {m : Mem} (area : List ℕ) (small : regions ≤ 16) (I : Invariant regions m) (R : Related regions (memoryOf v area) m) where
+  module _ {regions : ℕ} {m : Mem} (area : List ℕ) (small : regions ≤ REGIONS) (I : Invariant regions m) (R : Related regions (memoryOf v area) m) where
     -- a head's word, a descriptor's fields, a region's
-    head : (ℓ : ℕ) → ℓ < 18 → v′ (Layout.Head ℓ) ≡ v (Layout.Head ℓ)
+    head : (ℓ : ℕ) → ℓ < LISTS → v′ (Layout.Head ℓ) ≡ v (Layout.Head ℓ)
     head ℓ l = same (Layout.Head ℓ) (omega arith)
 
-    descriptor : (d : ℕ) → d < 64
+    descriptor : (d : ℕ) → d < DESCRIPTORS
         → DescriptorRelated (link area) (anchorOf (v′ (Layout.Anchor d))) (v′ (Layout.DescriptorRegion d)) (v′ (Layout.DescriptorClass d)) (m .descriptor d)
     descriptor d l =
         rw (same (Layout.Anchor d) (omega arith), same (Layout.DescriptorRegion d) (omega arith), same (Layout.DescriptorClass d) (omega arith))
@@ -78,9 +78,9 @@ module _ {v v′ : View} (same : (g : Field) → Has layout g → v′ g ≡ v g
       lists = record {
         tags = λ ℓ l. rw (head ℓ l) (R .core .lists .tags ℓ l);
         rows = λ ℓ l. rw (head ℓ (omega arith))
-            (linked-frame (λ x h. same (Layout.DescriptorNext x) (let k : x < 64 = listed I ℓ l x h in omega arith))
+            (linked-frame (λ x h. same (Layout.DescriptorNext x) (let k : x < DESCRIPTORS = listed I ℓ l x h in omega arith))
             (R .core .lists .rows ℓ l));
-        spareRow = rw (head REGIONS (omega arith))
+        spareRow = rw (head SPARE-REGIONS (omega arith))
             (linked-frame (λ x h. same (Layout.RegionNext x) (let k : x < regions = listed-region I x h in omega arith))
             (R .core .lists .spareRow));
         descriptorNexts = λ d l. rw (same (Layout.DescriptorNext d) (omega arith)) (R .core .lists .descriptorNexts d l);
@@ -100,17 +100,17 @@ module _ {v v′ : View} (same : (g : Field) → Has layout g → v′ g ≡ v g
       length = R .core .length;
     }
 
-    turn : (t : ℕ) → t < 8 → Turn regions m t (taskOf (m .task t .place) (m .task t .cache))
+    turn : (t : ℕ) → t < TASKS → Turn regions m t (taskOf (m .task t .place) (m .task t .cache))
     turn t l = record { inv = I; fits = l; is = refl }
 
     -- a task keeps what it reads of others' columns: the nexts of what it has in hand
-    kept : (t : ℕ) → t < 8 → Kept (memoryOf v area) (memoryOf v′ area) m m (m .task t)
+    kept : (t : ℕ) → t < TASKS → Kept (memoryOf v area) (memoryOf v′ area) m m (m .task t)
     kept t l = record {
       lists = record {
         wins = λ ℓ. omega arith;
         still = λ ℓ e. refl;
         descriptorNexts = λ x h. same (Layout.DescriptorNext x)
-            (let k : x < 64 = descriptor-in-hand (turn t l) x h in omega arith);
+            (let k : x < DESCRIPTORS = descriptor-in-hand (turn t l) x h in omega arith);
         regionNexts = λ x h. same (Layout.RegionNext x)
             (let k : x < regions = region-in-hand (turn t l) x h in omega arith);
       };

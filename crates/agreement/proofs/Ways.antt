@@ -1,5 +1,4 @@
 -- The tests that every call but a start passes first, and the ways in which a step can end, whatever the two memories hold.
--- Assumes nothing.
 use Prim.Native.Nat.{ℕ, _*_}
 use mathlib.Core.Path.{_≡_, refl, sym, subst, _∙_}
 use mathlib.Core.Logic.{_≢_, _⊎_, inr}
@@ -8,10 +7,12 @@ use mathlib.Core.List.{List, [], _∷_, _++_}
 use native.Mathlib.Omega.{arith}
 use borrow.Author.Tests.{eq-eqb, ne-eqb, le-leb, lt-ltb, eqb-true, eqb-false, leb-true, ltb-true}
 use lib.Dec.{eqb, leb, ltb}
+use Rattle.limits.specs.Limits.{CONTROL-BYTES, REGIONS, REGION-BYTES, TASKS}
 use Rattle.fields.specs.Columns.{View, Write, _:=_, assign, assigned}
 use Rattle.links.specs.Link.{LinkWrite}
 use Rattle.plain.specs.Moves.{Decided}
 use Rattle.control.specs.Layout.{TaskPlace, Tasks, Regions}
+use Rattle.control.specs.Places.{IDLE}
 use Rattle.control.specs.declared.answer.Answer.{Answer}
 use Rattle.control.specs.declared.answer.Answer.the-variants.{Accepted, Allocated, Freed, NoDescriptor, NoRegion}
 use Rattle.control.specs.declared.answer.Answer.the-variants.{Refused}
@@ -60,20 +61,20 @@ pub tests : (P : Outcome → Type 0) (control area : ℕ) (v : View) (t : ℕ) (
     → P (Calls.tested control area v t x)
 unfolding Calls.tested
 tests P control area v t x r k =
-    branch P (eqb control 8192) (λ e.
-    branch P (leb (v Tasks) 8) (λ f.
+    branch P (eqb control CONTROL-BYTES) (λ e.
+    branch P (leb (v Tasks) TASKS) (λ f.
     branch P (eqb (v Tasks) 0) (λ g. r 4 refl) (λ g.
-    branch P (oneTo 16 (v Regions)) (λ h.
-    branch P (eqb area (4096 * v Regions)) (λ i.
+    branch P (oneTo REGIONS (v Regions)) (λ h.
+    branch P (eqb area (REGION-BYTES * v Regions)) (λ i.
     branch P (ltb t (v Tasks)) (λ j.
     let z : v Tasks ≢ 0 = eqb-false (v Tasks) 0 g in
     k (record {
-      control-is = eqb-true control 8192 e;
+      control-is = eqb-true control CONTROL-BYTES e;
       started = omega arith;
-      tasks = leb-true (v Tasks) 8 f;
-      some = leb-true 1 (v Regions) (left-true (leb 1 (v Regions)) (leb (v Regions) 16) h);
-      regions = leb-true (v Regions) 16 (right-true (leb 1 (v Regions)) (leb (v Regions) 16) h);
-      area-is = eqb-true area (4096 * v Regions) i;
+      tasks = leb-true (v Tasks) TASKS f;
+      some = leb-true 1 (v Regions) (left-true (leb 1 (v Regions)) (leb (v Regions) REGIONS) h);
+      regions = leb-true (v Regions) REGIONS (right-true (leb 1 (v Regions)) (leb (v Regions) REGIONS) h);
+      area-is = eqb-true area (REGION-BYTES * v Regions) i;
       below = ltb-true t (v Tasks) j;
     })) (λ j. r 5 refl)) (λ i. r 2 refl)) (λ h. r 14 refl))) (λ f. r 14 refl)) (λ e. r 1 refl)
 
@@ -81,12 +82,12 @@ tests P control area v t x r k =
 pub passed : (control area : ℕ) (v : View) (t : ℕ) (x : Outcome) → Tested control area v t → Calls.tested control area v t x ≡ x
 unfolding Calls.tested
 passed control area v t x T = rw (
-  eq-eqb control 8192 (T .control-is),
-  le-leb (v Tasks) 8 (T .tasks),
+  eq-eqb control CONTROL-BYTES (T .control-is),
+  le-leb (v Tasks) TASKS (T .tasks),
   ne-eqb (v Tasks) 0 (omega arith),
   le-leb 1 (v Regions) (T .some),
-  le-leb (v Regions) 16 (T .regions),
-  eq-eqb area (4096 * v Regions) (T .area-is),
+  le-leb (v Regions) REGIONS (T .regions),
+  eq-eqb area (REGION-BYTES * v Regions) (T .area-is),
   lt-ltb t (v Tasks) (T .below),
 )
 
@@ -109,7 +110,7 @@ pub data Ending (ns : List ℕ) (v : View) (t : ℕ) : Outcome → Type 0 where
       → (InPush Back (assigned ws v (TaskPlace t)) → FindsEmpty Region v t ⊎ InPush Back (v (TaskPlace t)))
       → Ending ns v t (accept e ws ls)
   ended : {a : Answer} {e : Decided} {ws : List Write} {ls : List LinkWrite} → Cause v t a
-      → assigned ws v (TaskPlace t) ≡ 0 → Ending ns v t (close a e ws ls)
+      → assigned ws v (TaskPlace t) ≡ IDLE → Ending ns v t (close a e ws ls)
 
 -- writes that leave the place of the task t
 abbrev pub Keeps : ℕ → List Write → Type 0
@@ -156,5 +157,5 @@ module _ {v : View} {t : ℕ} where
 
   -- to idle
   pub finish : {a : Answer} {e : Decided} {ws : List Write} {ls : List LinkWrite} → Cause v t a → Keeps t ws
-      → PlaceEnding v t (close a e (TaskPlace t := 0 ∷ ws) ls)
-  finish {ws = ws} k h = ended k (sent v t 0 ws h)
+      → PlaceEnding v t (close a e (TaskPlace t := IDLE ∷ ws) ls)
+  finish {ws = ws} k h = ended k (sent v t IDLE ws h)

@@ -1,10 +1,10 @@
 -- A task's turn, from the writes of an outcome to the relation after it: its own part with its caches, a link, an
 -- anchor, a map entry.
--- Assumes nothing.
 use mathlib.Core.Path.{_≡_, refl, ap, _∙_}
 use mathlib.Core.Logic.{_≢_}
 use mathlib.Core.List.{List}
 use Prim.Native.Nat.{ℕ, _≤_, _<_}
+use Rattle.limits.specs.Limits.{CLASSES, DESCRIPTORS, MOST-BLOCKS}
 use Rattle.fields.specs.Columns.{View}
 use Rattle.links.specs.Link.{link, withLink}
 use Rattle.words.specs.Anchor.{anchorOf}
@@ -31,7 +31,7 @@ pub record Writes (v v′ : View) (area : List ℕ) (t : ℕ) (s : Slot) (b : Me
   pub others : (j : ℕ) → t ≢ j → slotOf v′ j ≡ slotOf v j
 
 -- so they are with a cache's two fields
-pub with-cache : {v : View} (v′ : View) {area : List ℕ} {t : ℕ} {s : Slot} {b : Memory} (c u n : ℕ) → c < 16
+pub with-cache : {v : View} (v′ : View) {area : List ℕ} {t : ℕ} {s : Slot} {b : Memory} (c u n : ℕ) → c < CLASSES
     → Writes v v′ area t s b → Writes v (withCache t c u n v′) area t (toCache c u n s) b
 with-cache v′ {t = t} c u n l h = record {
   shared = ap (withSlots (slotOf (withCache t c u n v′))) (h .shared);
@@ -60,9 +60,9 @@ module _ {regions : ℕ} {v : View} {area : List ℕ} {m : Mem} {t : ℕ} {p : P
   -- and an anchor
   pub anchor-exchanged : (d word : ℕ) (E : Descriptor)
       → Writes v v′ area t s (setAnchor d (anchorOf word) (memoryOf v area))
-      → d < 64 → anchorOf word .state ≡ numberOf (E .state) → E .region ≡ m .descriptor d .region
+      → d < DESCRIPTORS → anchorOf word .state ≡ numberOf (E .state) → E .region ≡ m .descriptor d .region
       → E .class ≡ m .descriptor d .class → IfOpen (E .state) (ChainRelated (link area) (anchorOf word) E)
-      → anchorOf word .avail ≤ 512 → anchorOf word .count ≤ 512
+      → anchorOf word .avail ≤ MOST-BLOCKS → anchorOf word .count ≤ MOST-BLOCKS
       → SlotRelated regions (setSlot t s (setAnchor d (anchorOf word) (memoryOf v area)))
       (setTask t T (setDescriptor d E m)) s T
       → Related regions (memoryOf v′ area) (setTask t T (setDescriptor d E m))

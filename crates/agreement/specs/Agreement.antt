@@ -1,10 +1,10 @@
 -- What the agreement of the two runs says, over a whole list of events.
--- Assumes nothing.
 use mathlib.Core.Path.{_≡_}
 use mathlib.Core.Logic.{_≢_}
 use mathlib.Core.List.{List}
 use Prim.Native.Nat.{ℕ, _*_, _≤_}
 use lib.ListN.{length, getD}
+use Rattle.limits.specs.Limits.{CONTROL-BYTES, REGION-BYTES}
 use Rattle.plain.specs.Moves.{Answer}
 use Rattle.plain.specs.Calls.{Pool}
 use Rattle.control.specs.Layout.{Tasks, Regions, seen}
@@ -28,8 +28,8 @@ pub record Agrees (x : Memories × Answer) (y : Pool × Answer) : Type 0 where
   pub tasks : seen (x .0 .control) Tasks ≡ y .0 .tasks
   pub regions : 1 ≤ y .0 .tasks → seen (x .0 .control) Regions ≡ y .0 .regions
   -- the lengths of the two memories, so that a call that is lent these is lent the pool's
-  pub control-length : length (x .0 .control) ≡ 8192
-  pub area-length : 1 ≤ y .0 .tasks → length (x .0 .area) ≡ 4096 * y .0 .regions
+  pub control-length : length (x .0 .control) ≡ CONTROL-BYTES
+  pub area-length : 1 ≤ y .0 .tasks → length (x .0 .area) ≡ REGION-BYTES * y .0 .regions
   pub same : 1 ≤ y .0 .tasks → Same (y .0 .regions) (read (x .0)) (y .0 .mem)
 
 -- Each byte of a block that is in a user's hands before is as it was.

@@ -1,16 +1,17 @@
 -- How a call ends, whatever the two memories hold: what a refusal leaves, which numbers refuse, when "no descriptor" and "no
 -- region" come, and the class that a size gets.
--- Assumes nothing.
 use Prim.Native.Nat.{ℕ, _+_, _≤_, _<_}
 use mathlib.Core.Path.{_≡_}
 use mathlib.Core.List.{List, [], _∷_, _++_}
 use mathlib.Core.Bool.{Bool, true, false, _||_}
 use lib.Dec.{eqb}
+use Rattle.limits.specs.Limits.{CLASSES, MOST-BYTES}
 use Rattle.fields.specs.Columns.{View, _:=_, assigned}
 use Rattle.words.specs.Head.{itemOf}
 use Rattle.classes.specs.Classes.{block}
 use Rattle.classes.specs.Sizes.{classOf}
 use Rattle.control.specs.Layout.{Head, TaskHead, TaskPlace, TaskClass, Regions}
+use Rattle.control.specs.Places.{IDLE, A1}
 use Rattle.control.specs.declared.answer.Answer.{Answer}
 use Rattle.control.specs.declared.answer.Answer.the-variants.{Accepted, Allocated, Freed, NoDescriptor, NoRegion}
 use Rattle.control.specs.declared.answer.Answer.the-variants.{Refused}
@@ -91,14 +92,14 @@ pub record BeginEnds (ns : List ℕ) (o : Outcome) : Type 0 where
 -- "Read head (this finds an empty list)": the task t is at the head read of the pop p, and that list is empty.
 pub record FindsEmpty (p : Pop) (v : View) (t : ℕ) : Type 0 where
   pub place : v (TaskPlace t) ≡ popPlace p
-  pub class : v (TaskClass t) < 16
+  pub class : v (TaskClass t) < CLASSES
   pub empty : itemOf (v (Head (popList p (v (TaskClass t))))) ≡ 0
 
 -- The task t is at the exchange of the push p, and wins it: its item and the noted head are in their ranges, and the head word
 -- is the noted one.
 pub record WinsPush (p : Push) (v : View) (t : ℕ) : Type 0 where
   pub place : v (TaskPlace t) ≡ pushPlace p + 2
-  pub class : v (TaskClass t) < 16
+  pub class : v (TaskClass t) < CLASSES
   pub item : v (itemField p t) < pushItems p (v Regions)
   pub noted : itemOf (v (TaskHead t)) ≤ pushItems p (v Regions)
   pub same : v (Head (pushList p (v (TaskClass t)))) ≡ v (TaskHead t)
@@ -108,7 +109,7 @@ pub record InPush (p : Push) (place : ℕ) : Type 0 where
   pub from : pushPlace p ≤ place
   pub to : place ≤ pushPlace p + 2
 
--- where the outcome o leaves the task t: a place in the step list, 0 for idle
+-- where the outcome o leaves the task t: idle, or a place in the step list
 abbrev pub placeAfter : Outcome → View → ℕ → ℕ
 placeAfter o v t = assigned (o .writes) v (TaskPlace t)
 
@@ -125,7 +126,7 @@ IsEnd (Refused n) = ⊥
 pub record StepEnds (v : View) (t : ℕ) (o : Outcome) : Type 0 where
   pub nothing : WritesNothing o
   pub answers : Goes stepRefusals (o .answer)
-  pub idle : IsEnd (o .answer) → placeAfter o v t ≡ 0
+  pub idle : IsEnd (o .answer) → placeAfter o v t ≡ IDLE
 
 -- ---- sizes
 
@@ -133,8 +134,8 @@ pub record StepEnds (v : View) (t : ℕ) (o : Outcome) : Type 0 where
 -- smallest whose block holds the size.
 pub record Begun (t size : ℕ) (o : Outcome) : Type 0 where
   pub from : 1 ≤ size
-  pub to : size ≤ 256
-  pub writes : o .writes ≡ (TaskPlace t := 1 ∷ TaskClass t := classOf size ∷ [])
-  pub class : classOf size < 16
+  pub to : size ≤ MOST-BYTES
+  pub writes : o .writes ≡ (TaskPlace t := A1 ∷ TaskClass t := classOf size ∷ [])
+  pub class : classOf size < CLASSES
   pub holds : size ≤ block (classOf size)
   pub smallest : (c : ℕ) → c < classOf size → block c < size

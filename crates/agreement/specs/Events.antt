@@ -1,7 +1,7 @@
 -- The events of a run: calls, with the lengths that they are lent, and users' writes; the two runs; and the premises.
--- Assumes nothing.
 use mathlib.Core.Path.{_≡_}
 use mathlib.Core.List.{List, [], _∷_}
+use Rattle.limits.specs.Limits.{CONTROL-BYTES, REGION-BYTES, UNIT-BYTES, TAGS}
 use Rattle.fields.specs.Little.{Bytes}
 use Prim.Native.Nat.{ℕ, pred, _+_, _*_, _≤_, _<_}
 use lib.ListN.{length, set}
@@ -65,9 +65,9 @@ whole (write at b) s = (s, going nothing)
 
 -- a step that passes the tests 1, 4, 2, 5
 pub record Taken (control area t : ℕ) (s : Pool) : Type 0 where
-  pub control-is : control ≡ 8192
+  pub control-is : control ≡ CONTROL-BYTES
   pub started : 1 ≤ s .tasks
-  pub area-is : area ≡ 4096 * s .regions
+  pub area-is : area ≡ REGION-BYTES * s .regions
   pub below : t < s .tasks
 
 -- "no head changes 2^32 times or more between a task's read and its exchange" (the demands): asked of a head exchange alone.
@@ -76,7 +76,7 @@ pub record Taken (control area t : ℕ) (s : Pool) : Type 0 where
 abbrev pub Recent : ℕ → Phase → Type 0
 Recent won read = Unit {0}
 Recent won (next n) = Unit {0}
-Recent won (exchange n) = won < n + 4294967296
+Recent won (exchange n) = won < n + TAGS
 
 abbrev pub Near : Mem → Place → Type 0
 Near m idle = Unit {0}
@@ -105,8 +105,8 @@ pub record InHands (at : ℕ) (s : Pool) : Type 0 where
   pub started : 1 ≤ s .tasks
   pub unit : ℕ
   pub held : 1 ≤ s .mem .hands unit
-  pub from : 8 * unit ≤ at
-  pub to : at < 8 * unit + block (classThere unit s)
+  pub from : UNIT-BYTES * unit ≤ at
+  pub to : at < UNIT-BYTES * unit + block (classThere unit s)
 
 abbrev pub Premise : Event → Pool → Type 0
 Premise (start control area tasks) s = Unit {0}
@@ -125,6 +125,6 @@ Premises (e ∷ es) s = Premise e s × Premises es (whole e s .0)
 -- The memories that the runs may begin with: a control memory of 8,192 bytes that is not started, as all zeros are, whatever
 -- else it holds; and any area, for no call but a start takes one.
 pub record Unstarted (s₁ : Memories) : Type 0 where
-  pub length : lib.ListN.length (s₁ .control) ≡ 8192
+  pub length : lib.ListN.length (s₁ .control) ≡ CONTROL-BYTES
   pub bytes : Bytes (s₁ .control)
   pub tasks : seen (s₁ .control) Tasks ≡ 0

@@ -1,20 +1,19 @@
 -- The range of every field of the control memory, once the pool is started: "a range holds every value that a run under demand
 -- 3's premises stores in the field".
--- Assumes nothing.
 use Prim.Native.Nat.{ℕ, _+_, _^_, _≤_, _<_}
 use mathlib.Core.Path.{_≡_}
 use mathlib.Core.Bool.{true}
-use mathlib.Core.List.{List, [], _∷_}
+use Rattle.limits.specs.Limits.{REGIONS, UNITS, TASKS, CLASSES, DESCRIPTORS, MOST-BLOCKS, SPARE-REGIONS}
 use Rattle.fields.specs.Columns.{Field, View, Has, width}
 use Rattle.words.specs.Head.{itemOf}
 use Rattle.words.specs.Anchor.{PARTIAL, FULL, anchorOf}
 use Rattle.classes.specs.Classes.{perRegion}
-use Rattle.plain.specs.State.{REGIONS}
 use Rattle.control.specs.Layout.{layout, Head, Anchor, TaskHead, TaskAnchor, CacheTop, CacheCount, TaskUnit}
 use Rattle.control.specs.Layout.{TaskIndex, TaskLeft, GroupFirst, GroupLast, GroupCount}
 use Rattle.control.specs.Layout.{TaskPlace, TaskClass, TaskNext, TaskDescriptor, TaskRegion, TaskState}
 use Rattle.control.specs.Layout.{DescriptorNext, RegionNext, DescriptorRegion, DescriptorClass, Map, Tasks, Regions}
 use Rattle.control.specs.Layout.{seen}
+use Rattle.control.specs.Places.{POP-REGION, PUSH-BACK, PUSH-RELEASE, PUSH-OFFER, A3-EXCHANGE, A4, A7, A8, F1, F2, F3-READ, F3-LINK, F3-EXCHANGE, F4-CLEAR, PLACES}
 use Rattle.control.specs.declared.moves.Pop.{Pop}
 use Rattle.control.specs.declared.moves.Push.{Push}
 use Rattle.stepped.specs.Ranges.{isBlock, isTop}
@@ -27,9 +26,8 @@ use Rattle.agreement.specs.Events.{Event, stepped}
 abbrev pub OneTo : ℕ → ℕ → Type 0
 OneTo most x = (1 ≤ x) × (x ≤ most)
 
--- X at the places a to b of the task t. Places are numbered as in the step list: 2 to 10 are the pops of a partial descriptor,
--- a spare descriptor and a spare region, each in three; 11 to 22 the pushes that retire a descriptor, put it back, release a
--- region and offer a descriptor; 23 to 27 the other steps of an allocation, from 3 on; 28 to 33 those of a free.
+-- X where the task t is at a place from a to b, in the order of the table of places. A move has three: its head read, its next
+-- and its exchange.
 abbrev pub At : View → ℕ → ℕ → ℕ → Type 0 → Type 0
 At v t a b X = a ≤ v (TaskPlace t) → v (TaskPlace t) ≤ b → X
 
@@ -44,90 +42,90 @@ pub record TaskLists (regions : ℕ) (v : View) (t : ℕ) : Type 0 where
 
 -- its place, and what it has in hand beside blocks
 pub record TaskHands (regions : ℕ) (v : View) (t : ℕ) : Type 0 where
-  -- 0 for idle, to 33
-  pub place : v (TaskPlace t) ≤ 33
+  -- idle, or a place of the step list
+  pub place : v (TaskPlace t) < PLACES
   -- the descriptor, spare or for the partial list
-  pub descriptor-spare : At v t 8 16 (v (TaskDescriptor t) < 64)
-  pub descriptor-listed : At v t 20 24 (v (TaskDescriptor t) < 64)
-  pub descriptor-opens : At v t 26 26 (v (TaskDescriptor t) < 64)
+  pub descriptor-spare : At v t POP-REGION (PUSH-BACK + 2) (v (TaskDescriptor t) < DESCRIPTORS)
+  pub descriptor-listed : At v t PUSH-OFFER A3-EXCHANGE (v (TaskDescriptor t) < DESCRIPTORS)
+  pub descriptor-opens : At v t A7 A7 (v (TaskDescriptor t) < DESCRIPTORS)
   -- the descriptor to whose chain the group returns
-  pub descriptor-group : At v t 31 32 (v (TaskDescriptor t) < 64)
+  pub descriptor-group : At v t F3-LINK F3-EXCHANGE (v (TaskDescriptor t) < DESCRIPTORS)
   -- the region that is released, the one whose blocks are moved or carved, and the group's
-  pub region-released : At v t 17 19 (v (TaskRegion t) < regions)
-  pub region-filled : At v t 25 27 (v (TaskRegion t) < regions)
-  pub region-grouped : At v t 29 29 (1 ≤ v (GroupCount t) → v (TaskRegion t) < regions)
-  pub region-group : At v t 30 33 (v (TaskRegion t) < regions)
+  pub region-released : At v t PUSH-RELEASE (PUSH-RELEASE + 2) (v (TaskRegion t) < regions)
+  pub region-filled : At v t A4 A8 (v (TaskRegion t) < regions)
+  pub region-grouped : At v t F2 F2 (1 ≤ v (GroupCount t) → v (TaskRegion t) < regions)
+  pub region-group : At v t F3-READ F4-CLEAR (v (TaskRegion t) < regions)
   -- the state in which its last free found the anchor, 0 before: it is in its range at every place
   pub state : v (TaskState t) ≤ FULL
 
 -- what it noted of an anchor, and the blocks that it moves or groups
 pub record TaskChains (v : View) (t : ℕ) : Type 0 where
   -- the noted anchor from which an allocation takes the chain
-  pub anchor-state : At v t 24 24 (anchorOf (v (TaskAnchor t)) .state ≡ PARTIAL)
-  pub anchor-avail : At v t 24 24 (anchorOf (v (TaskAnchor t)) .avail < perRegion (v (TaskClass t)))
-  pub anchor-count : At v t 24 24 (OneTo (perRegion (v (TaskClass t))) (anchorOf (v (TaskAnchor t)) .count))
+  pub anchor-state : At v t A3-EXCHANGE A3-EXCHANGE (anchorOf (v (TaskAnchor t)) .state ≡ PARTIAL)
+  pub anchor-avail : At v t A3-EXCHANGE A3-EXCHANGE (anchorOf (v (TaskAnchor t)) .avail < perRegion (v (TaskClass t)))
+  pub anchor-count : At v t A3-EXCHANGE A3-EXCHANGE (OneTo (perRegion (v (TaskClass t))) (anchorOf (v (TaskAnchor t)) .count))
   -- and that before whose chain a free puts its group: n as avail is none
-  pub returns-state : At v t 31 32 (anchorOf (v (TaskAnchor t)) .state ≤ 2)
-  pub returns-avail : At v t 31 32 (anchorOf (v (TaskAnchor t)) .avail ≤ perRegion (v (TaskClass t)))
-  pub returns-count : At v t 31 32 (anchorOf (v (TaskAnchor t)) .count + v (GroupCount t) ≤ perRegion (v (TaskClass t)))
+  pub returns-state : At v t F3-LINK F3-EXCHANGE (anchorOf (v (TaskAnchor t)) .state ≤ 2)
+  pub returns-avail : At v t F3-LINK F3-EXCHANGE (anchorOf (v (TaskAnchor t)) .avail ≤ perRegion (v (TaskClass t)))
+  pub returns-count : At v t F3-LINK F3-EXCHANGE (anchorOf (v (TaskAnchor t)) .count + v (GroupCount t) ≤ perRegion (v (TaskClass t)))
   -- the index of the block that is moved or carved next
-  pub index-moved : At v t 25 25 (v (TaskIndex t) < perRegion (v (TaskClass t)))
-  pub index-carved : At v t 27 27 (v (TaskIndex t) < perRegion (v (TaskClass t)))
+  pub index-moved : At v t A4 A4 (v (TaskIndex t) < perRegion (v (TaskClass t)))
+  pub index-carved : At v t A8 A8 (v (TaskIndex t) < perRegion (v (TaskClass t)))
   -- how many blocks of the chain are left to move
-  pub left : At v t 25 25 (OneTo (perRegion (v (TaskClass t))) (v (TaskLeft t)))
+  pub left : At v t A4 A4 (OneTo (perRegion (v (TaskClass t))) (v (TaskLeft t)))
   -- how many blocks the group has: 0 before its first
-  pub grouped : At v t 29 29 (v (GroupCount t) ≤ perRegion (v (TaskClass t)))
-  pub group : At v t 30 32 (OneTo (perRegion (v (TaskClass t))) (v (GroupCount t)))
+  pub grouped : At v t F2 F2 (v (GroupCount t) ≤ perRegion (v (TaskClass t)))
+  pub group : At v t F3-READ F3-EXCHANGE (OneTo (perRegion (v (TaskClass t))) (v (GroupCount t)))
   -- the indexes of its first and its last block
-  pub first-grouped : At v t 29 29 (1 ≤ v (GroupCount t) → v (GroupFirst t) < perRegion (v (TaskClass t)))
-  pub first : At v t 30 32 (v (GroupFirst t) < perRegion (v (TaskClass t)))
-  pub last-grouped : At v t 29 29 (1 ≤ v (GroupCount t) → v (GroupLast t) < perRegion (v (TaskClass t)))
-  pub last : At v t 30 32 (v (GroupLast t) < perRegion (v (TaskClass t)))
+  pub first-grouped : At v t F2 F2 (1 ≤ v (GroupCount t) → v (GroupFirst t) < perRegion (v (TaskClass t)))
+  pub first : At v t F3-READ F3-EXCHANGE (v (GroupFirst t) < perRegion (v (TaskClass t)))
+  pub last-grouped : At v t F2 F2 (1 ≤ v (GroupCount t) → v (GroupLast t) < perRegion (v (TaskClass t)))
+  pub last : At v t F3-READ F3-EXCHANGE (v (GroupLast t) < perRegion (v (TaskClass t)))
 
 -- the fields of the task t
 pub record TaskInRange (regions : ℕ) (v : View) (t : ℕ) : Type 0 where
-  -- one of the sixteen
-  pub class : v (TaskClass t) < 16
+  -- one of the classes
+  pub class : v (TaskClass t) < CLASSES
   pub lists : TaskLists regions v t
   pub hands : TaskHands regions v t
   pub chains : TaskChains v t
   -- the unit that is freed: a block of the class
-  pub unit-pushing : At v t 17 22 (isBlock regions (v (TaskClass t)) (v (TaskUnit t)) ≡ true)
-  pub unit : At v t 28 33 (isBlock regions (v (TaskClass t)) (v (TaskUnit t)) ≡ true)
+  pub unit-pushing : At v t PUSH-RELEASE (PUSH-OFFER + 2) (isBlock regions (v (TaskClass t)) (v (TaskUnit t)) ≡ true)
+  pub unit : At v t F1 F4-CLEAR (isBlock regions (v (TaskClass t)) (v (TaskUnit t)) ≡ true)
   -- the descriptor that a free has in hand where it found the anchor FULL
-  pub descriptor-released : At v t 17 19 (v (TaskState t) ≡ FULL → v (TaskDescriptor t) < 64)
-  pub descriptor-cleared : At v t 33 33 (v (TaskState t) ≡ FULL → v (TaskDescriptor t) < 64)
-  -- each class's cache: how many blocks, and its top: a block of the class, or 8,192 where there is none
-  pub counts : (c : ℕ) → c < 16 → v (CacheCount t c) ≤ perRegion c
-  pub tops : (c : ℕ) → c < 16 → isTop regions c (v (CacheCount t c)) (v (CacheTop t c)) ≡ true
-  pub tops-max : (c : ℕ) → c < 16 → v (CacheTop t c) ≤ 8192
+  pub descriptor-released : At v t PUSH-RELEASE (PUSH-RELEASE + 2) (v (TaskState t) ≡ FULL → v (TaskDescriptor t) < DESCRIPTORS)
+  pub descriptor-cleared : At v t F4-CLEAR F4-CLEAR (v (TaskState t) ≡ FULL → v (TaskDescriptor t) < DESCRIPTORS)
+  -- each class's cache: how many blocks, and its top: a block of the class, or, where there is none, the number past all units
+  pub counts : (c : ℕ) → c < CLASSES → v (CacheCount t c) ≤ perRegion c
+  pub tops : (c : ℕ) → c < CLASSES → isTop regions c (v (CacheCount t c)) (v (CacheTop t c)) ≡ true
+  pub tops-max : (c : ℕ) → c < CLASSES → v (CacheTop t c) ≤ UNITS
 
 -- the fields of a started pool
 pub record InRange (v : View) : Type 0 where
   -- each field holds a number of its width: so a tag is any number of 32 bits, and 64 marks are any 64 bits
   pub widths : (f : Field) → Has layout f → v f < 256 ^ width layout f
-  pub tasks : OneTo 8 (v Tasks)
-  pub regions : OneTo 16 (v Regions)
+  pub tasks : OneTo TASKS (v Tasks)
+  pub regions : OneTo REGIONS (v Regions)
   -- the item of each head: a number plus one, or 0
-  pub heads : (ℓ : ℕ) → ℓ < 17 → itemOf (v (Head ℓ)) ≤ 64
-  pub head-regions : itemOf (v (Head REGIONS)) ≤ v Regions
+  pub heads : (ℓ : ℕ) → ℓ < SPARE-REGIONS → itemOf (v (Head ℓ)) ≤ DESCRIPTORS
+  pub head-regions : itemOf (v (Head SPARE-REGIONS)) ≤ v Regions
   -- each item's next: a number plus one, or 0
-  pub descriptor-nexts : (d : ℕ) → d < 64 → v (DescriptorNext d) ≤ 64
+  pub descriptor-nexts : (d : ℕ) → d < DESCRIPTORS → v (DescriptorNext d) ≤ DESCRIPTORS
   pub region-nexts : (r : ℕ) → r < v Regions → v (RegionNext r) ≤ v Regions
   -- each anchor: EMPTY, PARTIAL or FULL; an index and a count as large as any class has
-  pub states : (d : ℕ) → d < 64 → anchorOf (v (Anchor d)) .state ≤ 2
-  pub avails : (d : ℕ) → d < 64 → anchorOf (v (Anchor d)) .avail ≤ 512
-  pub chain-counts : (d : ℕ) → d < 64 → anchorOf (v (Anchor d)) .count ≤ 512
+  pub states : (d : ℕ) → d < DESCRIPTORS → anchorOf (v (Anchor d)) .state ≤ 2
+  pub avails : (d : ℕ) → d < DESCRIPTORS → anchorOf (v (Anchor d)) .avail ≤ MOST-BLOCKS
+  pub chain-counts : (d : ℕ) → d < DESCRIPTORS → anchorOf (v (Anchor d)) .count ≤ MOST-BLOCKS
   -- and as large as its own class has, unless it is EMPTY: n as avail is none
-  pub open-avails : (d : ℕ) → d < 64 → 1 ≤ anchorOf (v (Anchor d)) .state
+  pub open-avails : (d : ℕ) → d < DESCRIPTORS → 1 ≤ anchorOf (v (Anchor d)) .state
       → anchorOf (v (Anchor d)) .avail ≤ perRegion (v (DescriptorClass d))
-  pub open-counts : (d : ℕ) → d < 64 → 1 ≤ anchorOf (v (Anchor d)) .state
+  pub open-counts : (d : ℕ) → d < DESCRIPTORS → 1 ≤ anchorOf (v (Anchor d)) .state
       → anchorOf (v (Anchor d)) .count ≤ perRegion (v (DescriptorClass d))
-  pub descriptor-regions : (d : ℕ) → d < 64 → v (DescriptorRegion d) < v Regions
-  pub descriptor-classes : (d : ℕ) → d < 64 → v (DescriptorClass d) < 16
+  pub descriptor-regions : (d : ℕ) → d < DESCRIPTORS → v (DescriptorRegion d) < v Regions
+  pub descriptor-classes : (d : ℕ) → d < DESCRIPTORS → v (DescriptorClass d) < CLASSES
   -- each map entry: a descriptor's number plus one, or 0
-  pub maps : (r : ℕ) → r < v Regions → v (Map r) ≤ 64
-  pub each-task : (t : ℕ) → t < 8 → TaskInRange (v Regions) v t
+  pub maps : (r : ℕ) → r < v Regions → v (Map r) ≤ DESCRIPTORS
+  pub each-task : (t : ℕ) → t < TASKS → TaskInRange (v Regions) v t
 
 -- the fields of a memory are in their ranges, once it is started
 abbrev pub Ranged : Memories → Type 0

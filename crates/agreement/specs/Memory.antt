@@ -1,7 +1,8 @@
 -- The two memories, column by column: what each field and each link says.
-use Prim.Native.Nat.{ℕ, _+_, _*_, _/_, _%_}
+use Prim.Native.Nat.{ℕ, _/_, _%_}
 use native.Mathlib.Decide.{decLt}
 use mathlib.Core.List.{List}
+use Rattle.limits.specs.Limits.{CLASSES}
 use Rattle.rows.specs.Branch.{if}
 use Rattle.fields.specs.Columns.{View}
 use Rattle.words.specs.Head.{headOf}
@@ -76,9 +77,9 @@ pub record Memory : Type 0 where
 
 -- ---- read off a view of the fields
 
--- a field of the sixteen caches of the task t: those of the classes, and 0 past them
-abbrev pub byClass : (ℕ → ℕ) → ℕ → ℕ → ℕ
-byClass f t c = if (decLt c 16) (f (16 * t + c)) 0
+-- a field of a task's caches: those of the classes, and 0 past them
+abbrev pub byClass : (ℕ → ℕ) → ℕ → ℕ
+byClass f c = if (decLt c CLASSES) (f c) 0
 
 abbrev pub slotOf : View → ℕ → Slot
 slotOf v t = record {
@@ -103,8 +104,8 @@ slotOf v t = record {
     count = v (Layout.GroupCount t);
   };
   caches = record {
-    top = byClass (λ i. v (Layout.Top i)) t;
-    count = byClass (λ i. v (Layout.Count i)) t;
+    top = byClass (λ c. v (Layout.CacheTop t c));
+    count = byClass (λ c. v (Layout.CacheCount t c));
   };
 }
 

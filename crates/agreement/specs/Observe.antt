@@ -1,11 +1,12 @@
 -- What is compared: "each list's items from the top, which regions are open and in which class, and, for these, the chain in
 -- order and each block's holder". It is read off the memories, through the links and by the counts, and off the plain pool.
--- Assumes nothing.
 use mathlib.Core.Path.{_≡_}
 use mathlib.Core.List.{List, [], _∷_}
 use Prim.Native.Nat.{ℕ, zero, suc, _+_, _-_, _≤_, _<_}
+use mathlib.Core.Bool.{cond, _&&_}
 use native.Mathlib.Decide.{ℕ-discrete, decLe}
-use lib.ListN.{getD}
+use lib.Dec.{leb}
+use Rattle.limits.specs.Limits.{DESCRIPTORS, CLASSES, TASKS, UNITS, SPARE-REGIONS}
 use Rattle.rows.specs.Branch.{if, both}
 use Rattle.rows.specs.Counting.{count}
 use Rattle.rows.specs.Totals.{total}
@@ -13,11 +14,12 @@ use Rattle.rows.specs.Linked.{walk}
 use Rattle.classes.specs.Classes.{perRegion}
 use Rattle.classes.specs.Places.{unitOf, Block}
 use Rattle.links.specs.Link.{link}
-use Rattle.plain.specs.State.{Mem, REGIONS}
+use Rattle.plain.specs.State.{Mem}
 use Rattle.plain.specs.Calls.{opens?}
 use Rattle.plain.specs.Blocks.{blocksFrom}
 use Rattle.plain.specs.Weights.{blockWeight}
 use Rattle.plain.specs.OnePlace.{OpenBlock}
+use Rattle.control.specs.Places.{A4, A8, F1, F2, F3-EXCHANGE, F4-CLEAR, PUSH-RELEASE, PUSH-OFFER}
 use Rattle.agreement.specs.Memory.{Slot, Memory}
 
 -- ---- lists
@@ -31,10 +33,10 @@ listFrom next (suc n) (suc x) = x ∷ listFrom next n (next x)
 -- The list ℓ of descriptors, and that of the spare regions: one item more is read than there are descriptors or regions, so that
 -- a list that does not end is not taken for one that does.
 abbrev pub listOf : Memory → ℕ → List ℕ
-listOf a ℓ = listFrom (a .lists .descriptorNext) 65 (a .lists .head ℓ .item)
+listOf a ℓ = listFrom (a .lists .descriptorNext) (suc DESCRIPTORS) (a .lists .head ℓ .item)
 
 abbrev pub spareRegions : Memory → ℕ → List ℕ
-spareRegions a regions = listFrom (a .lists .regionNext) (suc regions) (a .lists .head REGIONS .item)
+spareRegions a regions = listFrom (a .lists .regionNext) (suc regions) (a .lists .head SPARE-REGIONS .item)
 
 -- ---- open regions: "a region is open while that descriptor names it back and its anchor is not EMPTY"
 
@@ -72,31 +74,27 @@ plainChain m r = plainChainBy (m .map r) r m
 abbrev groupOf : Slot → Memory → List ℕ
 groupOf s a = walk (link (a .area)) (unitOf (s .hand .region) (s .class)) (s .group .first) (s .group .count)
 
+-- the blocks that a table has for a place: each line gives the first and the last of its places; elsewhere there are none
+abbrev pub blocksAt : List (ℕ × ℕ × List ℕ) → ℕ → List ℕ
+blocksAt [] place = []
+blocksAt (line ∷ table) place = cond (leb (line .0) place && leb place (line .1)) (line .2) (blocksAt table place)
+
 -- "In comparing holders, a chain or group under way, a block being freed and blocks still to be carved count with their
--- task's cache": what a task has under way at each place, 0 to 33
-abbrev pub underWayAt : Slot → Memory → List (List ℕ)
-underWayAt s a =
+-- task's cache": what a task has under way, by its place
+abbrev pub underWays : Slot → Memory → List (ℕ × ℕ × List ℕ)
+underWays s a =
     let freed = s .unit ∷ [] in
-    let grouped = s .unit ∷ groupOf s a in
-    -- 0, idle; 1, the cache; 2 to 10, the pops; 11 to 16, the pushes of a spare descriptor
-    [] ∷ [] ∷ [] ∷ [] ∷ [] ∷ [] ∷ [] ∷ [] ∷ [] ∷ [] ∷ [] ∷ [] ∷ [] ∷ [] ∷ [] ∷ [] ∷ []
-    -- 17 to 22: the release of a region, the offer of a descriptor
-    ∷ freed ∷ freed ∷ freed ∷ freed ∷ freed ∷ freed
-    -- 23 and 24: the anchor is read and exchanged
-    ∷ [] ∷ []
-    -- 25: the rest of the chain that was taken
-    ∷ walk (link (a .area)) (unitOf (s .hand .region) (s .class)) (s .hand .index) (s .hand .left)
-    -- 26: the descriptor and the map are written
-    ∷ []
-    -- 27: the blocks still to be carved
-    ∷ blocksFrom (s .hand .region) (s .class) (s .hand .index) (perRegion (s .class) - s .hand .index)
-    -- 28: the block that is freed
-    ∷ freed
-    -- 29 to 32: the group
-    ∷ grouped ∷ grouped ∷ grouped ∷ grouped
-    -- 33: the map entry is cleared
-    ∷ freed
-    -- the end of the list
+    -- the rest of the chain that was taken
+    (A4, A4, walk (link (a .area)) (unitOf (s .hand .region) (s .class)) (s .hand .index) (s .hand .left))
+    -- the blocks still to be carved
+    ∷ (A8, A8, blocksFrom (s .hand .region) (s .class) (s .hand .index) (perRegion (s .class) - s .hand .index))
+    -- the block that is freed; from step 2 on, with the group; and alone again while its map entry is cleared, its region
+    -- released and its descriptor offered
+    ∷ (F1, F1, freed)
+    ∷ (F2, F3-EXCHANGE, s .unit ∷ groupOf s a)
+    ∷ (F4-CLEAR, F4-CLEAR, freed)
+    ∷ (PUSH-RELEASE, PUSH-RELEASE + 2, freed)
+    ∷ (PUSH-OFFER, PUSH-OFFER + 2, freed)
     ∷ []
 
 -- how often a cache of n blocks with the top u has the block v
@@ -107,7 +105,7 @@ inCache a v u n = count v (walk (link (a .area)) (λ x. x) u n)
 abbrev pub withTask : Memory → ℕ → ℕ → ℕ
 withTask a t v =
     let s = a .slot t in
-    total 16 (λ c n. inCache a v (s .caches .top c) n) (s .caches .count) + count v (getD (underWayAt s a) (s .place) [])
+    total CLASSES (λ c n. inCache a v (s .caches .top c) n) (s .caches .count) + count v (blocksAt (underWays s a) (s .place))
 
 -- ---- holders: "a user's hands, a task or its region's chain"
 
@@ -124,7 +122,7 @@ holderOf (suc n) has inChain t = if (decLe 1 (has t)) (task t) (holderOf n has i
 
 -- by the mark, the tasks and the chain
 abbrev pub holder : ℕ → (ℕ → ℕ) → ℕ → Holder
-holder mark has inChain = if (decLe 1 mark) hands (holderOf 8 has inChain 0)
+holder mark has inChain = if (decLe 1 mark) hands (holderOf TASKS has inChain 0)
 
 abbrev pub holderIn : Memory → ℕ → ℕ → Holder
 holderIn a r v = holder (a .entries .mark v) (λ t. withTask a t v) (count v (chainBy (a .entries .map r) r a))
@@ -135,17 +133,17 @@ plainHolder m r v = holder (m .hands v) (λ t. blockWeight v t (m .task t)) (cou
 -- ---- the comparison, in an area of so many regions
 
 pub record Same (regions : ℕ) (a : Memory) (m : Mem) : Type 0 where
-  pub lists : (ℓ : ℕ) → ℓ < 17 → listOf a ℓ ≡ m .row ℓ
-  pub spares : spareRegions a regions ≡ m .row REGIONS
+  pub lists : (ℓ : ℕ) → ℓ < SPARE-REGIONS → listOf a ℓ ≡ m .row ℓ
+  pub spares : spareRegions a regions ≡ m .row SPARE-REGIONS
   pub classes : (r : ℕ) → r < regions → classBy (a .entries .map r) r a ≡ plainClass m r
   pub chains : (r : ℕ) → r < regions → chainBy (a .entries .map r) r a ≡ plainChain m r
   -- the holder of the block v of the region r, and, beyond what is asked, of every unit with regard to every region
-  pub holders : (r v : ℕ) → r < regions → v < 8192 → holderIn a r v ≡ plainHolder m r v
+  pub holders : (r v : ℕ) → r < regions → v < UNITS → holderIn a r v ≡ plainHolder m r v
   -- "each block of an open region is in exactly one place": counted in the memories, and in the plain pool
   pub one-place : (r c v : ℕ) → r < regions → classBy (a .entries .map r) r a ≡ suc c → Block r c v
-      → a .entries .mark v + total 8 (λ t s. withTask a t v) (a .slot) + count v (chainBy (a .entries .map r) r a) ≡ 1
+      → a .entries .mark v + total TASKS (λ t s. withTask a t v) (a .slot) + count v (chainBy (a .entries .map r) r a) ≡ 1
   pub plain-one-place : (r c v : ℕ) → r < regions → plainClass m r ≡ suc c → Block r c v
-      → m .hands v + total 8 (blockWeight v) (m .task) + count v (plainChain m r) ≡ 1
+      → m .hands v + total TASKS (blockWeight v) (m .task) + count v (plainChain m r) ≡ 1
   -- an open region's chain has blocks of this region and class alone, so that no block stands in another region's chain
   pub own-blocks : (r c v : ℕ) → r < regions → plainClass m r ≡ suc c → 1 ≤ count v (plainChain m r) → Block r c v
   -- what is in a user's hands is a block of an open region

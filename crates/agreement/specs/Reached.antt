@@ -2,6 +2,7 @@
 use mathlib.Core.List.{List, [], _∷_}
 use Prim.Native.Nat.{ℕ}
 use lib.ListN.{length}
+use Rattle.limits.specs.Limits.{CONTROL-BYTES}
 use Rattle.plain.specs.Moves.{Answer}
 use Rattle.plain.specs.Calls.{Pool, unstarted}
 use Rattle.plain.specs.Calls as Plain
@@ -27,8 +28,8 @@ happened e s₁ s = record { event = e; before = s; answer = stepped e s₁ .1 }
 pub data Reached : History → Memories → Pool → Type 0 where
   from-unstarted : {s₁ : Memories} → Unstarted s₁ → Reached [] s₁ unstarted
   from-start : (s₁ : Memories) (s : Pool) (area : List ℕ) (tasks : ℕ) → Plain.Area (length area) → Plain.Tasks tasks
-      → Reached (happened (start 8192 area tasks) s₁ s ∷ [])
-      (stepped (start 8192 area tasks) s₁ .0) (whole (start 8192 area tasks) s .0)
+      → Reached (happened (start CONTROL-BYTES area tasks) s₁ s ∷ [])
+      (stepped (start CONTROL-BYTES area tasks) s₁ .0) (whole (start CONTROL-BYTES area tasks) s .0)
   by-event : {h : History} {s₁ : Memories} {s : Pool} → Reached h s₁ s → (e : Event) → Premise e s
       → Reached (happened e s₁ s ∷ h) (stepped e s₁ .0) (whole e s .0)
 

@@ -3,6 +3,8 @@ use mathlib.Core.Path.{_≡_}
 use mathlib.Core.List.{List, [], _∷_, _++_}
 use Prim.Native.Nat.{ℕ, zero, suc, _+_, _*_, _%_, _≤_, _<_}
 use lib.ListN.{length}
+use Rattle.limits.specs.Limits.{REGION-BYTES, UNITS, TASKS, CLASSES, DESCRIPTORS, MOST-BLOCKS, TAGS}
+use Rattle.limits.specs.Limits.{SPARE-DESCRIPTORS, SPARE-REGIONS, LISTS}
 use Rattle.rows.specs.Counting.{count}
 use Rattle.rows.specs.Linked.{Linked}
 use Rattle.classes.specs.Classes.{perRegion}
@@ -11,17 +13,20 @@ use Rattle.words.specs.declared.head.Head.{Head}
 use Rattle.words.specs.declared.anchor.Anchor.{Anchor}
 use Rattle.links.specs.Link.{link}
 use Rattle.plain.specs.State.{State, numberOf, Descriptor, Note, Phase, read, next, exchange, Pop, partial, spare}
-use Rattle.plain.specs.State.{region, retire, back, release, offer, SPARES, REGIONS}
+use Rattle.plain.specs.State.{region, retire, back, release, offer}
 use Rattle.plain.specs.State.{Place, idle, a1, popping, pushing, a3-read, a3-exchange, a4, a7, a8, f1, f2, f3-read}
 use Rattle.plain.specs.State.{f3-link, f3-exchange, f4-clear, Task, Mem}
 use Rattle.plain.specs.Steps.{top}
 use Rattle.plain.specs.States.{IfOpen}
 use Rattle.plain.specs.Blocks.{isBlock}
+use Rattle.control.specs.Places.{IDLE, A1, POP-PARTIAL, POP-SPARE, POP-REGION, PUSH-RETIRE, PUSH-BACK, PUSH-RELEASE}
+use Rattle.control.specs.Places.{PUSH-OFFER, A3-READ, A3-EXCHANGE, A4, A7, A8, F1, F2, F3-READ, F3-LINK, F3-EXCHANGE}
+use Rattle.control.specs.Places.{F4-CLEAR}
 use Rattle.agreement.specs.Memory.{TaskCaches, Slot, Lists, Descriptors, Entries, Memory}
 
 -- the tag of a number of won exchanges
 abbrev pub wrap : ℕ → ℕ
-wrap n = n % 4294967296
+wrap n = n % TAGS
 
 -- a row without its first item
 abbrev pub tail : List ℕ → List ℕ
@@ -85,58 +90,58 @@ pub record GroupRelated (a : Memory) (s : Slot) (y : ℕ) (g : List ℕ) : Type 
 
 -- The place, with what is under way; the plain place is built from the task's fields.
 pub data PlaceRelated (regions : ℕ) (a : Memory) (m : Mem) (s : Slot) : Place → Type 0 where
-  r-idle : s .place ≡ 0 → PlaceRelated regions a m s idle
-  r-a1 : s .place ≡ 1 → PlaceRelated regions a m s (a1 (s .class))
-  r-partial : {φ : Phase} → PopRelated m s 2 (s .class) 64 φ → PlaceRelated regions a m s (popping (partial (s .class)) φ)
-  r-spare : {φ : Phase} → PopRelated m s 5 SPARES 64 φ → PlaceRelated regions a m s (popping (spare (s .class)) φ)
-  r-region : {φ : Phase} → PopRelated m s 8 REGIONS regions φ
+  r-idle : s .place ≡ IDLE → PlaceRelated regions a m s idle
+  r-a1 : s .place ≡ A1 → PlaceRelated regions a m s (a1 (s .class))
+  r-partial : {φ : Phase} → PopRelated m s POP-PARTIAL (s .class) DESCRIPTORS φ → PlaceRelated regions a m s (popping (partial (s .class)) φ)
+  r-spare : {φ : Phase} → PopRelated m s POP-SPARE SPARE-DESCRIPTORS DESCRIPTORS φ → PlaceRelated regions a m s (popping (spare (s .class)) φ)
+  r-region : {φ : Phase} → PopRelated m s POP-REGION SPARE-REGIONS regions φ
       → PlaceRelated regions a m s (popping (Pop.region (s .class) (s .hand .descriptor)) φ)
-  r-retire : {φ : Phase} → PushRelated m s 11 SPARES 64 (s .hand .descriptor) (a .lists .descriptorNext) φ
+  r-retire : {φ : Phase} → PushRelated m s PUSH-RETIRE SPARE-DESCRIPTORS DESCRIPTORS (s .hand .descriptor) (a .lists .descriptorNext) φ
       → PlaceRelated regions a m s (pushing (retire (s .class) (s .hand .descriptor)) φ)
-  r-back : {φ : Phase} → PushRelated m s 14 SPARES 64 (s .hand .descriptor) (a .lists .descriptorNext) φ
+  r-back : {φ : Phase} → PushRelated m s PUSH-BACK SPARE-DESCRIPTORS DESCRIPTORS (s .hand .descriptor) (a .lists .descriptorNext) φ
       → PlaceRelated regions a m s (pushing (back (s .class) (s .hand .descriptor)) φ)
   r-release : {w : State} {φ : Phase} → s .hand .state ≡ numberOf w
-      → PushRelated m s 17 REGIONS regions (s .hand .region) (a .lists .regionNext) φ
+      → PushRelated m s PUSH-RELEASE SPARE-REGIONS regions (s .hand .region) (a .lists .regionNext) φ
       → PlaceRelated regions a m s (pushing (release (s .class) (s .unit) (s .hand .descriptor) w (s .hand .region)) φ)
-  r-offer : {φ : Phase} → PushRelated m s 20 (s .class) 64 (s .hand .descriptor) (a .lists .descriptorNext) φ
+  r-offer : {φ : Phase} → PushRelated m s PUSH-OFFER (s .class) DESCRIPTORS (s .hand .descriptor) (a .lists .descriptorNext) φ
       → PlaceRelated regions a m s (pushing (offer (s .class) (s .unit) (s .hand .descriptor)) φ)
-  r-a3-read : s .place ≡ 23 → PlaceRelated regions a m s (a3-read (s .class) (s .hand .descriptor))
+  r-a3-read : s .place ≡ A3-READ → PlaceRelated regions a m s (a3-read (s .class) (s .hand .descriptor))
   -- the noted anchor is PARTIAL, names a block, and counts 1 to n
-  r-a3-exchange : {n : Note} → s .place ≡ 24 → NoteRelated m (s .class) (s .hand .descriptor) n (s .noted .anchor)
+  r-a3-exchange : {n : Note} → s .place ≡ A3-EXCHANGE → NoteRelated m (s .class) (s .hand .descriptor) n (s .noted .anchor)
       → s .noted .anchor .state ≡ 1 → 1 ≤ s .noted .anchor .count → s .noted .anchor .count ≤ perRegion (s .class)
       → s .noted .anchor .avail < perRegion (s .class)
       → PlaceRelated regions a m s (a3-exchange (s .class) (s .hand .descriptor) n)
-  r-a4 : {x : ℕ} {q : List ℕ} → s .place ≡ 25
+  r-a4 : {x : ℕ} {q : List ℕ} → s .place ≡ A4
       → Linked (link (a .area)) (indexOf (s .class)) (perRegion (s .class)) (s .hand .index) (x ∷ q)
       → s .hand .left ≡ suc (length q) → ((v : ℕ) → count v (x ∷ q) ≤ isBlock v (s .hand .region) (s .class))
       → PlaceRelated regions a m s (a4 (s .class) x q)
-  r-a7 : s .place ≡ 26 → PlaceRelated regions a m s (a7 (s .class) (s .hand .descriptor) (s .hand .region))
-  r-a8 : s .place ≡ 27 → PlaceRelated regions a m s (a8 (s .class) (s .hand .region) (s .hand .index))
-  r-f1 : s .place ≡ 28 → PlaceRelated regions a m s (f1 (s .class) (s .unit))
-  r-f2 : s .place ≡ 29 → s .group .count ≡ 0 → PlaceRelated regions a m s (f2 (s .class) (s .unit) [])
-  r-f2-more : {y : ℕ} {g : List ℕ} → s .place ≡ 29 → GroupRelated a s y g
+  r-a7 : s .place ≡ A7 → PlaceRelated regions a m s (a7 (s .class) (s .hand .descriptor) (s .hand .region))
+  r-a8 : s .place ≡ A8 → PlaceRelated regions a m s (a8 (s .class) (s .hand .region) (s .hand .index))
+  r-f1 : s .place ≡ F1 → PlaceRelated regions a m s (f1 (s .class) (s .unit))
+  r-f2 : s .place ≡ F2 → s .group .count ≡ 0 → PlaceRelated regions a m s (f2 (s .class) (s .unit) [])
+  r-f2-more : {y : ℕ} {g : List ℕ} → s .place ≡ F2 → GroupRelated a s y g
       → PlaceRelated regions a m s (f2 (s .class) (s .unit) (y ∷ g))
-  r-f3-read : {y : ℕ} {g : List ℕ} → s .place ≡ 30 → GroupRelated a s y g
+  r-f3-read : {y : ℕ} {g : List ℕ} → s .place ≡ F3-READ → GroupRelated a s y g
       → PlaceRelated regions a m s (f3-read (s .class) (s .unit) y g)
-  r-f3-link : {y : ℕ} {g : List ℕ} {n : Note} → s .place ≡ 31 → GroupRelated a s y g
+  r-f3-link : {y : ℕ} {g : List ℕ} {n : Note} → s .place ≡ F3-LINK → GroupRelated a s y g
       → NoteRelated m (s .class) (s .hand .descriptor) n (s .noted .anchor)
       → s .group .count + s .noted .anchor .count ≤ perRegion (s .class)
       → PlaceRelated regions a m s (f3-link (s .class) (s .unit) y g (s .hand .descriptor) n)
-  r-f3-exchange : {y : ℕ} {g : List ℕ} {n : Note} → s .place ≡ 32 → (G : GroupRelated a s y g)
+  r-f3-exchange : {y : ℕ} {g : List ℕ} {n : Note} → s .place ≡ F3-EXCHANGE → (G : GroupRelated a s y g)
       → NoteRelated m (s .class) (s .hand .descriptor) n (s .noted .anchor)
       → s .group .count + s .noted .anchor .count ≤ perRegion (s .class) → link (a .area) (G .last) ≡ s .noted .anchor .avail
       → PlaceRelated regions a m s (f3-exchange (s .class) (s .unit) y g (s .hand .descriptor) n)
-  r-f4-clear : {w : State} → s .place ≡ 33 → s .hand .state ≡ numberOf w
+  r-f4-clear : {w : State} → s .place ≡ F4-CLEAR → s .hand .state ≡ numberOf w
       → PlaceRelated regions a m s (f4-clear (s .class) (s .unit) (s .hand .descriptor) w (s .hand .region))
 
 -- The caches: each is linked from its top.
 pub record CachesRelated (nx : ℕ → ℕ) (k : TaskCaches) (cache : ℕ → List ℕ) : Type 0 where
-  pub tops : (c : ℕ) → c < 16 → Linked nx (λ u. u) 8192 (k .top c) (cache c)
-  pub counts : (c : ℕ) → c < 16 → k .count c ≡ length (cache c)
+  pub tops : (c : ℕ) → c < CLASSES → Linked nx (λ u. u) UNITS (k .top c) (cache c)
+  pub counts : (c : ℕ) → c < CLASSES → k .count c ≡ length (cache c)
 
--- A task: its class is one of the sixteen, its place, and its caches.
+-- A task: its class is one of the classes, its place, and its caches.
 pub record SlotRelated (regions : ℕ) (a : Memory) (m : Mem) (s : Slot) (T : Task) : Type 0 where
-  pub fits : s .class < 16
+  pub fits : s .class < CLASSES
   pub place : PlaceRelated regions a m s (T .place)
   pub caches : CachesRelated (link (a .area)) (s .caches) (T .cache)
 
@@ -158,34 +163,34 @@ pub record DescriptorRelated (nx : ℕ → ℕ) (a : Anchor) (r c : ℕ) (D : De
 
 -- the lists, by the numbers of won exchanges and the rows of the plain pool
 pub record ListsRelated (regions : ℕ) (l : Lists) (won : ℕ → ℕ) (row : ℕ → List ℕ) : Type 0 where
-  pub tags : (ℓ : ℕ) → ℓ < 18 → l .head ℓ .tag ≡ wrap (won ℓ)
+  pub tags : (ℓ : ℕ) → ℓ < LISTS → l .head ℓ .tag ≡ wrap (won ℓ)
   -- the lists of descriptors, and that of spare regions
-  pub rows : (ℓ : ℕ) → ℓ < 17 → Linked (l .descriptorNext) suc 0 (l .head ℓ .item) (row ℓ)
-  pub spareRow : Linked (l .regionNext) suc 0 (l .head REGIONS .item) (row REGIONS)
-  pub descriptorNexts : (d : ℕ) → d < 64 → l .descriptorNext d ≤ 64
+  pub rows : (ℓ : ℕ) → ℓ < SPARE-REGIONS → Linked (l .descriptorNext) suc 0 (l .head ℓ .item) (row ℓ)
+  pub spareRow : Linked (l .regionNext) suc 0 (l .head SPARE-REGIONS .item) (row SPARE-REGIONS)
+  pub descriptorNexts : (d : ℕ) → d < DESCRIPTORS → l .descriptorNext d ≤ DESCRIPTORS
   pub regionNexts : (r : ℕ) → r < regions → l .regionNext r ≤ regions
 
 -- the descriptors, with chains linked by nx
 pub record DescriptorsRelated (regions : ℕ) (nx : ℕ → ℕ) (D : Descriptors) (plain : ℕ → Descriptor) : Type 0 where
-  pub each : (d : ℕ) → d < 64 → DescriptorRelated nx (D .anchor d) (D .region d) (D .class d) (plain d)
+  pub each : (d : ℕ) → d < DESCRIPTORS → DescriptorRelated nx (D .anchor d) (D .region d) (D .class d) (plain d)
   -- also of an EMPTY descriptor: its anchor, its region and its class are in their ranges
-  pub avails : (d : ℕ) → d < 64 → D .anchor d .avail ≤ 512
-  pub chainCounts : (d : ℕ) → d < 64 → D .anchor d .count ≤ 512
-  pub regionNumbers : (d : ℕ) → d < 64 → D .region d < regions
-  pub classNumbers : (d : ℕ) → d < 64 → D .class d < 16
+  pub avails : (d : ℕ) → d < DESCRIPTORS → D .anchor d .avail ≤ MOST-BLOCKS
+  pub chainCounts : (d : ℕ) → d < DESCRIPTORS → D .anchor d .count ≤ MOST-BLOCKS
+  pub regionNumbers : (d : ℕ) → d < DESCRIPTORS → D .region d < regions
+  pub classNumbers : (d : ℕ) → d < DESCRIPTORS → D .class d < CLASSES
 
 -- the map and the marks
 pub record EntriesRelated (regions : ℕ) (e : Entries) (map hands : ℕ → ℕ) : Type 0 where
   pub maps : (r : ℕ) → r < regions → e .map r ≡ map r
-  pub marks : (u : ℕ) → u < 8192 → e .mark u ≡ hands u
+  pub marks : (u : ℕ) → u < UNITS → e .mark u ≡ hands u
 
 -- all but the tasks; the area has the started length
 pub record Core (regions : ℕ) (a : Memory) (m : Mem) : Type 0 where
   pub lists : ListsRelated regions (a .lists) (m .won) (m .row)
   pub descriptors : DescriptorsRelated regions (link (a .area)) (a .descriptors) (m .descriptor)
   pub entries : EntriesRelated regions (a .entries) (m .map) (m .hands)
-  pub length : lib.ListN.length (a .area) ≡ 4096 * regions
+  pub length : lib.ListN.length (a .area) ≡ REGION-BYTES * regions
 
 pub record Related (regions : ℕ) (a : Memory) (m : Mem) : Type 0 where
   pub core : Core regions a m
-  pub slots : (t : ℕ) → t < 8 → SlotRelated regions a m (a .slot t) (m .task t)
+  pub slots : (t : ℕ) → t < TASKS → SlotRelated regions a m (a .slot t) (m .task t)

@@ -1,6 +1,6 @@
 -- What ties the bytes of the stepped run to the plain pool, before and after every event of every run.
 use mathlib.Core.Path.{_≡_}
-use Prim.Native.Nat.{ℕ, _≤_}
+use Prim.Native.Nat.{_≤_}
 use lib.ListN.{length}
 use Rattle.fields.specs.Little.{Bytes}
 use Rattle.plain.specs.Calls.{Pool}
