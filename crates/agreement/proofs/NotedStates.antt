@@ -7,6 +7,7 @@ use native.Mathlib.Omega.{arith}
 use borrow.Author.Tests.{eq-eqb, le-leb, eqb-true, leb-true}
 use lib.Dec.{eqb, leb}
 use lib.ListN.{length}
+use Rattle.limits.specs.Limits.{CONTROL-BYTES, REGIONS, REGION-BYTES, AREA-BYTES, TASKS}
 use Rattle.fields.specs.Columns.{Field, View, Write, _:=_, assign, assigned}
 use Rattle.fields.specs.Little.{Bytes}
 use Rattle.words.specs.Anchor.{FULL}
@@ -29,7 +30,7 @@ use Rattle.agreement.proofs.SoundCalls.{allocate-fit, free-fit, seen-fi
 
 -- the states that the tasks noted, in a control memory
 abbrev pub States : List ℕ → Type 0
-States b = (t : ℕ) → t < 8 → seen b (TaskState t) ≤ FULL
+States b = (t : ℕ) → t < TASKS → seen b (TaskState t) ≤ FULL
 
 -- once it is started
 abbrev pub NotedStates : List ℕ → Type 0
@@ -62,7 +63,7 @@ module _ (t u : ℕ) where
 abbrev left : List ℕ → Outcome → List ℕ
 left b o = changed (o .writes) b
 
-module _ (b : List ℕ) (long : length b ≡ 8192) (old : NotedStates b) where
+module _ (b : List ℕ) (long : length b ≡ CONTROL-BYTES) (old : NotedStates b) where
   -- what follows the tests
   tested-noted : (control area t : ℕ) (x : Outcome) → (Tested control area (seen b) t → Fit t x)
       → NotedStates (left b (Calls.tested control area (seen b) t x))
@@ -74,7 +75,7 @@ module _ (b : List ℕ) (long : length b ≡ 8192) (old : NotedStates b) where
 -- ---- starts
 
 -- a start leaves every noted state 0
-image-noted : (tasks regions : ℕ) → tasks ≤ 8 → regions ≤ 16 → NotedStates (startImage tasks regions)
+image-noted : (tasks regions : ℕ) → tasks ≤ TASKS → regions ≤ REGIONS → NotedStates (startImage tasks regions)
 image-noted tasks regions few small started t l =
     omega (arith, image-view tasks regions few small (TaskState t) (omega (arith, l)), at-state tasks regions t)
 
@@ -84,29 +85,29 @@ unfolding Calls.startIn
 start-noted size area tasks b before old =
     let P : Effect → Type 0 = λ e. NotedStates (e .control) in
     let bytes = length area in
-    branch P (eqb size 8192) (λ e. branch P (eqb (bytes % 4096) 0 && oneTo 65536 bytes)
-    (λ f. branch P (oneTo 8 tasks) (λ g.
-    let l = leb-true bytes 65536 (right-true (leb 1 bytes) (leb bytes 65536) (right-true (eqb (bytes % 4096) 0) (oneTo 65536 bytes) f)) in
-    image-noted tasks (bytes / 4096) (leb-true tasks 8 (right-true (leb 1 tasks) (leb tasks 8) g)) (omega (arith, l)))
+    branch P (eqb size CONTROL-BYTES) (λ e. branch P (eqb (bytes % REGION-BYTES) 0 && oneTo AREA-BYTES bytes)
+    (λ f. branch P (oneTo TASKS tasks) (λ g.
+    let l = leb-true bytes AREA-BYTES (right-true (leb 1 bytes) (leb bytes AREA-BYTES) (right-true (eqb (bytes % REGION-BYTES) 0) (oneTo AREA-BYTES bytes) f)) in
+    image-noted tasks (bytes / REGION-BYTES) (leb-true tasks TASKS (right-true (leb 1 tasks) (leb tasks TASKS) g)) (omega (arith, l)))
     (λ g. old)) (λ f. old)) (λ e. old)
 
 -- an accepted start, whatever was before
 pub accepted-noted : (s : Memories) (area : List ℕ) (tasks : ℕ) → Plain.Area (length area) → Plain.Tasks tasks
-    → NotedStates (stepped (start 8192 area tasks) s .0 .control)
+    → NotedStates (stepped (start CONTROL-BYTES area tasks) s .0 .control)
 unfolding Calls.startIn
 accepted-noted s area tasks a t =
     rw (
-      eq-eqb (length area % 4096) 0 (a .0),
+      eq-eqb (length area % REGION-BYTES) 0 (a .0),
       le-leb 1 (length area) (a .1 .0),
-      le-leb (length area) 65536 (a .1 .1),
+      le-leb (length area) AREA-BYTES (a .1 .1),
       le-leb 1 tasks (t .0),
-      le-leb tasks 8 (t .1),
+      le-leb tasks TASKS (t .1),
     )
-    (image-noted tasks (length area / 4096) (t .1) (omega (arith, a)))
+    (image-noted tasks (length area / REGION-BYTES) (t .1) (omega (arith, a)))
 
 -- ---- every event
 
-pub event-noted : (e : Event) (s : Memories) → length (s .control) ≡ 8192 → Bytes (s .control) → NotedStates (s .control)
+pub event-noted : (e : Event) (s : Memories) → length (s .control) ≡ CONTROL-BYTES → Bytes (s .control) → NotedStates (s .control)
     → NotedStates (stepped e s .0 .control)
 unfolding Calls.allocateOutcome Calls.freeOutcome Calls.stepOutcome
 event-noted (start control area tasks) s long bytes old = start-noted control area tasks (s .control) (s .area) old

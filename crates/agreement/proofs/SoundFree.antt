@@ -143,8 +143,8 @@ module _ (v : View) (fits : Fitting v) (link : ℕ → ℕ) {regions t c : ℕ} 
   state-max : (word : ℕ) → isAnchor word ≡ true → anchorOf word .state ≤ FULL
   state-max word h =
       let a = anchorOf word in
-      let p = left-true (isState (a .state) && leb (a .avail) 512) (leb (a .count) 512) h in
-      leb-true (a .state) FULL (left-true (isState (a .state)) (leb (a .avail) 512) p)
+      let p = left-true (isState (a .state) && leb (a .avail) MOST-BLOCKS) (leb (a .count) MOST-BLOCKS) h in
+      leb-true (a .state) FULL (left-true (isState (a .state)) (leb (a .avail) MOST-BLOCKS) p)
 
   pub f3-exchange : Fit t (Free.f3Exchange v link regions t c)
   unfolding Free.f3Exchange Free.f3ExchangeOf Free.f3Won

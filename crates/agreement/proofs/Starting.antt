@@ -18,8 +18,8 @@ use Rattle.control.specs.declared.answer.Answer.the-variants.{Accepted}
 use Rattle.plain.specs.Calls as Plain
 use Rattle.plain.specs.Invariant.{Good}
 use Rattle.plain.proofs.Starts.{start-inv}
-use Rattle.control.specs.Layout.{layout, Tasks, Regions, seen, DescriptorNext, RegionNext, Top}
-use Rattle.control.specs.Layout.{descriptorNexts, regionNexts, cacheTops}
+use Rattle.control.specs.Layout.{CACHES, layout, Tasks, Regions, seen, DescriptorNext, RegionNext, Top}
+use Rattle.control.specs.Layout.{CACHES, descriptorNexts, regionNexts, cacheTops}
 use Rattle.control.proofs.Fields.{seen-changed}
 use Rattle.stepped.specs.Outcome.{effect, refuse}
 use Rattle.stepped.specs.Ranges.{oneTo}
@@ -28,7 +28,7 @@ use Rattle.stepped.specs.Calls as Stepped
 use Rattle.stepped.specs.Outcome.{Memories}
 use Rattle.agreement.specs.Events.{ran, startOn}
 use Rattle.agreement.proofs.Images.{assigned-same, getLE-zeros, zeros, fill-sound, append-sound}
-use Rattle.agreement.proofs.Starts.{CACHES, zeroed, startView, start-view, at-tasks, at-regions, next-max}
+use Rattle.agreement.proofs.Starts.{zeroed, startView, start-view, at-tasks, at-regions, next-max}
 use Rattle.agreement.proofs.Starts.{start-related}
 use Rattle.agreement.proofs.Views.{views-related}
 use Rattle.agreement.specs.Tied.{Tied}

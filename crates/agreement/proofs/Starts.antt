@@ -9,7 +9,7 @@ use native.Mathlib.Decide.{decLt, ℕ-discrete}
 use borrow.Author.Tests.{eq-eqb, ne-eqb}
 use lib.Dec.{eqb}
 use lib.ListN.{length}
-use Rattle.limits.specs.Limits.{REGIONS, REGION-BYTES, UNITS, TASKS, CLASSES, DESCRIPTORS, SPARE-DESCRIPTORS, SPARE-REGIONS}
+use Rattle.limits.specs.Limits.{REGIONS, REGION-BYTES, UNITS, CLASSES, DESCRIPTORS, SPARE-DESCRIPTORS, SPARE-REGIONS}
 use Rattle.rows.specs.Branch.{if}
 use Rattle.rows.specs.Linked.{Linked, ends, links}
 use Rattle.rows.proofs.Branch.{if-yes}
@@ -18,16 +18,12 @@ use Rattle.words.specs.Head.{itemOf, tagOf}
 use Rattle.words.specs.Mark.{bitAt}
 use Rattle.plain.specs.Steps.{top}
 use Rattle.plain.specs.Calls.{rising, startMem}
-use Rattle.control.specs.Layout.{field, Head, Tasks, Regions, DescriptorNext, RegionNext, Top, TaskState}
+use Rattle.control.specs.Layout.{CACHES, field, Head, Tasks, Regions, DescriptorNext, RegionNext, Top, TaskState}
 use Rattle.control.specs.Layout
 use Rattle.stepped.specs.Start.{fill, nextUp, startWrites}
 use Rattle.agreement.specs.Memory.{memoryOf}
 use Rattle.agreement.specs.Relation.{Related, r-idle}
 use Rattle.agreement.proofs.Images.{assigned-append, filled, other-fill}
-
--- how many caches there are
-abbrev pub CACHES : ℕ
-CACHES = TASKS * CLASSES
 
 -- the view of a memory of zeros
 abbrev pub zeroed : View
