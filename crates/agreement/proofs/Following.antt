@@ -7,6 +7,7 @@ use borrow.Author.Tests.{eq-eqb, ne-eqb, le-leb}
 use lib.Dec.{eqb, leb}
 use lib.ListN.{length}
 use Rattle.fields.specs.Columns.{View, Write, _:=_, assigned, Sound}
+use Rattle.fields.proofs.Layouts.{assigned-same}
 use Rattle.classes.specs.Classes.{perRegion}
 use Rattle.plain.specs.State.{State, EMPTY, PARTIAL, FULL, numberOf, read, offer, Place, pushing, f1, f2, Mem}
 use Rattle.plain.specs.Moves.{Decided, going}
@@ -18,7 +19,7 @@ use Rattle.stepped.specs.Outcome.{accept}
 use Rattle.stepped.specs.Lists as Lists
 use Rattle.agreement.specs.Memory.{memoryOf}
 use Rattle.agreement.specs.Relation.{Related}
-use Rattle.agreement.proofs.Images.{assigned-same}
+
 use Rattle.agreement.proofs.Both.{Both, pass}
 use Rattle.agreement.proofs.Turns.{At, cache-count}
 

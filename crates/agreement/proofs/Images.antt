@@ -32,11 +32,6 @@ pub assigned-append : (ws us : List Write) (v : View) (g : Field) → assigned (
 assigned-append [] us v g = refl
 assigned-append (w ∷ ws) us v g = assigned-append ws us (assign w v) g
 
--- a view at a field depends on the view before at that field alone
-pub assigned-same : (ws : List Write) (v u : View) (g : Field) → v g ≡ u g → assigned ws v g ≡ assigned ws u g
-assigned-same [] v u g e = e
-assigned-same ((f := x) ∷ ws) v u g e = assigned-same ws (assign (f := x) v) (assign (f := x) u) g (rw e)
-
 -- the fields past the first n of a column that are filled are left
 pub past-fill : (k : Column) (x : ℕ → ℕ) (n : ℕ) (v : View) (j : ℕ) → n ≤ j
     → assigned (fill (field k) x n) v (field k j) ≡ v (field k j)

@@ -27,7 +27,8 @@ use Rattle.stepped.specs.Start.{fill, nextUp, startWrites, startImage}
 use Rattle.stepped.specs.Calls as Stepped
 use Rattle.stepped.specs.Outcome.{Memories}
 use Rattle.agreement.specs.Events.{ran, startOn}
-use Rattle.agreement.proofs.Images.{assigned-same, getLE-zeros, zeros, fill-sound, append-sound}
+use Rattle.fields.proofs.Layouts.{assigned-same}
+use Rattle.agreement.proofs.Images.{getLE-zeros, zeros, fill-sound, append-sound}
 use Rattle.agreement.proofs.Starts.{zeroed, startView, start-view, at-tasks, at-regions, next-max}
 use Rattle.agreement.proofs.Starts.{start-related}
 use Rattle.agreement.proofs.Views.{views-related}

@@ -1,6 +1,6 @@
 -- The laws of the places of blocks.
 use mathlib.Core.Path.{_≡_, refl, sym, ap, _∙_}
-use mathlib.Core.Bool.{Bool, true, false, _&&_, false≢true}
+use mathlib.Core.Bool.{true, and-eq-true-iff}
 use Prim.Native.Nat.{ℕ, _+_, _*_, _%_, _≤_, _<_}
 use native.Mathlib.Omega.{arith}
 use native.Mathlib.Decide.{decLt}
@@ -72,16 +72,11 @@ one-place r q c i k h j e = (
   sym (index-again r c i h) ∙ ap (indexOf c) e ∙ index-again q c k j,
 )
 
--- both parts of a test pass
-both-true : (a b : Bool) → (a && b) ≡ true → (a ≡ true) × (b ≡ true)
-both-true true b e = (refl, e)
-both-true false b e = (e, absurd (false≢true e))
-
 -- the test of a first unit passes only at a block
 pub first-block : (c u : ℕ) → isFirst c u ≡ true → Block (regionOf u) c u
 unfolding isFirst
 first-block c u e =
-    let t = both-true (eqb (u % REGION-UNITS % units c) 0) (ltb (indexOf c u) (perRegion c)) e in
+    let t = and-eq-true-iff (eqb (u % REGION-UNITS % units c) 0) (ltb (indexOf c u) (perRegion c)) .0 e in
     let z : u % REGION-UNITS % units c ≡ 0 = eqb-true (u % REGION-UNITS % units c) 0 (t .0) in
     record {
       at = indexOf c u;

@@ -2,7 +2,7 @@
 -- Proved once for every table.
 use mathlib.Core.Path.{_≡_, refl, _∙_, sym, ap}
 use mathlib.Core.List.{List, [], _∷_}
-use mathlib.Core.Bool.{Bool, true, false, _&&_}
+use mathlib.Core.Bool.{true, and-eq-true-iff}
 use Prim.Native.Nat.{ℕ, zero, suc, _+_, _*_, _^_, _≤_, _<_}
 use native.Mathlib.Nat.{mul-zero, mul-one, suc-mul, mul-le-mul-right}
 use native.Mathlib.Omega.{arith}
@@ -26,14 +26,10 @@ times-is i (suc (suc w)) = refl
 step-le : (i j w : ℕ) → i < j → times i w + w ≤ times j w
 step-le i j w h = rw (times-is i w, times-is j w) (omega (arith, suc-mul i w, mul-le-mul-right w h))
 
-and-left : (a b : Bool) → (a && b) ≡ true → a ≡ true
-and-left true b h = refl
-and-left false b h = h
-
-and-right : (a b : Bool) → (a && b) ≡ true → b ≡ true
-and-right true b h = h
-and-right false true h = refl
-and-right false false h = h
+-- an assigned view at a field depends on the view at that field alone
+pub assigned-same : (ws : List Write) (v u : View) (g : Field) → v g ≡ u g → assigned ws v g ≡ assigned ws u g
+assigned-same [] v u g e = e
+assigned-same ((f := x) ∷ ws) v u g e = assigned-same ws (assign (f := x) v) (assign (f := x) u) g (rw e)
 
 -- the byte past the last of the column that starts at s
 abbrev endOf : List Column → ℕ → ℕ
@@ -42,11 +38,11 @@ endOf table s = s + columnOf table s .count * columnOf table s .width
 module _ (size : ℕ) where
   -- the first column of a table in order, and the rest of it
   first : (k : Column) (ks : List Column) (from : ℕ) → inOrder size from (k ∷ ks) ≡ true → from ≤ k .start
-  first k ks from o = leb-true _ _ (and-left (leb from (k .start)) (inOrder size (pastOf k) ks) o)
+  first k ks from o = leb-true _ _ (and-eq-true-iff (leb from (k .start)) (inOrder size (pastOf k) ks) .0 o .0)
 
   rest : (k : Column) (ks : List Column) (from : ℕ) → inOrder size from (k ∷ ks) ≡ true
       → inOrder size (pastOf k) ks ≡ true
-  rest k ks from o = and-right (leb from (k .start)) (inOrder size (pastOf k) ks) o
+  rest k ks from o = and-eq-true-iff (leb from (k .start)) (inOrder size (pastOf k) ks) .0 o .1
 
   -- every column of a table in order starts at or past `from`
   starts : (table : List Column) (from s : ℕ) → inOrder size from table ≡ true → 0 < columnOf table s .count → from ≤ s
@@ -148,18 +144,13 @@ module _ (size : ℕ) (table : List Column) (o : inOrder size 0 table ≡ true) 
       by (yes p) (no q) = rw (eq-eqb _ _ p, ne-eqb _ _ q) (view-other b f g x hf hg (λ _. q))
       by (no p) d = rw (ne-eqb _ _ p) (view-other b f g x hf hg (λ h _. p h))
 
-  -- an assigned view at a field depends on the view at that field alone
-  assigned-at : (ws : List Write) (v u : View) (g : Field) → v g ≡ u g → assigned ws v g ≡ assigned ws u g
-  assigned-at [] v u g e = e
-  assigned-at ((f := x) ∷ ws) v u g e = assigned-at ws (assign (f := x) v) (assign (f := x) u) g (rw e)
-
   -- the view of a run of writes is the view with their fields assigned
   pub view-written : (ws : List Write) (b : List ℕ) (g : Field) → length b ≡ size → Sound table ws → Has table g
       → view table (written table ws b) g ≡ assigned ws (view table b) g
   view-written [] b g e s hg = refl
   view-written ((f := x) ∷ ws) b g e s hg =
       view-written ws (write table (f := x) b) g (length-setLE b (at table f) (width table f) x ∙ e) (s .1) hg
-      ∙ assigned-at ws (view table (write table (f := x) b)) (assign (f := x) (view table b)) g
+      ∙ assigned-same ws (view table (write table (f := x) b)) (assign (f := x) (view table b)) g
       (view-write b f g x e (s .0 .0) hg (s .0 .1))
 
 -- writes keep the memory's length
