@@ -161,7 +161,8 @@ module _ {v : View} {t : ℕ} where
   ends (refused h) = record { nothing = λ n e. (refl, refl); answers = h; idle = λ i. absurd i }
   ends (going h) = record { nothing = λ n e. absurd (accepted-no e); answers = tt; idle = λ i. absurd i }
   ends (ended {a = a} k h) =
-      record { nothing = λ n e. absurd (subst (Cause v t) e k); answers = cause-goes stepRefusals v t a k; idle = λ i. h }
+      let G = cause-goes stepRefusals v t a k in
+      record { nothing = λ n e. absurd (subst (Cause v t) e k); answers = G; idle = λ i. h }
 
   -- why a request ends with the answer a
   cause : {o : Outcome} → CallEnding v t o → (a : Answer) → IsEnd a → o .answer ≡ a → Cause v t a

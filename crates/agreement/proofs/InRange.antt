@@ -97,7 +97,8 @@ module _ (regions : ℕ) (v : View) (area : List ℕ) (m : Mem) (t : ℕ) where
   freeing (r-f3-exchange e G N l i) = frees (omega arith) (omega arith) refl (omega (arith, when-same u 1))
   freeing (r-f4-clear {w = z} e i) = owes (λ f. omega (arith, owed-one z d (sym i ∙ f))) refl (omega (arith, when-same u 1))
 
-  module _ {p : Place} {k : ℕ → List ℕ} (w : Pair regions (memoryOf v area) m t p k) (noted : v (TaskState t) ≤ FULL) where
+  module _ {p : Place} {k : ℕ → List ℕ} (w : Pair regions (memoryOf v area) m t p k)
+      (noted : v (TaskState t) ≤ FULL) where
     abbrev c : ℕ
     c = v (TaskClass t)
 

@@ -47,8 +47,8 @@ pub answered : (es : List Event) (s₁ : Memories) → Unstarted s₁ → Premis
 answered es s₁ U p = same-answers es s₁ unstarted (agreement es s₁ U p)
 
 -- the same from an accepted start on any memories
-pub answered-from-start : (es : List Event) (s₁ : Memories) (s : Pool) (area : List ℕ) (tasks : ℕ) → Plain.Area (length area)
-    → Plain.Tasks tasks → Premises es (whole (start 8192 area tasks) s .0)
+pub answered-from-start : (es : List Event) (s₁ : Memories) (s : Pool) (area : List ℕ) (tasks : ℕ)
+    → Plain.Area (length area) → Plain.Tasks tasks → Premises es (whole (start 8192 area tasks) s .0)
     → steppedAnswers (start 8192 area tasks ∷ es) s₁ ≡ wholeAnswers (start 8192 area tasks ∷ es) s
 answered-from-start es s₁ s area tasks a t p =
     same-answers (start 8192 area tasks ∷ es) s₁ s (agreement-from-start es s₁ s area tasks a t p)

@@ -108,7 +108,8 @@ module _ {t u : ℕ} (other : u ≢ t) where
   write-keeps : (f : Field) (x : ℕ) → Own t (f := x) → (v : View) → assign (f := x) v (TaskPlace u) ≡ v (TaskPlace u)
   write-keeps f x own v = by (eqb (f .column) (TaskPlace u .column)) _ own
     where
-      by : (b : Bool) (X : Type 0) → cond b (f .index ≡ t) X → cond (b && eqb (f .index) u) x (v (TaskPlace u)) ≡ v (TaskPlace u)
+      by : (b : Bool) (X : Type 0) → cond b (f .index ≡ t) X
+          → cond (b && eqb (f .index) u) x (v (TaskPlace u)) ≡ v (TaskPlace u)
       by true X e = rw (ne-eqb (f .index) u (λ h. other (sym h ∙ e))) refl
       by false X e = refl
 

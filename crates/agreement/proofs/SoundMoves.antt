@@ -39,8 +39,8 @@ abbrev pub Owns : ℕ → List Write → Type 0
 Owns t [] = Unit {0}
 Owns t (w ∷ ws) = Own t w × Owns t ws
 
--- writes of a call of the task t: each is to a field of the layout and fits there, to no other task's place, and notes no
--- state but the three
+-- writes of a call of the task t: each is to a field of the layout and fits there, to no other task's place, and notes
+-- no state but the three
 pub record Written (t : ℕ) (ws : List Write) : Type 0 where
   pub sound : Sound layout ws
   pub own : Owns t ws

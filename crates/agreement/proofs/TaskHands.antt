@@ -54,7 +54,8 @@ note-in {m} {c} {d} {n} N =
     omega (arith, N .state, N .avail, number-max (n .state), first-max (m .descriptor d .region) c (n .first) (N .first))
 
 -- a task that noted one of the three states
-module _ (regions : ℕ) (v : View) (area : List ℕ) (m : Mem) (t : ℕ) (k : ℕ → List ℕ) (noted : v (TaskState t) ≤ FULL) where
+module _ (regions : ℕ) (v : View) (area : List ℕ) (m : Mem) (t : ℕ) (k : ℕ → List ℕ)
+    (noted : v (TaskState t) ≤ FULL) where
   abbrev c : ℕ
   c = v (TaskClass t)
 

@@ -1,23 +1,25 @@
--- An allocation of the plain pool that no other task disturbs and that opens a region: of whichever task, in a pool of whatever
--- size. It takes n + 10 steps, and gives the last block of the region that it opens.
+-- An allocation of the plain pool that no other task disturbs and that opens a region: of whichever task, in a pool of
+-- whatever size. It takes n + 10 steps, and gives the last block of the region that it opens.
 use mathlib.Core.Path.{_≡_, refl, ap, subst, _∙_}
 use mathlib.Core.List.{List, [], _∷_, _++_, map}
 use Prim.Native.Nat.{ℕ, zero, suc, _+_, _-_}
 use native.Mathlib.Omega.{arith}
 use native.Mathlib.Decide.{ℕ-discrete}
 use lib.ListN.{replicate}
-use Rattle.rows.specs.Branch.{if}
+use Rattle.limits.specs.Limits.{SPARE-DESCRIPTORS, SPARE-REGIONS}
 use Rattle.rows.specs.Update.{update}
 use Rattle.rows.proofs.Branch.{if-yes, if-no}
 use Rattle.rows.proofs.Update.{update-same, update-other}
 use Rattle.classes.specs.Classes.{perRegion}
 use Rattle.classes.specs.Places.{unitOf}
-use Rattle.classes.proofs.Tables.{perRegion-low}
-use Rattle.plain.specs.State.{FULL, read, next, exchange, Pop, partial, spare, region, a1, popping, a7, a8, Task, Mem, SPARES, REGIONS}
-use Rattle.plain.specs.State.{setTask, setRow, setDescriptor, setMap}
+use Rattle.plain.specs.State.{FULL, read, next, exchange, Pop, partial, spare, region, Place, a1, popping, a7, a8}
+use Rattle.plain.specs.State.{Descriptor, Task, Mem, setTask, setRow, setDescriptor, setMap}
 use Rattle.plain.specs.Moves.{Decided, nothing, found-empty, popped, Answer, going, finished}
-use Rattle.plain.specs.Steps.{popList, whenPopped, step, stepAt, at, popRead, popTake, popLost, a1Step}
-use Rattle.plain.proofs.Places.{taskOf}
+use Rattle.plain.specs.Steps.{popList, whenPopped, step, stepAt, popRead, popTake, popLost, a1Step}
+
+-- a task at work at the place p
+abbrev pub busy : Place → (ℕ → List ℕ) → Task
+busy p k = record { place = p; cache = k }
 
 -- a code and a value
 abbrev pub brief : Answer → ℕ × ℕ
@@ -40,7 +42,9 @@ module _ (t : ℕ) where
 
   pub told : {unit n : ℕ} {m : Mem} → Finishes unit n m → map brief (taskAnswers (suc n) m) ≡ finishing n unit
   told (last p) = ap (λ r. brief (r .1) ∷ []) p
-  told (more {n = n} p F) = ap (λ r. brief (r .1) ∷ map brief (taskAnswers (suc n) (r .0))) p ∙ ap (λ q. (0, 0) ∷ q) (told F)
+  told (more {n = n} p F) =
+      ap (λ r. brief (r .1) ∷ map brief (taskAnswers (suc n) (r .0))) p
+      ∙ ap (λ q. (0, 0) ∷ q) (told F)
 
   -- the step of the task T
   taken : (m : Mem) (T : Task) → m .task t ≡ T → step t m ≡ stepAt t (T .cache) (T .place) m
@@ -55,52 +59,61 @@ module _ (t : ℕ) where
 
   module _ (c : ℕ) where
     -- step 1, with a block x in the cache
-    takes : {m : Mem} (k : ℕ → List ℕ) (x : ℕ) (q : List ℕ) → m .task t ≡ taskOf (a1 c) (update k c (x ∷ q)) → Finishes x 0 m
+    takes : {m : Mem} (k : ℕ → List ℕ) (x : ℕ) (q : List ℕ) → m .task t ≡ busy (a1 c) (update k c (x ∷ q))
+        → Finishes x 0 m
     takes {m} k x q is =
         let K = update k c (x ∷ q) in
-        last (taken m (taskOf (a1 c) K) is ∙ ap (λ z. a1Step t K c z m) (update-same k c (x ∷ q)))
+        last (taken m (busy (a1 c) K) is ∙ ap (λ z. a1Step t K c z m) (update-same k c (x ∷ q)))
 
     -- step 8: the blocks i to b of the region r are carved, and b is the last
-    carves : (r b j i : ℕ) → i + j ≡ b → suc b ≡ perRegion c → {m : Mem} (k : ℕ → List ℕ) → m .task t ≡ taskOf (a8 c r i) k
-        → Finishes (unitOf r c b) (suc j) m
+    carves : (r b j i : ℕ) → i + j ≡ b → suc b ≡ perRegion c → {m : Mem} (k : ℕ → List ℕ)
+        → m .task t ≡ busy (a8 c r i) k → Finishes (unitOf r c b) (suc j) m
     carves r b zero i e l {m} k is =
-        on (taskOf (a8 c r i) k) (taskOf (a1 c) (update k c (unitOf r c i ∷ k c))) m nothing is
+        let T′ = busy (a1 c) (update k c (unitOf r c i ∷ k c)) in
+        on (busy (a8 c r i) k) T′ m nothing is
         (rw (if-yes (ℕ-discrete (suc i) (perRegion c)) (a1 c) (a8 c r (suc i)) (omega arith)))
-        (λ T. subst (λ x. Finishes x 0 (at t (update k c (unitOf r c i ∷ k c)) (a1 c) m)) (ap (unitOf r c) (omega arith))
+        (λ T. subst (λ x. Finishes x 0 (setTask t T′ m)) (ap (unitOf r c) (omega arith))
         (takes k (unitOf r c i) (k c) T))
     carves r b (suc j) i e l {m} k is =
-        on (taskOf (a8 c r i) k) (taskOf (a8 c r (suc i)) (update k c (unitOf r c i ∷ k c))) m nothing is
+        let K = update k c (unitOf r c i ∷ k c) in
+        on (busy (a8 c r i) k) (busy (a8 c r (suc i)) K) m nothing is
         (rw (if-no (ℕ-discrete (suc i) (perRegion c)) (a1 c) (a8 c r (suc i)) (omega arith)))
-        (λ T. carves r b j (suc i) (omega arith) l (update k c (unitOf r c i ∷ k c)) T)
+        (λ T. carves r b j (suc i) (omega arith) l K T)
 
-    -- a pop, by its three steps: its list is x ∷ q, and it leads to the place `to`
+    -- a pop, by its three steps, of a list whose row is x ∷ q
     pops : {unit n : ℕ} {m : Mem} (k : ℕ → List ℕ) (p : Pop) (x : ℕ) (q : List ℕ) → m .row (popList p) ≡ x ∷ q
-        → m .task t ≡ taskOf (popping p read) k
-        → ((m′ : Mem) → m′ .row ≡ update (m .row) (popList p) q → m′ .task t ≡ taskOf (whenPopped p x) k → Finishes unit n m′)
+        → m .task t ≡ busy (popping p read) k
+        → ((m′ : Mem) → m′ .row ≡ update (m .row) (popList p) q → m′ .task t ≡ busy (whenPopped p x) k
+        → Finishes unit n m′)
         → Finishes unit (suc (suc (suc n))) m
     pops {m = m} k p x q row is rest =
         let ℓ = popList p in
         let won = m .won ℓ in
-        let m₁ = at t k (popping p (next won)) m in
-        let m₂ = at t k (popping p (exchange won)) m₁ in
-        on (taskOf (popping p read) k) (taskOf (popping p (next won)) k) m nothing is (ap (λ z. popRead t k p z m) row) (λ T₁.
-        on (taskOf (popping p (next won)) k) (taskOf (popping p (exchange won)) k) m₁ nothing T₁ refl (λ T₂.
-        on (taskOf (popping p (exchange won)) k) (taskOf (whenPopped p x) k) (setRow ℓ q m₂) (popped ℓ x) T₂
-        (if-yes (ℕ-discrete won won) (popTake t k p (m .row ℓ) m₂) (popLost t k p m₂) refl ∙ ap (λ z. popTake t k p z m₂) row)
-        (rest (at t k (whenPopped p x) (setRow ℓ q m₂)) refl)))
+        let T₁ = busy (popping p (next won)) k in
+        let T₂ = busy (popping p (exchange won)) k in
+        let m₂ = setTask t T₂ (setTask t T₁ m) in
+        on (busy (popping p read) k) T₁ m nothing is (ap (λ z. popRead t k p z m) row) (λ e₁.
+        on T₁ T₂ (setTask t T₁ m) nothing e₁ refl (λ e₂.
+        on T₂ (busy (whenPopped p x) k) (setRow ℓ q m₂) (popped ℓ x) e₂
+        (if-yes (ℕ-discrete won won) (popTake t k p (m .row ℓ) m₂) (popLost t k p m₂) refl
+        ∙ ap (λ z. popTake t k p z m₂) row)
+        (rest (setTask t (busy (whenPopped p x) k) (setRow ℓ q m₂)) refl)))
 
-    -- The whole of it: the class's cache and its list are empty, there are a spare descriptor d and a spare region r, and b is the
-    -- last block of a region.
-    pub opens : {m : Mem} (k : ℕ → List ℕ) (d r b : ℕ) (ds rs : List ℕ) → k c ≡ [] → m .row c ≡ [] → m .row SPARES ≡ d ∷ ds
-        → m .row REGIONS ≡ r ∷ rs → suc b ≡ perRegion c → m .task t ≡ taskOf (a1 c) k → Finishes (unitOf r c b) (b + 10) m
+    -- The whole of it: the class's cache and its list are empty, there are a spare descriptor d and a spare region r,
+    -- and b is the last block of a region.
+    pub opens : {m : Mem} (k : ℕ → List ℕ) (d r b : ℕ) (ds rs : List ℕ) → k c ≡ [] → m .row c ≡ []
+        → m .row SPARE-DESCRIPTORS ≡ d ∷ ds → m .row SPARE-REGIONS ≡ r ∷ rs → suc b ≡ perRegion c
+        → m .task t ≡ busy (a1 c) k → Finishes (unitOf r c b) (b + 10) m
     opens {m} k d r b ds rs none unlisted spares regions l is =
-        let m₁ = at t k (popping (partial c) read) m in
+        let T₁ = busy (popping (partial c) read) k in
+        let m₁ = setTask t T₁ m in
+        let D : Descriptor = record { state = FULL; region = r; class = c; chain = [] } in
+        let left = update-other (m .row) SPARE-DESCRIPTORS ds SPARE-REGIONS (omega arith) ∙ regions in
         subst (λ n. Finishes (unitOf r c b) n m) (omega arith)
-        (on (taskOf (a1 c) k) (taskOf (popping (partial c) read) k) m nothing is (ap (λ z. a1Step t k c z m) none) (λ T₁.
-        on (taskOf (popping (partial c) read) k) (taskOf (popping (spare c) read) k) m₁ (found-empty c) T₁
-        (ap (λ z. popRead t k (partial c) z m₁) unlisted) (λ T₂.
-        pops k (spare c) d ds spares T₂ (λ m₃ row₃ T₃.
-        pops k (region c d) r rs (ap (λ (f : ℕ → List ℕ). f REGIONS) row₃ ∙ update-other (m .row) SPARES ds REGIONS (omega arith) ∙ regions) T₃ (λ m₄ row₄ T₄.
-        on (taskOf (a7 c d r) k) (taskOf (a8 c r 0) k)
-        (setMap r (suc d) (setDescriptor d (record { state = FULL; region = r; class = c; chain = [] }) m₄)) nothing T₄ refl
-        (λ T₅. carves r b b 0 (omega arith) l k T₅))))))
+        (on (busy (a1 c) k) T₁ m nothing is (ap (λ z. a1Step t k c z m) none) (λ e₁.
+        on T₁ (busy (popping (spare c) read) k) m₁ (found-empty c) e₁
+        (ap (λ z. popRead t k (partial c) z m₁) unlisted) (λ e₂.
+        pops k (spare c) d ds spares e₂ (λ m₃ row₃ e₃.
+        pops k (region c d) r rs (ap (λ (f : ℕ → List ℕ). f SPARE-REGIONS) row₃ ∙ left) e₃ (λ m₄ row₄ e₄.
+        on (busy (a7 c d r) k) (busy (a8 c r 0) k) (setMap r (suc d) (setDescriptor d D m₄)) nothing e₄ refl
+        (λ e₅. carves r b b 0 (omega arith) l k e₅))))))

@@ -102,8 +102,8 @@ Cause v t NoDescriptor = FindsEmpty Spare v t
 Cause v t NoRegion = WinsPush Back v t
 Cause v t (Refused n) = ⊥
 
--- How a step of the task t ends: with a refusal by one of the numbers ns, with the request under way, or with the request's
--- end. It comes to the push back from the empty list of spare regions, or from that push itself.
+-- How a step of the task t ends: with a refusal by one of the numbers ns, with the request under way, or with the
+-- request's end. It comes to the push back from the empty list of spare regions, or from that push itself.
 pub data Ending (ns : List ℕ) (v : View) (t : ℕ) : Outcome → Type 0 where
   refused : {n : ℕ} → oneOf ns n ≡ true → Ending ns v t (refuse n)
   going : {e : Decided} {ws : List Write} {ls : List LinkWrite}

@@ -114,10 +114,10 @@ module _ (lent left : Memories) (r : ℕ) where
       let G = subst (Goes stepRefusals) (R .1) (step-ends control area (seen (lent .control)) (link (lent .area)) t .answers) in
       ap (oneOf stepRefusals) (C .number ∙ ap numberOf (R .1)) ∙ G
 
-  -- .. and where all of its tests pass, by 14 alone: "14 comes where the bad value is read". A place past the step list is such a
-  -- value.
-  pub step-refused-by-14 : (t : ℕ) → Contract (step t) lent left r → Passes (stepTests control area (seen (lent .control)) t)
-      → Refusal r → r ≡ 14
+  -- .. and where all of its tests pass, by 14 alone: "14 comes where the bad value is read". A place past the step list
+  -- is such a value.
+  pub step-refused-by-14 : (t : ℕ) → Contract (step t) lent left r
+      → Passes (stepTests control area (seen (lent .control)) t) → Refusal r → r ≡ 14
   step-refused-by-14 t C P h =
       let v = seen (lent .control) in
       let ts = stepTests control area v t in
@@ -125,7 +125,9 @@ module _ (lent left : Memories) (r : ℕ) where
       let a = stepAt v (link (lent .area)) (v Regions) t (v (TaskClass t)) (v (TaskPlace t)) .answer in
       let e : r ≡ numberOf a = step-refused-first t C ∙ none-failed ts (numberOf a) P in
       let R = refused a (subst Refusal e h) in
-      let G = place-goes control area v (link (lent .area)) t (ltb-true (v (TaskClass t)) 16 (Q .1 .0)) (ltb-true 0 (v (TaskPlace t)) (Q .0)) in
+      let class = ltb-true (v (TaskClass t)) 16 (Q .1 .0) in
+      let busy = ltb-true 0 (v (TaskPlace t)) (Q .0) in
+      let G = place-goes control area v (link (lent .area)) t class busy in
       e ∙ ap numberOf (R .1) ∙ only 14 (R .0) (subst (Goes placeRefusals) (R .1) G)
 
   -- "A size gets the smallest class that holds it."
