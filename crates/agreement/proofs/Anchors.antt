@@ -59,7 +59,7 @@ use Rattle.agreement.proofs.Sharing.{shares}
 
 module _ {regions : ℕ} {v : View} {area : List ℕ} {m : Mem} {t : ℕ} {p : Place} {k : ℕ → List ℕ}
     (w : At regions v area m t p k) where
-  -- the anchor of one of the 64 descriptors is in its ranges
+  -- a descriptor's anchor is in its ranges
   pub anchor-tested : (d : ℕ) → d < DESCRIPTORS → isAnchor (v (Layout.Anchor d)) ≡ true
   anchor-tested d l =
       let C = w .pair .rel .core in

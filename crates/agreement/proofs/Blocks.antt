@@ -58,7 +58,7 @@ module _ {regions : ℕ} {a : Memory} {m : Mem} {t : ℕ} {p : Place} {k : ℕ �
   pub under-unit : (v : ℕ) → 1 ≤ count v (underWay p) → Ranges.isBlock regions (classAt p) v ≡ true
   under-unit v h = home-unit (home-of (w .turn) v h)
 
-  -- the top of a cache is a unit, or 8192
+  -- the top of a cache is a unit, or the bottom
   pub top-max : (c f : ℕ) (q : List ℕ) → Linked (link (a .area)) (λ u. u) UNITS f q → ((v : ℕ) → count v q ≤ count v (k c)) → f ≤ UNITS
   top-max c f q (ends e) h = omega arith
   top-max c f q (links {u = u} e i) h = omega (arith, w .small, home-below (cached-home c u (omega (arith, h u, when-same u 1))))

@@ -99,7 +99,6 @@ pushed {a = a} {t = t} {k = k} w u x n s p′ o i e f j pl =
 
 module _ {regions : ℕ} {v : View} {area : List ℕ} {m : Mem} {t : ℕ} {p : Place} {k : ℕ → List ℕ}
     (w : At regions v area m t p k) where
-  -- the cache's top, as it is read, is a unit or 8,192
   -- the top of the cache passes its test
   pub top-tested : isTop regions (v (TaskClass t)) (v (CacheCount t (v (TaskClass t)))) (v (CacheTop t (v (TaskClass t)))) ≡ true
   top-tested =

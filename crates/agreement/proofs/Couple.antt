@@ -2,7 +2,7 @@
 use mathlib.Core.Path.{_≡_, refl, ap, subst, _∙_}
 use mathlib.Core.Logic.{_≢_}
 use mathlib.Core.List.{List, [], _∷_}
-use Prim.Native.Nat.{ℕ, _*_, _≤_, _<_}
+use Prim.Native.Nat.{ℕ, _*_, _^_, _≤_, _<_}
 use native.Mathlib.Omega.{arith}
 use lib.ListN.{length}
 use Rattle.limits.specs.Limits.{REGIONS, REGION-BYTES, TASKS, DESCRIPTORS}
@@ -16,7 +16,7 @@ use Rattle.rows.proofs.Weights.{below-is, below-max, when-same}
 use Rattle.classes.specs.Places.{Block}
 use Rattle.classes.proofs.Places.{inside}
 use Rattle.classes.proofs.Tables.{units-low}
-use Rattle.links.specs.Link.{_⇒_, link, withLink}
+use Rattle.links.specs.Link.{LINK-BYTES, _⇒_, link, withLink}
 use Rattle.links.proofs.Links.{length-linked, link-other, link-same}
 use Rattle.plain.specs.State.{Mem, Place, Task, region, setTask}
 use Rattle.plain.specs.Blocks.{isBlock}
@@ -79,7 +79,7 @@ module _ {regions : ℕ} {m : Mem} (I : Invariant regions m) where
       let r = m .descriptor (b .d) .region in
       below-is r regions (omega (arith, total-one DESCRIPTORS (openWeight r) (m .descriptor) (b .d) (b .fits), I .regions r, b .counts (one r r), when-same r 1))
 
-  pub reads : (a : List ℕ) (u x : ℕ) → length a ≡ REGION-BYTES * regions → 1 ≤ total DESCRIPTORS (insideWeight u) (m .descriptor) → x < 4294967296 → link (withLink a u x) u ≡ x
+  pub reads : (a : List ℕ) (u x : ℕ) → length a ≡ REGION-BYTES * regions → 1 ≤ total DESCRIPTORS (insideWeight u) (m .descriptor) → x < 256 ^ LINK-BYTES → link (withLink a u x) u ≡ x
   reads a u x l p h =
       let b = valid m u p in
       link-same a u x (omega (arith, region-below b, inside (b .block), units-low (m .descriptor (b .d) .class))) h
@@ -179,5 +179,5 @@ module _ {regions : ℕ} {a : Memory} {m : Mem} {t : ℕ} {p : Place} {k : ℕ �
   agrees u x q o sub n v e =
       link-other (a .area) u x v (λ f. absurd (omega (arith, ap (λ (z : ℕ). count z q) f)))
 
-  pub written : (u x : ℕ) → 1 ≤ blockWeight u t (taskOf p k) → x < 4294967296 → link (withLink (a .area) u x) u ≡ x
+  pub written : (u x : ℕ) → 1 ≤ blockWeight u t (taskOf p k) → x < 256 ^ LINK-BYTES → link (withLink (a .area) u x) u ≡ x
   written u x o h = reads (w .turn .inv) (a .area) u x (w .rel .core .length) (own-block u o .0) h

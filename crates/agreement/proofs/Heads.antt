@@ -1,4 +1,4 @@
--- The eighteen lists, for pops and pushes alike: what the relation says of one, and the steps that both moves have.
+-- The lists, for pops and pushes alike: what the relation says of one, and the steps that both moves have.
 use mathlib.Core.Path.{_≡_, refl, _∙_}
 use mathlib.Core.Logic.{_≢_}
 use mathlib.Core.Bool.{cond}
@@ -12,7 +12,7 @@ use Rattle.limits.specs.Limits.{DESCRIPTORS, TAGS, SPARE-REGIONS, LISTS}
 use Rattle.rows.specs.Branch.{if}
 use Rattle.rows.specs.Linked.{Linked}
 use Rattle.fields.specs.Columns.{Field, View, Write, _:=_, assigned}
-use Rattle.words.specs.Head.{itemOf, tagOf, headOf, advancedWord}
+use Rattle.words.specs.Head.{ITEMS, itemOf, tagOf, headOf, advancedWord}
 use Rattle.words.specs.declared.head.Head.{Head as HeadWord}
 use Rattle.words.proofs.Heads.{itemOf-advanced, tagOf-advanced}
 use Rattle.plain.specs.State.{Place, Mem, setRow}
@@ -154,7 +154,7 @@ module _ {regions : ℕ} {v : View} {area : List ℕ} {m : Mem} {t : ℕ} {p : P
   wins {ℓ} {x = x} {q = q} K W ws s p′ e own others f g pl =
       let word = v (TaskHead t) in
       let new = headOf (advancedWord word x) in
-      let i : x < 4294967296 = omega (arith, W .most) in
+      let i : x < ITEMS = omega (arith, W .most) in
       shares w ws s p′ (setHead ℓ new (memoryOf v area)) (setRow ℓ q m)
       (heading (w .pair) ℓ new q s (taskOf p′ k) (tagOf-advanced word x i ∙ W .tag)
       (of-descriptors v K (rw (itemOf-advanced word x i) (W .linked)))

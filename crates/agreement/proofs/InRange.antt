@@ -106,14 +106,14 @@ module _ (regions : ℕ) (v : View) (area : List ℕ) (m : Mem) (t : ℕ) where
     freed-unit : classAt p ≡ c → 1 ≤ count u (underWay p) → isBlock regions c u ≡ true
     freed-unit e h = subst (λ (z : ℕ). isBlock regions z u ≡ true) e (under-unit w u h)
 
-    -- at the places of a free, which are 17 to 22 and 28 to 33
+    -- at the places of a free: the two pushes, and its own steps
     unit-at : Freeing v t p → PUSH-RELEASE ≤ v (TaskPlace t) → (A3-READ ≤ v (TaskPlace t) → F1 ≤ v (TaskPlace t)) → isBlock regions c u ≡ true
     unit-at (allocates h) i j = absurd (omega arith)
     unit-at (fills h l) i j = absurd (omega (arith, j h))
     unit-at (frees h l e o) i j = freed-unit e o
     unit-at (owes f e o) i j = freed-unit e o
 
-    -- at those where a descriptor may be owed, which are 17 to 19 and 33
+    -- at those where a descriptor may be owed: the map entry is cleared, and the region released
     owed-at : Freeing v t p → PUSH-RELEASE ≤ v (TaskPlace t) → (PUSH-OFFER ≤ v (TaskPlace t) → F4-CLEAR ≤ v (TaskPlace t)) → v (TaskState t) ≡ FULL → d < DESCRIPTORS
     owed-at (allocates h) i j f = absurd (omega arith)
     owed-at (fills h l) i j f = absurd (omega (arith, j (omega arith)))

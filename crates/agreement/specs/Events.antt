@@ -122,7 +122,7 @@ Premises (e ∷ es) s = Premise e s × Premises es (whole e s .0)
 
 -- ---- the beginning
 
--- The memories that the runs may begin with: a control memory of 8,192 bytes that is not started, as all zeros are, whatever
+-- The memories that the runs may begin with: a control memory of its length that is not started, as all zeros are, whatever
 -- else it holds; and any area, for no call but a start takes one.
 pub record Unstarted (s₁ : Memories) : Type 0 where
   pub length : lib.ListN.length (s₁ .control) ≡ CONTROL-BYTES

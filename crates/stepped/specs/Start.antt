@@ -17,7 +17,7 @@ fill f x (suc n) = f n := x n ∷ fill f x n
 abbrev pub nextUp : ℕ → ℕ → ℕ
 nextUp n i = cond (eqb (i + 1) n) 0 (i + 2)
 
--- what differs from zero: "both spare lists rising from item 0 on top", and 8,192 as the top of each empty cache
+-- what differs from zero: "both spare lists rising from item 0 on top", and the bottom as the top of each empty cache
 unfoldable pub startWrites : ℕ → ℕ → List Write
 startWrites tasks regions =
     Tasks := tasks
