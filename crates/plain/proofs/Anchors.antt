@@ -1,9 +1,9 @@
 -- The exchange of an anchor: a descriptor's state and chain change, its region and class stay.
--- Assumes nothing.
 use mathlib.Core.Path.{_≡_, refl, ap, _∙_}
 use mathlib.Core.List.{List}
 use Prim.Native.Nat.{ℕ, suc, _+_, _≤_, _<_}
 use native.Mathlib.Omega.{arith}
+use Rattle.limits.specs.Limits.{TASKS, CLASSES, DESCRIPTORS}
 use Rattle.rows.specs.Tests.{same, other, same?}
 use Rattle.rows.specs.Update.{update}
 use Rattle.rows.specs.Weights.{when, one}
@@ -15,12 +15,11 @@ use Rattle.rows.proofs.Totals.{total-one, total-update}
 use Rattle.plain.specs.State.{EMPTY, Descriptor, Place, Task, Mem, setDescriptor}
 use Rattle.plain.specs.Steps.{at}
 use Rattle.plain.specs.States.{IsOpen, IfOpen, IfEmpty, isFull, isEmpty}
-use Rattle.plain.specs.Held.{Held, held, blockIn, classBlockIn, descriptorIn, spareIn, listedIn}
-use Rattle.plain.specs.Held.{regionIn, unmappedIn}
-use Rattle.plain.specs.Weights.{insideWeight, insideClassWeight, chainWeight, chainClassWeight}
-use Rattle.plain.specs.Weights.{openWeight, fullWeight, descriptorWeight, descriptorClassWeight}
-use Rattle.plain.specs.Weights.{spareWeight}
-use Rattle.plain.specs.Places.{HoldsAt, NoteHolds}
+use Rattle.plain.specs.Held.{Held, held, blockIn, classBlockIn, descriptorIn, spareIn, listedIn, regionIn}
+use Rattle.plain.specs.Held.{unmappedIn}
+use Rattle.plain.specs.Weights.{insideWeight, insideClassWeight, chainWeight, chainClassWeight, openWeight}
+use Rattle.plain.specs.Weights.{fullWeight, descriptorWeight, descriptorClassWeight, spareWeight}
+use Rattle.plain.specs.Places.{NoteHolds, Holds}
 use Rattle.plain.specs.Invariant.{OpenDescriptor, ClosedDescriptor, Invariant}
 use Rattle.plain.proofs.States.{open-holds, open-asks, open-not-empty, empty-is}
 use Rattle.plain.proofs.Notes.{as-before}
@@ -31,17 +30,17 @@ use Rattle.plain.proofs.Places.{taskOf, lengths}
 
 module _ {area : ℕ} {m : Mem} {t : ℕ} {T : Task} (w : Turn area m t T) where
   -- It is one of the 64, and not FULL.
-  pub in-hand : (d : ℕ) → 1 ≤ descriptorWeight d t T → (d < 64) × (isFull (m .descriptor d .state) ≡ 0)
+  pub in-hand : (d : ℕ) → 1 ≤ descriptorWeight d t T → (d < DESCRIPTORS) × (isFull (m .descriptor d .state) ≡ 0)
   in-hand d h =
       let s = w .inv .descriptors d in
-      let a = total-one 8 (descriptorWeight d) (m .task) t (w .fits) in
+      let a = total-one TASKS (descriptorWeight d) (m .task) t (w .fits) in
       let b = ap (descriptorWeight d t) (w .is) in
-      let l : d < 64 = below-is d 64 (omega arith) in (
+      let l : d < DESCRIPTORS = below-is d DESCRIPTORS (omega arith) in (
         l,
         omega (
           arith,
-          below-max d 64,
-          total-one 64 (fullWeight d) (m .descriptor) d l,
+          below-max d DESCRIPTORS,
+          total-one DESCRIPTORS (fullWeight d) (m .descriptor) d l,
           when-same d (isFull (m .descriptor d .state)),
         ),
       )
@@ -51,16 +50,16 @@ module _ {area : ℕ} {m : Mem} {t : ℕ} {T : Task} (w : Turn area m t T) where
   spare-empty d h = empty-is (m .descriptor d .state) (omega (
     arith,
     w .inv .spares d,
-    total-one 8 (spareWeight d) (m .task) t (w .fits),
+    total-one TASKS (spareWeight d) (m .task) t (w .fits),
     ap (spareWeight d t) (w .is),
   ))
 
   -- If it is held for a class, it is of that class.
-  pub class-of : (c d : ℕ) → c < 16 → 1 ≤ descriptorClassWeight c d t T → c ≡ m .descriptor d .class
+  pub class-of : (c d : ℕ) → c < CLASSES → 1 ≤ descriptorClassWeight c d t T → c ≡ m .descriptor d .class
   class-of c d l h = when-is c (m .descriptor d .class) 1 (omega (
     arith,
     w .inv .classes c d l,
-    total-one 8 (descriptorClassWeight c d) (m .task) t (w .fits),
+    total-one TASKS (descriptorClassWeight c d) (m .task) t (w .fits),
     ap (descriptorClassWeight c d t) (w .is),
   )) .0
 
@@ -68,7 +67,7 @@ module _ {area : ℕ} {m : Mem} {t : ℕ} {T : Task} (w : Turn area m t T) where
 
 -- what an exchange of the anchor of d, which becomes E, has to show; the task has h under way, and then h′
 pub record Anchored (m : Mem) (d : ℕ) (E : Descriptor) (h h′ : Held) : Type 0 where
-  pub fits : d < 64
+  pub fits : d < DESCRIPTORS
   pub counts : IsOpen (m .descriptor d .state)
   pub class : E .class ≡ m .descriptor d .class
   pub region : E .region ≡ m .descriptor d .region
@@ -91,20 +90,20 @@ pub record Anchored (m : Mem) (d : ℕ) (E : Descriptor) (h h′ : Held) : Type 
 module _ {area : ℕ} {m : Mem} {t : ℕ} {p : Place} {k : ℕ → List ℕ} (w : Turn area m t (taskOf p k)) where
   -- Such an exchange keeps the invariant.
   pub anchored : {h′ : Held} (p′ : Place) (d : ℕ) (E : Descriptor) → held p′ ≡ h′ → Anchored m d E (held p) h′
-      → HoldsAt (m .map) k p′ → NoteHolds (m .row) (m .won) p′
+      → Holds k p′ → NoteHolds (m .row) (m .won) (m .map) p′
       → Invariant area (at t k p′ (setDescriptor d E m))
   anchored p′ d E e a o n = turn-inv w _ (taskOf p′ k) refl (record {
     descriptors = λ x. omega (
       arith,
       a .descriptors x,
       ap (descriptorIn x) e,
-      total-update 64 (fullWeight x) (m .descriptor) d E (a .fits),
+      total-update DESCRIPTORS (fullWeight x) (m .descriptor) d E (a .fits),
     );
     regions = λ r. omega (
       arith,
       a .regions r,
       ap (regionIn r) e,
-      total-update 64 (openWeight r) (m .descriptor) d E (a .fits),
+      total-update DESCRIPTORS (openWeight r) (m .descriptor) d E (a .fits),
     );
     classes = classes;
     spares = λ x. fewer (omega (
@@ -119,22 +118,22 @@ module _ {area : ℕ} {m : Mem} {t : ℕ} {p : Place} {k : ℕ → List ℕ} (w 
       arith,
       a .blocks v,
       ap (blockIn v) e,
-      total-update 64 (chainWeight v) (m .descriptor) d E (a .fits),
-      total-update 64 (insideWeight v) (m .descriptor) d E (a .fits),
+      total-update DESCRIPTORS (chainWeight v) (m .descriptor) d E (a .fits),
+      total-update DESCRIPTORS (insideWeight v) (m .descriptor) d E (a .fits),
     );
     blockClasses = λ c v. omega (
       arith,
       w .inv .blockClasses c v,
       a .blockClasses c v,
       ap (classBlockIn c v) e,
-      total-update 64 (chainClassWeight c v) (m .descriptor) d E (a .fits),
-      total-update 64 (insideClassWeight c v) (m .descriptor) d E (a .fits),
+      total-update DESCRIPTORS (chainClassWeight c v) (m .descriptor) d E (a .fits),
+      total-update DESCRIPTORS (insideClassWeight c v) (m .descriptor) d E (a .fits),
     );
-    chains = update-all (λ j F. j < 64 → IfOpen (F .state) (OpenDescriptor F)) (m .descriptor) d E
+    chains = update-all (λ j F. j < DESCRIPTORS → IfOpen (F .state) (OpenDescriptor F)) (m .descriptor) d E
         (λ l. a .chain) (λ j n. w .inv .chains j);
-    closed = update-all (λ j F. j < 64 → IfEmpty (F .state) (ClosedDescriptor F)) (m .descriptor) d E
+    closed = update-all (λ j F. j < DESCRIPTORS → IfEmpty (F .state) (ClosedDescriptor F)) (m .descriptor) d E
         (λ l. a .closed) (λ j n. w .inv .closed j);
-    maps = update-all (λ j F. j < 64 → IfOpen (F .state) (m .map (F .region) ≡ suc j)) (m .descriptor) d E
+    maps = update-all (λ j F. j < DESCRIPTORS → IfOpen (F .state) (m .map (F .region) ≡ suc j)) (m .descriptor) d E
         (λ l. open-asks (E .state) (still-named l)) (λ j n. w .inv .maps j);
     entries = w .inv .entries;
     unmapped = λ r. as-mapped (omega (arith, a .unmapped r, ap (unmappedIn r) e)) refl;
@@ -143,7 +142,7 @@ module _ {area : ℕ} {m : Mem} {t : ℕ} {p : Place} {k : ℕ → List ℕ} (w 
     exchanges = λ ℓ. as-before refl refl;
   })
     where
-      still-named : d < 64 → m .map (E .region) ≡ suc d
+      still-named : d < DESCRIPTORS → m .map (E .region) ≡ suc d
       still-named l =
           ap (m .map) (a .region) ∙ open-holds (m .descriptor d .state) (a .counts) (w .inv .maps d l)
 
@@ -155,11 +154,11 @@ module _ {area : ℕ} {m : Mem} {t : ℕ} {p : Place} {k : ℕ → List ℕ} (w 
         ap (λ (z : ℕ). when x d (one c z)) (a .class),
       )
 
-      classes : (c x : ℕ) → c < 16 → Asked
+      classes : (c x : ℕ) → c < CLASSES → Asked
           (count x (m .row c) + descriptorClassWeight c x t (taskOf p k))
           (count x (m .row c) + descriptorClassWeight c x t (taskOf p′ k))
           (one c (m .descriptor x .class)) (one c (update (m .descriptor) d E x .class))
-          (total 64 (fullWeight x) (update (m .descriptor) d E))
+          (total DESCRIPTORS (fullWeight x) (update (m .descriptor) d E))
       classes c x l = elim (same? x d) [
         | same f ↦ elim (same? c (m .descriptor d .class)) [
           | same g ↦ (

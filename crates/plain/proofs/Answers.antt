@@ -1,55 +1,53 @@
 -- What a call answers, in every state: never 14; 12 and 13 at an empty list alone; at most one more won
 -- exchange.
--- Assumes nothing.
 use mathlib.Core.Path.{_≡_, refl, sym, ap, _∙_}
 use mathlib.Core.Logic.{_≢_}
 use mathlib.Core.List.{List}
 use Prim.Native.Nat.{ℕ, zero, suc, _*_, _≤_, _<_}
 use native.Mathlib.Omega.{arith}
 use native.Mathlib.Decide.{ℕ-discrete, decLt}
+use Rattle.limits.specs.Limits.{CONTROL-BYTES, REGION-BYTES, MOST-BYTES, SPARE-DESCRIPTORS}
 use Rattle.rows.specs.Branch.{both}
 use Rattle.rows.proofs.Branch.{if-yes, if-no}
 use Rattle.rows.proofs.Update.{update-same}
 use Rattle.classes.specs.Places.{regionOf}
-use Rattle.plain.specs.State.{read, spare, region, back, Place, idle, a1, popping, pushing, a3-read}
-use Rattle.plain.specs.State.{a3-exchange, a4, a7, a8, f1, f2, f3-read, f3-link, f3-exchange, f4-clear, Task}
-use Rattle.plain.specs.State.{SPARES, Mem}
+use Rattle.plain.specs.State.{read, spare, region, back, Place, idle, pushing, Task, Mem, working}
 use Rattle.plain.specs.Moves.{found-empty, pushed, Answer, ended, refused}
-use Rattle.plain.specs.Steps.{Result, popRead, pushPut, stepAt, step}
-use Rattle.plain.specs.Calls.{Pool, Call, start, allocate, free, go, startMem, area?, tasks?, opens?, first?}
-use Rattle.plain.specs.Calls.{freeBy, whenIdle, refuse, became, tested, call}
-use Rattle.plain.specs.Codes.{StepCode, under-way, no-request, no-descriptor, no-region, finishes}
-use Rattle.plain.specs.Codes.{ReadsNoSpare, PushesBack, ReadsNoRegion, CallIs, starts, begins}
-use Rattle.plain.specs.Codes.{steps, EndsBy12, EndsBy13, AtMost}
+use Rattle.plain.specs.Steps.{Result, popRead, pushPut, stepAt, stepOf, stepOf, whenWorking}
+use Rattle.plain.specs.Calls.{Pool, Call, start, allocate, free, startMem, area?, tasks?, opens?, first?, freeBy}
+use Rattle.plain.specs.Calls.{whenIdle, refuse, became, tested, call, Lengths, step}
+use Rattle.plain.specs.Codes.{StepCode, under-way, no-request, no-descriptor, no-region, finishes, ReadsNoSpare}
+use Rattle.plain.specs.Codes.{PushesBack, ReadsNoRegion, CallIs, starts, begins, steps, EndsBy12, EndsBy13}
+use Rattle.plain.specs.Codes.{AtMost}
 use Rattle.plain.proofs.Tests.{either}
 use Rattle.plain.proofs.Codes.{step-facts}
 
 -- ---- 12 and 13 always come at these reads and exchanges
 
 -- A step that reads the empty list of spare descriptors ends the request with 12.
-pub always-12 : (t : ℕ) (m : Mem) → ReadsNoSpare t m → step t m .1 ≡ ended 12 (found-empty SPARES)
-unfolding step
+pub always-12 : (t : ℕ) (m : Mem) → ReadsNoSpare t m → stepOf t m .1 ≡ ended 12 (found-empty SPARE-DESCRIPTORS)
+unfolding stepOf
 always-12 t m r =
     let k = m .task t .cache in
-    ap (λ (p : Place). stepAt t k p m .1) (r .place)
+    ap (λ (p : Place). whenWorking p (λ w. stepAt t k w m) m .1) (r .place)
     ∙ ap (λ (q : List ℕ). popRead t k (spare (r .c)) q m .1) (r .row)
 
 -- A step that wins the exchange that pushes a descriptor back ends the request with 13.
-pub always-13 : (t : ℕ) (m : Mem) (d : ℕ) → PushesBack t m d → step t m .1 ≡ ended 13 (pushed SPARES d)
-unfolding step
+pub always-13 : (t : ℕ) (m : Mem) (d : ℕ) → PushesBack t m d → stepOf t m .1 ≡ ended 13 (pushed SPARE-DESCRIPTORS d)
+unfolding stepOf
 always-13 t m d r =
     let k = m .task t .cache in
-    ap (λ (p : Place). stepAt t k p m .1) (r .place)
+    ap (λ (p : Place). whenWorking p (λ w. stepAt t k w m) m .1) (r .place)
     ∙ ap (λ (x : Result). x .1)
-    (if-yes (ℕ-discrete (m .won SPARES) (r .n)) (pushPut t k (back (r .c) d) m) _ (r .won))
+    (if-yes (ℕ-discrete (m .won SPARE-DESCRIPTORS) (r .n)) (pushPut t k (back (r .c) d) m) _ (r .won))
 
 -- A step that reads the empty list of spare regions goes to that push.
 pub always-back : (t : ℕ) (m : Mem) (c d : ℕ) → ReadsNoRegion t m c d
-    → step t m .0 .task t .place ≡ pushing (back c d) read
-unfolding step
+    → stepOf t m .0 .task t .place ≡ working (pushing (back c d) read)
+unfolding stepOf
 always-back t m c d r =
     let k = m .task t .cache in
-    ap (λ (p : Place). stepAt t k p m .0 .task t .place) (r .place)
+    ap (λ (p : Place). whenWorking p (λ w. stepAt t k w m) m .0 .task t .place) (r .place)
     ∙ ap (λ (q : List ℕ). popRead t k (region c d) q m .0 .task t .place) (r .row)
     ∙ ap (λ (T : Task). T .place) (update-same (m .task) t _)
 
@@ -69,20 +67,7 @@ module _ (c : Call) (s : Pool) where
 
   small-idle : (p : Place) (x : Result) → Small x → Small (whenIdle p x (s .mem))
   small-idle idle x h = h
-  small-idle (a1 c) x h = small 6 (omega arith)
-  small-idle (popping p φ) x h = small 6 (omega arith)
-  small-idle (pushing p φ) x h = small 6 (omega arith)
-  small-idle (a3-read c d) x h = small 6 (omega arith)
-  small-idle (a3-exchange c d n) x h = small 6 (omega arith)
-  small-idle (a4 c y q) x h = small 6 (omega arith)
-  small-idle (a7 c d r) x h = small 6 (omega arith)
-  small-idle (a8 c r i) x h = small 6 (omega arith)
-  small-idle (f1 c u) x h = small 6 (omega arith)
-  small-idle (f2 c u g) x h = small 6 (omega arith)
-  small-idle (f3-read c u y g) x h = small 6 (omega arith)
-  small-idle (f3-link c u y g d n) x h = small 6 (omega arith)
-  small-idle (f3-exchange c u y g d n) x h = small 6 (omega arith)
-  small-idle (f4-clear c u d w r) x h = small 6 (omega arith)
+  small-idle (working w) x h = small 6 (omega arith)
 
   small-free : (z t u : ℕ) → Small (freeBy z t u (s .mem))
   small-free zero t u = small 10 (omega arith)
@@ -94,12 +79,12 @@ module _ (c : Call) (s : Pool) where
       (λ a. small 10 (omega arith))
 
   -- the tests of a call that is no start
-  tested-is : (control area t : ℕ) (x : Result) → (t < s .tasks → CallIs c s (became s x))
-      → CallIs c s (tested control area t s x)
-  tested-is control area t x h =
-      either (CallIs c s) (ℕ-discrete control 8192) _ _
+  tested-is : (t : ℕ) (lent : Lengths) (x : Result) → (t < s .tasks → CallIs c s (became s x))
+      → CallIs c s (tested t lent s x)
+  tested-is t lent x h =
+      either (CallIs c s) (ℕ-discrete (lent .control) CONTROL-BYTES) _ _
       (λ a. either (CallIs c s) (ℕ-discrete (s .tasks) 0) _ _ (λ b. refuses 4 (omega arith))
-      (λ b. either (CallIs c s) (ℕ-discrete area (4096 * s .regions)) _ _
+      (λ b. either (CallIs c s) (ℕ-discrete (lent .area) (REGION-BYTES * s .regions)) _ _
       (λ d. either (CallIs c s) (decLt t (s .tasks)) _ _ h (λ e. refuses 5 (omega arith)))
       (λ d. refuses 2 (omega arith))))
       (λ a. refuses 1 (omega arith))
@@ -108,38 +93,38 @@ module _ (c : Call) (s : Pool) where
   begins-is x h = begins (h .0) refl (h .1)
 
 -- A call is a start, a refusal or beginning, or a step.
-pub call-is : (c : Call) (s : Pool) → CallIs c s (call c s)
+pub call-is : (c : Call) (lent : Lengths) (s : Pool) → CallIs c s (call c lent s)
 unfolding call startMem
-call-is (start control area n) s =
-    let c = start control area n in
-    either (CallIs c s) (ℕ-discrete control 8192) _ _
-    (λ a. either (CallIs c s) (area? area) _ _
-    (λ b. either (CallIs c s) (tasks? n) _ _
+call-is (start n) lent s =
+    let c = start n in
+    either (CallIs c s) (ℕ-discrete (lent .control) CONTROL-BYTES) _ _
+    (λ a. either (CallIs c s) (area? (lent .area)) _ _
+    (λ b. either (CallIs c s) (tasks? (n .tasks)) _ _
     (λ d. starts refl (λ ℓ. refl)) (λ d. refuses c s 3 (omega arith)))
     (λ b. refuses c s 2 (omega arith)))
     (λ a. refuses c s 1 (omega arith))
-call-is (allocate control area t size) s =
-    let c = allocate control area t size in
-    tested-is c s control area t _ (λ l. begins-is c s _ (small-idle c s (s .mem .task t .place) _
+call-is (allocate t size) lent s =
+    let c = allocate t size in
+    tested-is c s t lent _ (λ l. begins-is c s _ (small-idle c s (s .mem .task t .place) _
     (either (Small c s) (ℕ-discrete size 0) _ _ (λ a. small c s 8 (omega arith))
-    (λ a. either (Small c s) (decLt 256 size) _ _
+    (λ a. either (Small c s) (decLt MOST-BYTES size) _ _
     (λ b. small c s 9 (omega arith)) (λ b. (omega arith, λ ℓ. refl))))))
-call-is (free control area t u) s =
-    let c = free control area t u in
-    tested-is c s control area t _ (λ l. begins-is c s _ (small-idle c s (s .mem .task t .place) _
+call-is (free t u) lent s =
+    let c = free t u in
+    tested-is c s t lent _ (λ l. begins-is c s _ (small-idle c s (s .mem .task t .place) _
     (either (Small c s) (decLt (regionOf u) (s .regions)) _ _
     (λ a. small-free c s (s .mem .map (regionOf u)) t u) (λ a. small c s 10 (omega arith)))))
-call-is (go control area t) s =
-    tested-is (go control area t) s control area t (step t (s .mem)) (λ l. steps control area t refl l refl)
+call-is (step t) lent s =
+    tested-is (step t) s t lent (stepOf t (s .mem)) (λ l. steps t refl l refl)
 
 -- A step call that passes the tests is a step of its task.
-pub go-is-step : (area t : ℕ) (s : Pool) → t < s .tasks → area ≡ 4096 * s .regions
-    → call (go 8192 area t) s ≡ became s (step t (s .mem))
+pub step-is-step : (t : ℕ) (lent : Lengths) (s : Pool) → t < s .tasks → lent .control ≡ CONTROL-BYTES
+    → lent .area ≡ REGION-BYTES * s .regions → call (step t) lent s ≡ became s (stepOf t (s .mem))
 unfolding call
-go-is-step area t s l e =
-    if-yes (ℕ-discrete 8192 8192) _ _ refl
+step-is-step t lent s l c e =
+    if-yes (ℕ-discrete (lent .control) CONTROL-BYTES) _ _ c
     ∙ if-no (ℕ-discrete (s .tasks) 0) _ _ (omega arith)
-    ∙ if-yes (ℕ-discrete area (4096 * s .regions)) _ _ e
+    ∙ if-yes (ℕ-discrete (lent .area) (REGION-BYTES * s .regions)) _ _ e
     ∙ if-yes (decLt t (s .tasks)) _ _ l
 
 -- ---- what follows
@@ -158,23 +143,23 @@ step-not-14 n no-region e = absurd (omega arith)
 step-not-14 n finishes e = absurd (omega arith)
 
 -- No call answers 14.
-pub never-14 : (c : Call) (s : Pool) → call c s .1 .code ≢ 14
-never-14 c s = go-on (call-is c s)
+pub never-14 : (c : Call) (lent : Lengths) (s : Pool) → call c lent s .1 .code ≢ 14
+never-14 c lent s = go-on (call-is c lent s)
   where
-    go-on : CallIs c s (call c s) → call c s .1 .code ≢ 14
+    go-on : CallIs c s (call c lent s) → call c lent s .1 .code ≢ 14
     go-on (starts h w) e = absurd (omega arith)
     go-on (begins h k w) e = absurd (omega arith)
-    go-on (steps control area t f l h) e =
-        step-not-14 (step t (s .mem) .1 .code) (step-facts t (s .mem) .code) (answer-code s h e)
+    go-on (steps t f l h) e =
+        step-not-14 (stepOf t (s .mem) .1 .code) (step-facts t (s .mem) .code) (answer-code s h e)
 
 -- Each call adds at most one won exchange to each list of a started pool.
-pub most : (n : ℕ) (c : Call) (s : Pool) → AtMost n s → AtMost (suc n) (call c s .0)
-most n c s g = go-on (call-is c s)
+pub most : (n : ℕ) (c : Call) (lent : Lengths) (s : Pool) → AtMost n s → AtMost (suc n) (call c lent s .0)
+most n c lent s g = go-on (call-is c lent s)
   where
-    go-on : CallIs c s (call c s) → AtMost (suc n) (call c s .0)
+    go-on : CallIs c s (call c lent s) → AtMost (suc n) (call c lent s .0)
     go-on (starts h w) i ℓ = omega (arith, w ℓ)
     go-on (begins h k w) i ℓ = omega (arith, w ℓ, g (omega arith) ℓ)
-    go-on (steps control area t f l h) i ℓ =
+    go-on (steps t f l h) i ℓ =
         omega (
           arith,
           ap (λ (x : Pool × Answer). x .0 .mem .won ℓ) h,
@@ -183,24 +168,24 @@ most n c s g = go-on (call-is c s)
         )
 
 -- A call answers 12 only if it is a step that reads the empty list of spare descriptors.
-pub only-12 : (c : Call) (s : Pool) → call c s .1 .code ≡ 12 → EndsBy12 s (call c s .1)
-only-12 c s = go-on (call-is c s)
+pub only-12 : (c : Call) (lent : Lengths) (s : Pool) → call c lent s .1 .code ≡ 12 → EndsBy12 s (call c lent s .1)
+only-12 c lent s = go-on (call-is c lent s)
   where
-    go-on : CallIs c s (call c s) → call c s .1 .code ≡ 12 → EndsBy12 s (call c s .1)
+    go-on : CallIs c s (call c lent s) → call c lent s .1 .code ≡ 12 → EndsBy12 s (call c lent s .1)
     go-on (starts h w) e = absurd (omega arith)
     go-on (begins h k w) e = absurd (omega arith)
-    go-on (steps control area t f l h) e =
+    go-on (steps t f l h) e =
         let r = step-facts t (s .mem) .twelve (answer-code s h e) in
         record { t = t; fits = l; reads = r .0; decided = ap (λ (x : Pool × Answer). x .1 .decided) h ∙ r .1 }
 
 -- A call answers 13 only if it is a step that wins the exchange that pushes a descriptor back.
-pub only-13 : (c : Call) (s : Pool) → call c s .1 .code ≡ 13 → EndsBy13 s (call c s .1)
-only-13 c s = go-on (call-is c s)
+pub only-13 : (c : Call) (lent : Lengths) (s : Pool) → call c lent s .1 .code ≡ 13 → EndsBy13 s (call c lent s .1)
+only-13 c lent s = go-on (call-is c lent s)
   where
-    go-on : CallIs c s (call c s) → call c s .1 .code ≡ 13 → EndsBy13 s (call c s .1)
+    go-on : CallIs c s (call c lent s) → call c lent s .1 .code ≡ 13 → EndsBy13 s (call c lent s .1)
     go-on (starts h w) e = absurd (omega arith)
     go-on (begins h k w) e = absurd (omega arith)
-    go-on (steps control area t f l h) e =
+    go-on (steps t f l h) e =
         let r = step-facts t (s .mem) .thirteen (answer-code s h e) in
         record {
           t = t;

@@ -1,10 +1,10 @@
 -- The invariant after the beginning of a request.
--- Assumes nothing.
 use mathlib.Core.Path.{_≡_, refl, ap}
 use mathlib.Core.Logic.{_≢_}
 use Prim.Native.Nat.{ℕ, zero, suc, _+_, _≤_, _<_}
 use native.Mathlib.Omega.{arith}
 use native.Mathlib.Decide.{ℕ-discrete, decLt}
+use Rattle.limits.specs.Limits.{TASKS, CLASSES, DESCRIPTORS, MOST-BYTES}
 use Rattle.rows.specs.Tests.{Same, same, other, same?}
 use Rattle.rows.specs.Branch.{both}
 use Rattle.rows.specs.Weights.{when, one}
@@ -14,13 +14,13 @@ use Rattle.rows.proofs.Weights.{when-same, when-other, when-max, when-zero, wei
 use Rattle.rows.proofs.Totals.{total-le, total-one}
 use Rattle.classes.specs.Places.{regionOf, Block}
 use Rattle.classes.proofs.Sizes.{is-class}
-use Rattle.plain.specs.State.{idle, f1, Task, Mem}
+use Rattle.plain.specs.State.{idle, f1, Task, Mem, working}
 use Rattle.plain.specs.Calls.{beginAllocate, Opens, opens?, First, first?, freeIn, freeBy}
 use Rattle.plain.specs.Blocks.{isBlock}
 use Rattle.plain.specs.States.{IsOpen}
 use Rattle.plain.specs.Held.{classAt, underWay}
-use Rattle.plain.specs.Weights.{rowWeight, insideClassWeight, chainWeight, chainClassWeight}
-use Rattle.plain.specs.Weights.{blockWeight, blockClassWeight}
+use Rattle.plain.specs.Weights.{rowWeight, insideClassWeight, chainWeight, chainClassWeight, blockWeight}
+use Rattle.plain.specs.Weights.{blockClassWeight}
 use Rattle.plain.specs.Invariant.{OpenDescriptor, Invariant}
 use Rattle.plain.proofs.Tests.{either, Kept}
 use Rattle.plain.proofs.Blocks.{block-counts, first-is-block}
@@ -31,16 +31,16 @@ use Rattle.plain.proofs.Turn.{Turn, fewer, as-mapped, turn-inv}
 use Rattle.plain.proofs.Places.{taskOf, turnAt, placed-empty}
 
 -- What a task has for a class, it has.
-class-block : (c v : ℕ) (T : Task) → c < 16 → blockClassWeight c v 0 T ≤ blockWeight v 0 T
+class-block : (c v : ℕ) (T : Task) → c < CLASSES → blockClassWeight c v 0 T ≤ blockWeight v 0 T
 class-block c v T l = omega (
   arith,
-  total-one 16 (rowWeight v) (T .cache) c l,
+  total-one CLASSES (rowWeight v) (T .cache) c l,
   when-max c (classAt (T .place)) (count v (underWay (T .place))),
 )
 
 -- ---- the block of a free, u, is in a user's hands; d opens its region
 
-module _ {area : ℕ} {m : Mem} (I : Invariant area m) (d u : ℕ) (l : d < 64)
+module _ {area : ℕ} {m : Mem} (I : Invariant area m) (d u : ℕ) (l : d < DESCRIPTORS)
     (b : Opens (m .descriptor d) (regionOf u) × First (m .descriptor d .class) u) where
   region-open : IsOpen (m .descriptor d .state)
   region-open = open-is (m .descriptor d .state) (b .0 .1)
@@ -49,13 +49,13 @@ module _ {area : ℕ} {m : Mem} (I : Invariant area m) (d u : ℕ) (l : d < 64)
   opened = open-holds (m .descriptor d .state) region-open (I .chains d l)
 
   -- It is a block of an open region of the class.
-  is-block : 1 ≤ total 64 (insideClassWeight (m .descriptor d .class) u) (m .descriptor)
+  is-block : 1 ≤ total DESCRIPTORS (insideClassWeight (m .descriptor d .class) u) (m .descriptor)
   is-block =
       let D = m .descriptor d in
       let B : Block (D .region) (D .class) u = rw (b .0 .0) (first-is-block (D .class) u (b .1)) in
       omega (
         arith,
-        total-one 64 (insideClassWeight (D .class) u) (m .descriptor) d l,
+        total-one DESCRIPTORS (insideClassWeight (D .class) u) (m .descriptor) d l,
         region-open (when (D .class) (D .class) (isBlock u (D .region) (D .class))),
         when-same (D .class) (isBlock u (D .region) (D .class)),
         block-counts B,
@@ -63,28 +63,28 @@ module _ {area : ℕ} {m : Mem} (I : Invariant area m) (d u : ℕ) (l : d < 64)
 
   -- It is nowhere else.
   in-hands : m .hands u ≢ 0
-      → (m .hands u ≡ 1) × (total 8 (blockWeight u) (m .task) ≡ 0) × (total 64 (chainWeight u) (m .descriptor) ≡ 0)
+      → (m .hands u ≡ 1) × (total TASKS (blockWeight u) (m .task) ≡ 0) × (total DESCRIPTORS (chainWeight u) (m .descriptor) ≡ 0)
   in-hands n = omega (arith, I .blocks u, inside-open I u)
 
   -- So no task has it for the class, nor is it in a chain of the class.
-  for-no-class : m .hands u ≢ 0 → (total 8 (blockClassWeight (m .descriptor d .class) u) (m .task) ≡ 0)
-      × (total 64 (chainClassWeight (m .descriptor d .class) u) (m .descriptor) ≡ 0)
+  for-no-class : m .hands u ≢ 0 → (total TASKS (blockClassWeight (m .descriptor d .class) u) (m .task) ≡ 0)
+      × (total DESCRIPTORS (chainClassWeight (m .descriptor d .class) u) (m .descriptor) ≡ 0)
   for-no-class n =
       let c = m .descriptor d .class in
       omega (
         arith,
         in-hands n,
-        total-le 8 (blockClassWeight c u) (blockWeight u) (m .task)
+        total-le TASKS (blockClassWeight c u) (blockWeight u) (m .task)
             (λ i g. class-block c u (m .task i) (opened .fits)),
-        total-le 64 (chainClassWeight c u) (chainWeight u) (m .descriptor) (λ i g.
+        total-le DESCRIPTORS (chainClassWeight c u) (chainWeight u) (m .descriptor) (λ i g.
             let E = m .descriptor i in
             open-le (E .state) (when-max c (E .class) (count u (E .chain)))),
       )
 
   -- One more block of the class may be under way.
   one-under-way : m .hands u ≢ 0 → (f v : ℕ) → Same v u → Same f (m .descriptor d .class)
-      → total 8 (blockClassWeight f v) (m .task) + when f (m .descriptor d .class) (one v u + 0)
-      + total 64 (chainClassWeight f v) (m .descriptor) ≤ total 64 (insideClassWeight f v) (m .descriptor)
+      → total TASKS (blockClassWeight f v) (m .task) + when f (m .descriptor d .class) (one v u + 0)
+      + total DESCRIPTORS (chainClassWeight f v) (m .descriptor) ≤ total DESCRIPTORS (insideClassWeight f v) (m .descriptor)
   one-under-way n f v (same x) (same z) =
       let c = m .descriptor d .class in
       rw (x, z) (omega (arith, is-block, for-no-class n, when-max c c (one u u + 0), when-same u 1))
@@ -96,7 +96,7 @@ module _ {area : ℕ} {m : Mem} (I : Invariant area m) (d u : ℕ) (l : d < 64)
 
 -- ---- the beginnings
 
-module _ {area : ℕ} {m : Mem} (t : ℕ) (l : t < 8) (I : Invariant area m) (e : m .task t .place ≡ idle) where
+module _ {area : ℕ} {m : Mem} (t : ℕ) (l : t < TASKS) (I : Invariant area m) (e : m .task t .place ≡ idle) where
   turn : Turn area m t (taskOf idle (m .task t .cache))
   turn = turnAt I l e
 
@@ -104,16 +104,16 @@ module _ {area : ℕ} {m : Mem} (t : ℕ) (l : t < 8) (I : Invariant area m) (e 
   pub allocate-inv : (size : ℕ) → Kept area (beginAllocate t size m)
   allocate-inv size =
       either (Kept area) (ℕ-discrete size 0) _ _ (λ a. I)
-      (λ a. either (Kept area) (decLt 256 size) _ _ (λ b. I)
+      (λ a. either (Kept area) (decLt MOST-BYTES size) _ _ (λ b. I)
       (λ b. placed-empty turn _ refl refl (is-class size (omega arith)) tt))
 
   -- The beginning of a free: the block leaves the user's hands and is under way.
-  pub free-inv : (d u : ℕ) → d < 64 → Kept area (freeIn (m .descriptor d) t u m)
+  pub free-inv : (d u : ℕ) → d < DESCRIPTORS → Kept area (freeIn (m .descriptor d) t u m)
   free-inv d u h =
       let D = m .descriptor d in
       either (Kept area) (both (opens? D (regionOf u)) (first? (D .class) u)) _ _
       (λ b. either (Kept area) (ℕ-discrete (m .hands u) 0) _ _ (λ n. I)
-      (λ n. turn-inv turn _ (taskOf (f1 (D .class) u) (m .task t .cache)) refl (record {
+      (λ n. turn-inv turn _ (taskOf (working (f1 (D .class) u)) (m .task t .cache)) refl (record {
         descriptors = λ x. omega arith;
         regions = λ r. omega arith;
         classes = λ c x g. fewer (omega (arith, when-zero c 0, when-zero c (D .class)));
@@ -138,6 +138,6 @@ module _ {area : ℕ} {m : Mem} (t : ℕ) (l : t < 8) (I : Invariant area m) (e 
       (λ b. I)
 
   -- The same by the map's entry of the unit's region.
-  pub free-by-inv : (u z : ℕ) → z ≤ 64 → Kept area (freeBy z t u m)
+  pub free-by-inv : (u z : ℕ) → z ≤ DESCRIPTORS → Kept area (freeBy z t u m)
   free-by-inv u zero h = I
   free-by-inv u (suc d) h = free-inv d u h

@@ -1,11 +1,11 @@
 -- The blocks of a region as a row: each block stands in it once, and nothing else does.
--- Assumes nothing.
 use mathlib.Core.Path.{_≡_, refl, ap}
 use mathlib.Core.Logic.{_≢_}
 use Prim.Native.Nat.{ℕ, zero, suc, _+_, _%_, _≤_, _<_}
 use native.Mathlib.Omega.{arith}
 use native.Mathlib.Nat.{div-add-mod, mul-le-mul-left}
 use lib.ListN.{length}
+use Rattle.limits.specs.Limits.{REGION-UNITS}
 use Rattle.rows.specs.Tests.{same, other, same?, before, after, order?}
 use Rattle.rows.specs.Weights.{one}
 use Rattle.rows.specs.Counting.{count}
@@ -92,9 +92,9 @@ isBlock-region r c v = elim (order? 0 (isBlock v r c)) [
 -- What test 10 of a free finds to be the first unit of a block is a block, ..
 pub first-is-block : (c u : ℕ) → First c u → Block (regionOf u) c u
 first-is-block c u f =
-    record { at = indexOf c u; below = f .1; is = omega (arith, div-add-mod (u % 512) (units c), f .0) }
+    record { at = indexOf c u; below = f .1; is = omega (arith, div-add-mod (u % REGION-UNITS) (units c), f .0) }
 
 -- .. and it finds every block to be one.
 pub block-is-first : {r c u : ℕ} → Block r c u → First c u
 block-is-first {r} {c} {u} b =
-    (omega (arith, div-add-mod (u % 512) (units c), unit-again b, region-is b), index-below b)
+    (omega (arith, div-add-mod (u % REGION-UNITS) (units c), unit-again b, region-is b), index-below b)

@@ -1,11 +1,11 @@
 -- The steps that move blocks between the task's own cache and what it has under way.
--- Assumes nothing.
 use mathlib.Core.Path.{_≡_, refl, sym, ap, _∙_}
-use mathlib.Core.List.{List, [], _∷_, _++_}
+use mathlib.Core.List.{List, _∷_, _++_, []}
 use Prim.Native.Nat.{ℕ, suc, _+_, _-_, _≤_, _<_}
 use native.Mathlib.Omega.{arith}
 use native.Mathlib.Decide.{ℕ-discrete, decLt}
 use lib.ListN.{length, length-append}
+use Rattle.limits.specs.Limits.{TASKS, CLASSES}
 use Rattle.rows.specs.Tests.{same, other, same?}
 use Rattle.rows.specs.Branch.{if}
 use Rattle.rows.specs.Update.{update}
@@ -19,13 +19,13 @@ use Rattle.rows.proofs.Totals.{total-one, total-update}
 use Rattle.classes.specs.Classes.{perRegion}
 use Rattle.classes.specs.Places.{unitOf, regionOf}
 use Rattle.classes.proofs.Tables.{perRegion-low}
-use Rattle.plain.specs.State.{Place, idle, a1, a4, a8, f1, f2, Task, Mem}
+use Rattle.plain.specs.State.{Place, idle, a1, a4, a8, f1, f2, Task, Mem, working}
 use Rattle.plain.specs.Steps.{cached, a1Step, a8Step, f1Step, f2Step, stepAt}
 use Rattle.plain.specs.Blocks.{blocksFrom}
-use Rattle.plain.specs.Held.{hold, held, blockIn, classBlockIn, descriptorIn, spareIn, listedIn}
-use Rattle.plain.specs.Held.{regionIn, unmappedIn, underWay}
+use Rattle.plain.specs.Held.{hold, held, blockIn, classBlockIn, descriptorIn, spareIn, listedIn, regionIn}
+use Rattle.plain.specs.Held.{unmappedIn, underWay}
 use Rattle.plain.specs.Weights.{rowWeight, blockWeight}
-use Rattle.plain.specs.Places.{Together, HoldsAt, NoteHolds}
+use Rattle.plain.specs.Places.{Together, NoteHolds, Holds}
 use Rattle.plain.specs.Invariant.{Invariant}
 use Rattle.plain.proofs.Tests.{either, Kept}
 use Rattle.plain.proofs.Homes.{inside-open}
@@ -46,11 +46,11 @@ module _ {area : ℕ} {m : Mem} {t : ℕ} {p : Place} {k : ℕ → List ℕ} (w 
   -- A step that makes the cache of the class c the row q, and leaves the blocks b′ under way, where b were, keeps
   -- the invariant if each block is as often in both together as before.
   pub recached : {b b′ : List ℕ} (p′ : Place) (c : ℕ) (q : List ℕ) → HoldsBlocks c b p → HoldsBlocks c b′ p′
-      → c < 16 → ((v : ℕ) → count v q + count v b′ ≡ count v (k c) + count v b) → length q ≤ perRegion c
-      → HoldsAt (m .map) (update k c q) p′ → NoteHolds (m .row) (m .won) p′
+      → c < CLASSES → ((v : ℕ) → count v q + count v b′ ≡ count v (k c) + count v b) → length q ≤ perRegion c
+      → Holds (update k c q) p′ → NoteHolds (m .row) (m .won) (m .map) p′
       → Invariant area (cached t k c q p′ m)
   recached {b} {b′} p′ c q e e′ l h n o z = within w (taskOf p′ (update k c q)) (record {
-    blocks = λ v. omega (arith, total-update 16 (rowWeight v) k c q l, h v, blocks v);
+    blocks = λ v. omega (arith, total-update CLASSES (rowWeight v) k c q l, h v, blocks v);
     blockClasses = λ f v. omega (
       arith,
       weight-update (count v) k c q f,
@@ -82,7 +82,7 @@ not-in-hands {m = m} {t = t} v w h = omega (
   arith,
   w .inv .blocks v,
   inside-open (w .inv) v,
-  total-one 8 (blockWeight v) (m .task) t (w .fits),
+  total-one TASKS (blockWeight v) (m .task) t (w .fits),
   ap (blockWeight v t) (w .is),
 )
 
@@ -94,7 +94,7 @@ module _ {area : ℕ} {m : Mem} {t : ℕ} {k : ℕ → List ℕ} where
   -- ---- allocate
 
   -- Step 1: the top of the cache goes to a user's hands, or the cache is empty.
-  pub a1-inv : (c : ℕ) (q : List ℕ) → k c ≡ q → Turn area m t (taskOf (a1 c) k) → Kept area (a1Step t k c q m)
+  pub a1-inv : (c : ℕ) (q : List ℕ) → k c ≡ q → Turn area m t (taskOf (working (a1 c)) k) → Kept area (a1Step t k c q m)
   a1-inv c [] e w = placed w _ refl (placeHolds w, ap length e) tt
   a1-inv c (x ∷ q) e w = turn-inv w _ (taskOf idle (update k c q)) refl (record {
     descriptors = λ y. omega arith;
@@ -130,11 +130,11 @@ module _ {area : ℕ} {m : Mem} {t : ℕ} {k : ℕ → List ℕ} where
   })
     where
       -- the caches have lost the block
-      cached-out : (v : ℕ) → total 16 (rowWeight v) (update k c q) + one v x ≡ total 16 (rowWeight v) k
-      cached-out v = omega (arith, total-update 16 (rowWeight v) k c q (placeHolds w), ap (count v) e)
+      cached-out : (v : ℕ) → total CLASSES (rowWeight v) (update k c q) + one v x ≡ total CLASSES (rowWeight v) k
+      cached-out v = omega (arith, total-update CLASSES (rowWeight v) k c q (placeHolds w), ap (count v) e)
 
   -- Step 4: a block of the taken chain goes to the cache.
-  pub a4-inv : (c x : ℕ) (q : List ℕ) → Turn area m t (taskOf (a4 c x q) k) → Kept area (stepAt t k (a4 c x q) m)
+  pub a4-inv : (c x : ℕ) (q : List ℕ) → Turn area m t (taskOf (working (a4 c x q)) k) → Kept area (stepAt t k (a4 c x q) m)
   a4-inv c x [] w =
       let o = placeHolds w in
       recached w _ c _ refl refl (o .0) (λ v. omega arith) (omega arith) (o .0) tt
@@ -145,31 +145,31 @@ module _ {area : ℕ} {m : Mem} {t : ℕ} {k : ℕ → List ℕ} where
 
   -- Step 8: block i of the region is carved into the cache, which becomes q.
   carve-inv : (c r i : ℕ) (q : List ℕ) → ((v : ℕ) → count v q ≡ one v (unitOf r c i) + count v (k c))
-      → length q ≡ suc (length (k c)) → Turn area m t (taskOf (a8 c r i) k) → (d : Dec (suc i ≡ perRegion c))
-      → Invariant area (cached t k c q (if d (a1 c) (a8 c r (suc i))) m)
+      → length q ≡ suc (length (k c)) → Turn area m t (taskOf (working (a8 c r i)) k) → (d : Dec (suc i ≡ perRegion c))
+      → Invariant area (cached t k c q (working (if d (a1 c) (a8 c r (suc i)))) m)
   carve-inv c r i q h n w (yes e) =
       let o = placeHolds w in
       let f : perRegion c - i ≡ 1 = omega arith in
-      recached w (a1 c) c q refl refl (o .0)
+      recached w (working (a1 c)) c q refl refl (o .0)
       (λ v. omega (arith, h v, ap (λ n. count v (blocksFrom r c i n)) f)) (omega arith) (o .0) tt
   carve-inv c r i q h n w (no e) =
       let o = placeHolds w in
       let f : perRegion c - i ≡ suc (perRegion c - suc i) = omega arith in
-      recached w (a8 c r (suc i)) c q refl refl (o .0)
+      recached w (working (a8 c r (suc i))) c q refl refl (o .0)
       (λ v. omega (arith, h v, ap (λ n. count v (blocksFrom r c i n)) f)) (omega arith)
       (o .0, omega (arith, length-update k c q), omega arith) tt
 
   -- The step itself.
-  pub a8-inv : (c r i : ℕ) → Turn area m t (taskOf (a8 c r i) k) → Kept area (a8Step t k c r i m)
+  pub a8-inv : (c r i : ℕ) → Turn area m t (taskOf (working (a8 c r i)) k) → Kept area (a8Step t k c r i m)
   a8-inv c r i w = carve-inv c r i _ (λ v. omega arith) (omega arith) w (ℕ-discrete (suc i) (perRegion c))
 
   -- ---- free
 
   -- Step 1: the block goes to the cache, or the cache is full.
-  pub f1-inv : (c u : ℕ) → Turn area m t (taskOf (f1 c u) k) → Kept area (f1Step t k c u m)
+  pub f1-inv : (c u : ℕ) → Turn area m t (taskOf (working (f1 c u)) k) → Kept area (f1Step t k c u m)
   f1-inv c u w = either (Kept area) (decLt (length (k c)) (perRegion c)) _ _
       (λ e. within w _ (record {
-        blocks = λ v. omega (arith, total-update 16 (rowWeight v) k c (u ∷ k c) (placeHolds w));
+        blocks = λ v. omega (arith, total-update CLASSES (rowWeight v) k c (u ∷ k c) (placeHolds w));
         blockClasses = λ f v. omega (
           arith,
           weight-update (count v) k c (u ∷ k c) f,
@@ -187,7 +187,7 @@ module _ {area : ℕ} {m : Mem} {t : ℕ} {k : ℕ → List ℕ} where
       (λ e. placed w _ refl (placeHolds w, omega (arith, perRegion-low c), omega (arith, lengths w c), tt) tt)
 
   -- Step 2: the top of the cache joins the group, or the group is closed.
-  pub f2-inv : (c u : ℕ) (q g : List ℕ) → k c ≡ q → Turn area m t (taskOf (f2 c u g) k)
+  pub f2-inv : (c u : ℕ) (q g : List ℕ) → k c ≡ q → Turn area m t (taskOf (working (f2 c u g)) k)
       → Kept area (f2Step t k c u q g m)
   f2-inv c u [] [] e w = absurd (omega (arith, placeHolds w .1, ap length e))
   f2-inv c u [] (y ∷ g) e w =

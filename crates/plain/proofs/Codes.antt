@@ -1,12 +1,12 @@
 -- The codes of a step, in every state: one pass over the step list.
--- Assumes nothing.
 use mathlib.Core.Path.{_≡_, refl, sym, ap, _∙_}
 use mathlib.Core.Logic.{_≢_}
-use mathlib.Core.List.{List, [], _∷_, _++_}
+use mathlib.Core.List.{List, _∷_, _++_, []}
 use Prim.Native.Nat.{ℕ, zero, suc, _+_, _≤_}
 use native.Mathlib.Omega.{arith}
 use native.Mathlib.Decide.{ℕ-discrete, decLt}
 use lib.ListN.{length}
+use Rattle.limits.specs.Limits.{SPARE-DESCRIPTORS, SPARE-REGIONS}
 use Rattle.rows.specs.Branch.{if}
 use Rattle.rows.specs.Update.{update}
 use Rattle.rows.proofs.Update.{update-same, update-all}
@@ -14,56 +14,55 @@ use Rattle.classes.specs.Classes.{perRegion}
 use Rattle.classes.specs.Places.{unitOf, regionOf}
 use Rattle.plain.specs.State.{State, EMPTY, PARTIAL, FULL, Phase, read, next, exchange, Pop, partial, spare}
 use Rattle.plain.specs.State.{region, Push, retire, back, release, offer, Place, idle, a1, popping, pushing}
-use Rattle.plain.specs.State.{a3-read, a3-exchange, a4, a7, a8, f1, f2, f3-read, f3-link, f3-exchange}
-use Rattle.plain.specs.State.{f4-clear, Task, SPARES, REGIONS, Mem}
+use Rattle.plain.specs.State.{a3-read, a3-exchange, a4, a7, a8, f1, f2, f3-read, f3-link, f3-exchange, f4-clear}
+use Rattle.plain.specs.State.{Task, Mem, Work, working}
 use Rattle.plain.specs.Moves.{Decided, nothing, lost, Answer, going, finished, refused}
-use Rattle.plain.specs.Steps.{popList, pushList, f6, f5, moving, whenPopped, asNoted?, at, cached, popRead}
-use Rattle.plain.specs.Steps.{popTake, pushPut, a1Step, a3Read, closed, f2Step, f3Read, returned, stepAt}
-use Rattle.plain.specs.Steps.{step}
-use Rattle.plain.specs.Codes.{StepCode, under-way, no-request, no-descriptor, no-region, finishes}
-use Rattle.plain.specs.Codes.{WayBack, stays, comes, StepFacts}
+use Rattle.plain.specs.Steps.{popList, pushList, f6, f5, moving, whenPopped, asNoted?, cached, popRead, popTake}
+use Rattle.plain.specs.Steps.{pushPut, a1Step, a3Read, closed, f2Step, f3Read, returned, stepAt, to, stepOf}
+use Rattle.plain.specs.Steps.{whenWorking}
+use Rattle.plain.specs.Codes.{StepCode, under-way, no-request, no-descriptor, no-region, finishes, WayBack, stays}
+use Rattle.plain.specs.Codes.{comes, StepFacts}
+use Rattle.plain.specs.Noted.{Noted, unnoted, pop-noted, push-noted, anchor-noted, entry-noted, noted}
 use Rattle.plain.proofs.Tests.{either}
 
 -- 1 for a push of a descriptor back, else 0
-abbrev isBack : Place → ℕ
-isBack idle = 0
-isBack (a1 c) = 0
-isBack (popping p φ) = 0
-isBack (pushing (retire c d) φ) = 0
-isBack (pushing (back c d) φ) = 1
-isBack (pushing (release c u d w r) φ) = 0
-isBack (pushing (offer c u d) φ) = 0
-isBack (a3-read c d) = 0
-isBack (a3-exchange c d n) = 0
-isBack (a4 c x q) = 0
-isBack (a7 c d r) = 0
-isBack (a8 c r i) = 0
-isBack (f1 c u) = 0
-isBack (f2 c u g) = 0
-isBack (f3-read c u y g) = 0
-isBack (f3-link c u y g d n) = 0
-isBack (f3-exchange c u y g d n) = 0
-isBack (f4-clear c u d w r) = 0
+abbrev isBack : Push → ℕ
+isBack (retire c d) = 0
+isBack (back c d) = 1
+isBack (release c u d w r) = 0
+isBack (offer c u d) = 0
+
+-- .. by what is noted
+abbrev backNoted : Noted → ℕ
+backNoted unnoted = 0
+backNoted (pop-noted p φ) = 0
+backNoted (push-noted p φ) = isBack p
+backNoted (anchor-noted d n) = 0
+backNoted (entry-noted y d n) = 0
+
+-- .. by place
+abbrev backAt : Place → ℕ
+backAt p = backNoted (noted p)
 
 -- where the steps that are no end of a push or a pop lead to is no push back
-f6-back : (c u : ℕ) (q : List ℕ) → isBack (f6 q c u) ≡ 0
+f6-back : (c u : ℕ) (q : List ℕ) → backAt (working (f6 q c u)) ≡ 0
 f6-back c u [] = refl
 f6-back c u (x ∷ q) = refl
 
-f5-back : (s : State) (q : List ℕ) (c u d : ℕ) → isBack (f5 s q c u d) ≡ 0
+f5-back : (s : State) (q : List ℕ) (c u d : ℕ) → backAt (working (f5 s q c u d)) ≡ 0
 f5-back EMPTY q c u d = f6-back c u q
 f5-back PARTIAL q c u d = f6-back c u q
 f5-back FULL q c u d = refl
 
-moving-back : (c : ℕ) (q : List ℕ) → isBack (moving c q) ≡ 0
+moving-back : (c : ℕ) (q : List ℕ) → backAt (working (moving c q)) ≡ 0
 moving-back c [] = refl
 moving-back c (x ∷ q) = refl
 
-closed-back : (t : ℕ) (k : ℕ → List ℕ) (c u : ℕ) (g : List ℕ) → isBack (closed t k c u g) ≡ 0
+closed-back : (t : ℕ) (k : ℕ → List ℕ) (c u : ℕ) (g : List ℕ) → backAt (working (closed t k c u g)) ≡ 0
 closed-back t k c u [] = f6-back c u (k c)
 closed-back t k c u (y ∷ g) = refl
 
-popped-back : (p : Pop) (x : ℕ) → isBack (whenPopped p x) ≡ 0
+popped-back : (p : Pop) (x : ℕ) → backAt (working (whenPopped p x)) ≡ 0
 popped-back (partial c) x = refl
 popped-back (spare c) x = refl
 popped-back (region c d) x = refl
@@ -94,39 +93,39 @@ module _ (t : ℕ) (m : Mem) where
 
   -- A step that sets the task to T, wins at most one exchange of a list and goes to no push back.
   on : (x : Mem) (a : Answer) (T : Task) → x .task ≡ update (m .task) t T → StepCode (a .code) → Plain (a .code)
-      → isBack (T .place) ≡ 0 → ((ℓ : ℕ) → x .won ℓ ≤ m .won ℓ + 1) → StepFacts t m (x, a)
+      → backAt (T .place) ≡ 0 → ((ℓ : ℕ) → x .won ℓ ≤ m .won ℓ + 1) → StepFacts t m (x, a)
   on x a T e s p b w = record {
     code = s;
     twelve = λ h. absurd (p .0 h);
     thirteen = λ h. absurd (p .1 h);
     wayBack = λ c d φ h.
-        absurd (omega (arith, b, ap isBack (sym (ap (λ f. f t .place) e ∙ placed-at (m .task) T) ∙ h)));
+        absurd (omega (arith, b, ap backAt (sym (ap (λ f. f t .place) e ∙ placed-at (m .task) T) ∙ h)));
     won = w;
   }
 
   -- Such a step that goes on, ..
-  goes : {x : Mem} {e : Decided} (T : Task) → x .task ≡ update (m .task) t T → isBack (T .place) ≡ 0
+  goes : {x : Mem} {e : Decided} (T : Task) → x .task ≡ update (m .task) t T → backAt (T .place) ≡ 0
       → ((ℓ : ℕ) → x .won ℓ ≤ m .won ℓ + 1) → StepFacts t m (x, going e)
   goes {x} {e} T h b w = on x (going e) T h under-way plain-0 b w
 
   -- .. and one that finishes.
-  done : {x : Mem} {v : ℕ} (T : Task) → x .task ≡ update (m .task) t T → isBack (T .place) ≡ 0
+  done : {x : Mem} {v : ℕ} (T : Task) → x .task ≡ update (m .task) t T → backAt (T .place) ≡ 0
       → ((ℓ : ℕ) → x .won ℓ ≤ m .won ℓ + 1) → StepFacts t m (x, finished v)
   done {x} {v} T h b w = on x (finished v) T h finishes plain-20 b w
 
   -- A step that changes nothing, at a place that is no push back.
-  nothing-done : (a : Answer) → StepCode (a .code) → Plain (a .code) → isBack (m .task t .place) ≡ 0
+  nothing-done : (a : Answer) → StepCode (a .code) → Plain (a .code) → backAt (m .task t .place) ≡ 0
       → StepFacts t m (m, a)
   nothing-done a s p b = record {
     code = s;
     twelve = λ h. absurd (p .0 h);
     thirteen = λ h. absurd (p .1 h);
-    wayBack = λ c d φ h. absurd (omega (arith, ap isBack h));
+    wayBack = λ c d φ h. absurd (omega (arith, ap backAt h));
     won = λ ℓ. omega arith;
   }
 
   -- The place that a push back is at names its class, descriptor and phase.
-  to-back : {c d : ℕ} {ψ : Phase} {e f : ℕ} {φ : Phase} → pushing (back c d) ψ ≡ pushing (back e f) φ
+  to-back : {c d : ℕ} {ψ : Phase} {e f : ℕ} {φ : Phase} → working (pushing (back c d) ψ) ≡ working (pushing (back e f) φ)
       → WayBack t m c d ψ → WayBack t m e f φ
   to-back {c} {d} {ψ} {e} {f} {φ} h w =
       let a : c ≡ e = cc in
@@ -141,14 +140,14 @@ module _ (t : ℕ) (k : ℕ → List ℕ) (m : Mem) where
 
   -- ---- pops
 
-  facts-popRead : (p : Pop) (q : List ℕ) → m .task t .place ≡ popping p read → m .row (popList p) ≡ q
+  facts-popRead : (p : Pop) (q : List ℕ) → m .task t .place ≡ working (popping p read) → m .row (popList p) ≡ q
       → StepFacts t m (popRead t k p q m)
   facts-popRead (partial c) [] h e = goes t m _ refl refl none-won
   facts-popRead (spare c) [] h e = record {
     code = no-descriptor;
     twelve = λ i. (record { c = c; place = h; row = e }, refl);
     thirteen = λ i. absurd (omega arith);
-    wayBack = λ c d φ i. absurd (omega (arith, ap isBack (sym (placed-at t m (m .task) _) ∙ i)));
+    wayBack = λ c d φ i. absurd (omega (arith, ap backAt (sym (placed-at t m (m .task) _) ∙ i)));
     won = none-won;
   }
   facts-popRead (region c d) [] h e = record {
@@ -167,8 +166,8 @@ module _ (t : ℕ) (k : ℕ → List ℕ) (m : Mem) where
 
   -- ---- pushes
 
-  facts-pushOn : (p : Push) (φ ψ : Phase) (e : Decided) → m .task t .place ≡ pushing p φ
-      → StepFacts t m (at t k (pushing p ψ) m, going e)
+  facts-pushOn : (p : Push) (φ ψ : Phase) (e : Decided) → m .task t .place ≡ working (pushing p φ)
+      → StepFacts t m (to t k (pushing p ψ) m, going e)
   facts-pushOn (retire c d) φ ψ e h = goes t m _ refl refl none-won
   facts-pushOn (back c d) φ ψ e h = record {
     code = under-way;
@@ -180,17 +179,17 @@ module _ (t : ℕ) (k : ℕ → List ℕ) (m : Mem) where
   facts-pushOn (release c u d w r) φ ψ e h = goes t m _ refl refl none-won
   facts-pushOn (offer c u d) φ ψ e h = goes t m _ refl refl none-won
 
-  facts-pushPut : (p : Push) (n : ℕ) → m .task t .place ≡ pushing p (exchange n) → m .won (pushList p) ≡ n
+  facts-pushPut : (p : Push) (n : ℕ) → m .task t .place ≡ working (pushing p (exchange n)) → m .won (pushList p) ≡ n
       → StepFacts t m (pushPut t k p m)
-  facts-pushPut (retire c d) n h e = goes t m _ refl refl (one-more (m .won) SPARES)
+  facts-pushPut (retire c d) n h e = goes t m _ refl refl (one-more (m .won) SPARE-DESCRIPTORS)
   facts-pushPut (back c d) n h e = record {
     code = no-region;
     twelve = λ i. absurd (omega arith);
     thirteen = λ i. (d, record { c = c; n = n; place = h; won = e }, refl);
-    wayBack = λ c d φ i. absurd (omega (arith, ap isBack (sym (placed-at t m (m .task) _) ∙ i)));
-    won = one-more (m .won) SPARES;
+    wayBack = λ c d φ i. absurd (omega (arith, ap backAt (sym (placed-at t m (m .task) _) ∙ i)));
+    won = one-more (m .won) SPARE-DESCRIPTORS;
   }
-  facts-pushPut (release c u d w r) n h e = goes t m _ refl (f5-back w (k c) c u d) (one-more (m .won) REGIONS)
+  facts-pushPut (release c u d w r) n h e = goes t m _ refl (f5-back w (k c) c u d) (one-more (m .won) SPARE-REGIONS)
   facts-pushPut (offer c u d) n h e = goes t m _ refl (f6-back c u (k c)) (one-more (m .won) c)
 
   -- ---- the other steps
@@ -205,7 +204,7 @@ module _ (t : ℕ) (k : ℕ → List ℕ) (m : Mem) where
   facts-a3 c d FULL = goes t m _ refl refl none-won
 
   facts-a8 : {P : Type 0} (e : Dec P) (c r i : ℕ) (q : List ℕ)
-      → StepFacts t m (cached t k c q (if e (a1 c) (a8 c r (suc i))) m, going nothing)
+      → StepFacts t m (cached t k c q (working (if e (a1 c) (a8 c r (suc i)))) m, going nothing)
   facts-a8 (yes e) c r i q = goes t m _ refl refl none-won
   facts-a8 (no e) c r i q = goes t m _ refl refl none-won
 
@@ -216,9 +215,9 @@ module _ (t : ℕ) (k : ℕ → List ℕ) (m : Mem) where
       either (StepFacts t m) (ℕ-discrete (regionOf x) (regionOf y)) _ _
       (λ e. goes t m _ refl refl none-won) (λ e. goes t m _ refl refl none-won)
 
-  facts-f3 : (z c u y : ℕ) (g : List ℕ) → m .task t .place ≡ f3-read c u y g
+  facts-f3 : (z c u y : ℕ) (g : List ℕ) → m .task t .place ≡ working (f3-read c u y g)
       → StepFacts t m (f3Read t k z c u y g m)
-  facts-f3 zero c u y g h = nothing-done t m (going nothing) under-way plain-0 (ap isBack h)
+  facts-f3 zero c u y g h = nothing-done t m (going nothing) under-way plain-0 (ap backAt h)
   facts-f3 (suc d) c u y g h = goes t m _ refl refl none-won
 
   facts-returned : {P : Type 0} (e : Dec P) (c u y : ℕ) (g : List ℕ) (d : ℕ) (w : State)
@@ -226,8 +225,8 @@ module _ (t : ℕ) (k : ℕ → List ℕ) (m : Mem) where
   facts-returned (yes e) c u y g d w = goes t m _ refl refl none-won
   facts-returned (no e) c u y g d w = goes t m _ refl (f5-back w (k c) c u d) none-won
 
-  facts-at : (p : Place) → m .task t .place ≡ p → StepFacts t m (stepAt t k p m)
-  facts-at idle h = nothing-done t m (refused 7) no-request plain-7 (ap isBack h)
+  -- The step list.
+  facts-at : (w : Work) → m .task t .place ≡ working w → StepFacts t m (stepAt t k w m)
   facts-at (a1 c) h = facts-a1 c (k c)
   facts-at (popping p read) h = facts-popRead p (m .row (popList p)) h refl
   facts-at (popping p (next n)) h = goes t m _ refl refl none-won
@@ -258,7 +257,12 @@ module _ (t : ℕ) (k : ℕ → List ℕ) (m : Mem) where
       c u y g d (n .state)) (λ e. goes t m _ refl refl none-won)
   facts-at (f4-clear c u d w r) h = goes t m _ refl refl none-won
 
+  -- Every step; an idle task makes none.
+  facts-of : (p : Place) → m .task t .place ≡ p → StepFacts t m (whenWorking p (λ w. stepAt t k w m) m)
+  facts-of idle h = nothing-done t m (refused 7) no-request plain-7 (ap backAt h)
+  facts-of (working w) h = facts-at w h
+
 -- What every step answers, in every state.
-pub step-facts : (t : ℕ) (m : Mem) → StepFacts t m (step t m)
-unfolding step
-step-facts t m = facts-at t (m .task t .cache) m (m .task t .place) refl
+pub step-facts : (t : ℕ) (m : Mem) → StepFacts t m (stepOf t m)
+unfolding stepOf
+step-facts t m = facts-of t (m .task t .cache) m (m .task t .place) refl

@@ -1,25 +1,25 @@
 -- Steps 5 and 6 of a free: where it goes after its group is returned.
--- Assumes nothing.
 use mathlib.Core.Path.{_≡_, refl, ap}
-use mathlib.Core.List.{List, [], _∷_}
+use mathlib.Core.List.{List, _∷_, []}
 use Prim.Native.Nat.{ℕ, _<_}
 use native.Mathlib.Omega.{arith}
 use lib.ListN.{length}
+use Rattle.limits.specs.Limits.{CLASSES}
 use Rattle.classes.specs.Classes.{perRegion}
-use Rattle.plain.specs.State.{State, EMPTY, PARTIAL, FULL}
+use Rattle.plain.specs.State.{State, EMPTY, PARTIAL, FULL, working}
 use Rattle.plain.specs.Steps.{f6, f5}
-use Rattle.plain.specs.Held.{hold, owed, held}
+use Rattle.plain.specs.Held.{hold, owed, heldAt}
 use Rattle.plain.specs.Places.{HoldsAt, NoteHolds}
 
 -- ---- what it has under way
 
 -- From step 6 on it has the block being freed, ..
-pub f6-held : (c u : ℕ) (q : List ℕ) → held (f6 q c u) ≡ hold c (u ∷ []) [] [] []
+pub f6-held : (c u : ℕ) (q : List ℕ) → heldAt (f6 q c u) ≡ hold c (u ∷ []) [] [] []
 f6-held c u [] = refl
 f6-held c u (x ∷ q) = refl
 
 -- .. and at step 5 the descriptor that it owes too.
-pub f5-held : (s : State) (c u d : ℕ) (q : List ℕ) → held (f5 s q c u d) ≡ hold c (u ∷ []) [] (owed s d) []
+pub f5-held : (s : State) (c u d : ℕ) (q : List ℕ) → heldAt (f5 s q c u d) ≡ hold c (u ∷ []) [] (owed s d) []
 f5-held EMPTY c u d q = f6-held c u q
 f5-held PARTIAL c u d q = f6-held c u q
 f5-held FULL c u d q = refl
@@ -27,28 +27,27 @@ f5-held FULL c u d q = refl
 -- ---- what holds there
 
 -- The cache has fewer than n blocks at step 6, ..
-pub f6-holds : (map : ℕ → ℕ) (k : ℕ → List ℕ) (c u : ℕ) (q : List ℕ) → k c ≡ q → c < 16
-    → length (k c) < perRegion c → HoldsAt map k (f6 q c u)
-f6-holds map k c u [] e l h = l
-f6-holds map k c u (x ∷ q) e l h = (l, omega (arith, ap length e), omega arith, tt)
+pub f6-holds : (k : ℕ → List ℕ) (c u : ℕ) (q : List ℕ) → k c ≡ q → c < CLASSES
+    → length (k c) < perRegion c → HoldsAt k (f6 q c u)
+f6-holds k c u [] e l h = l
+f6-holds k c u (x ∷ q) e l h = (l, omega (arith, ap length e), omega arith, tt)
 
 -- .. and at step 5.
-pub f5-holds : (map : ℕ → ℕ) (k : ℕ → List ℕ) (s : State) (c u d : ℕ) → c < 16 → length (k c) < perRegion c
-    → HoldsAt map k (f5 s (k c) c u d)
-f5-holds map k EMPTY c u d l h = f6-holds map k c u (k c) refl l h
-f5-holds map k PARTIAL c u d l h = f6-holds map k c u (k c) refl l h
-f5-holds map k FULL c u d l h = (l, h)
+pub f5-holds : (k : ℕ → List ℕ) (s : State) (c u d : ℕ) → c < CLASSES → length (k c) < perRegion c
+    → HoldsAt k (f5 s (k c) c u d)
+f5-holds k EMPTY c u d l h = f6-holds k c u (k c) refl l h
+f5-holds k PARTIAL c u d l h = f6-holds k c u (k c) refl l h
+f5-holds k FULL c u d l h = (l, h)
 
 -- ---- what is noted there
 
 -- Nothing is noted at step 6, ..
-pub f6-note : (row : ℕ → List ℕ) (won : ℕ → ℕ) (c u : ℕ) (q : List ℕ) → NoteHolds row won (f6 q c u)
-f6-note row won c u [] = tt
-f6-note row won c u (x ∷ q) = tt
+pub f6-note : (row : ℕ → List ℕ) (won map : ℕ → ℕ) (c u : ℕ) (q : List ℕ) → NoteHolds row won map (working (f6 q c u))
+f6-note row won map c u [] = tt
+f6-note row won map c u (x ∷ q) = tt
 
 -- .. nor at step 5.
-pub f5-note : (row : ℕ → List ℕ) (won : ℕ → ℕ) (s : State) (c u d : ℕ) (q : List ℕ)
-    → NoteHolds row won (f5 s q c u d)
-f5-note row won EMPTY c u d q = f6-note row won c u q
-f5-note row won PARTIAL c u d q = f6-note row won c u q
-f5-note row won FULL c u d q = tt
+pub f5-note : (row : ℕ → List ℕ) (won map : ℕ → ℕ) (s : State) (c u d : ℕ) (q : List ℕ) → NoteHolds row won map (working (f5 s q c u d))
+f5-note row won map EMPTY c u d q = f6-note row won map c u q
+f5-note row won map PARTIAL c u d q = f6-note row won map c u q
+f5-note row won map FULL c u d q = tt

@@ -1,21 +1,21 @@
 -- A won exchange of a list: an item moves between its row and what the task has under way.
--- Assumes nothing.
 use mathlib.Core.Path.{_≡_, refl, ap}
 use mathlib.Core.List.{List}
 use Prim.Native.Nat.{ℕ, _+_, _≤_, _<_}
 use native.Mathlib.Omega.{arith}
+use Rattle.limits.specs.Limits.{CLASSES, SPARE-DESCRIPTORS, SPARE-REGIONS}
 use Rattle.rows.specs.Update.{update}
 use Rattle.rows.specs.Weights.{when}
 use Rattle.rows.specs.Counting.{count}
 use Rattle.rows.proofs.Update.{update-same, update-other, update-all₂}
 use Rattle.rows.proofs.Weights.{weight-update}
 use Rattle.rows.proofs.Totals.{total-out, total-update}
-use Rattle.plain.specs.State.{Place, SPARES, REGIONS, Mem, setRow}
+use Rattle.plain.specs.State.{Place, Mem, setRow}
 use Rattle.plain.specs.Steps.{at}
-use Rattle.plain.specs.Held.{Held, held, blockIn, classBlockIn, descriptorIn, spareIn, listedIn}
-use Rattle.plain.specs.Held.{regionIn, unmappedIn}
+use Rattle.plain.specs.Held.{Held, held, blockIn, classBlockIn, descriptorIn, spareIn, listedIn, regionIn}
+use Rattle.plain.specs.Held.{unmappedIn}
 use Rattle.plain.specs.Weights.{rowWeight}
-use Rattle.plain.specs.Places.{HoldsAt, NoteHolds}
+use Rattle.plain.specs.Places.{NoteHolds, Holds}
 use Rattle.plain.specs.Invariant.{Invariant}
 use Rattle.plain.proofs.Notes.{Exchanges, as-before, one-more}
 use Rattle.plain.proofs.Turn.{Turn, fewer, as-mapped, turn-inv}
@@ -33,9 +33,9 @@ pub record Listed (ℓ : ℕ) (r q : List ℕ) (h h′ : Held) : Type 0 where
   pub blocks : (v : ℕ) → blockIn v h′ ≡ blockIn v h
   pub blockClasses : (c v : ℕ) → classBlockIn c v h′ ≤ classBlockIn c v h
   pub descriptors : (x : ℕ) → count x q + descriptorIn x h′ ≡ count x r + descriptorIn x h
-  pub classes : (c x : ℕ) → c < 16 → when c ℓ (count x q) + listedIn c x h′ ≤ when c ℓ (count x r) + listedIn c x h
+  pub classes : (c x : ℕ) → c < CLASSES → when c ℓ (count x q) + listedIn c x h′ ≤ when c ℓ (count x r) + listedIn c x h
   pub spares : (x : ℕ)
-      → when SPARES ℓ (count x q) + spareIn x h′ ≤ when SPARES ℓ (count x r) + spareIn x h
+      → when SPARE-DESCRIPTORS ℓ (count x q) + spareIn x h′ ≤ when SPARE-DESCRIPTORS ℓ (count x r) + spareIn x h
   pub regions : (x : ℕ) → regionIn x h′ ≡ regionIn x h
   pub unmapped : (x : ℕ) → unmappedIn x h′ ≤ unmappedIn x h
 
@@ -51,19 +51,19 @@ pub record Released (r q : List ℕ) (h h′ : Held) : Type 0 where
 
 module _ {area : ℕ} {m : Mem} {t : ℕ} {p : Place} {k : ℕ → List ℕ} (w : Turn area m t (taskOf p k)) where
   -- An exchange of a list of descriptors keeps the invariant.
-  pub relisted : {h′ : Held} (p′ : Place) (ℓ : ℕ) (q : List ℕ) → held p′ ≡ h′ → ℓ < 17
-      → Listed ℓ (m .row ℓ) q (held p) h′ → HoldsAt (m .map) k p′
-      → NoteHolds (update (m .row) ℓ q) (update (m .won) ℓ (m .won ℓ + 1)) p′
+  pub relisted : {h′ : Held} (p′ : Place) (ℓ : ℕ) (q : List ℕ) → held p′ ≡ h′ → ℓ < SPARE-REGIONS
+      → Listed ℓ (m .row ℓ) q (held p) h′ → Holds k p′
+      → NoteHolds (update (m .row) ℓ q) (update (m .won) ℓ (m .won ℓ + 1)) (m .map) p′
       → Invariant area (at t k p′ (setRow ℓ q m))
   relisted p′ ℓ q e l s o n = turn-inv w _ (taskOf p′ k) refl (record {
     descriptors = λ x.
-        omega (arith, s .descriptors x, ap (descriptorIn x) e, total-update 17 (rowWeight x) (m .row) ℓ q l);
+        omega (arith, s .descriptors x, ap (descriptorIn x) e, total-update SPARE-REGIONS (rowWeight x) (m .row) ℓ q l);
     regions = λ x.
-        omega (arith, s .regions x, ap (regionIn x) e, ap (count x) (update-other (m .row) ℓ q REGIONS (omega arith)));
+        omega (arith, s .regions x, ap (regionIn x) e, ap (count x) (update-other (m .row) ℓ q SPARE-REGIONS (omega arith)));
     classes = λ c x h.
         fewer (omega (arith, s .classes c x h, ap (listedIn c x) e, weight-update (count x) (m .row) ℓ q c));
     spares = λ x.
-        fewer (omega (arith, s .spares x, ap (spareIn x) e, weight-update (count x) (m .row) ℓ q SPARES));
+        fewer (omega (arith, s .spares x, ap (spareIn x) e, weight-update (count x) (m .row) ℓ q SPARE-DESCRIPTORS));
     blocks = λ v. omega (arith, s .blocks v, ap (blockIn v) e);
     blockClasses = λ c v. omega (arith, w .inv .blockClasses c v, s .blockClasses c v, ap (classBlockIn c v) e);
     chains = w .inv .chains;
@@ -74,7 +74,7 @@ module _ {area : ℕ} {m : Mem} {t : ℕ} {p : Place} {k : ℕ → List ℕ} (w 
       arith,
       s .unmapped x,
       ap (unmappedIn x) e,
-      ap (count x) (update-other (m .row) ℓ q REGIONS (omega arith)),
+      ap (count x) (update-other (m .row) ℓ q SPARE-REGIONS (omega arith)),
     )) refl;
     own = record { lengths = lengths w; place = o; note = n };
     kept = λ r h. refl;
@@ -82,29 +82,29 @@ module _ {area : ℕ} {m : Mem} {t : ℕ} {p : Place} {k : ℕ → List ℕ} (w 
   })
 
   -- So does one of the list of spare regions.
-  pub released : {h′ : Held} (p′ : Place) (q : List ℕ) → held p′ ≡ h′ → Released (m .row REGIONS) q (held p) h′
-      → HoldsAt (m .map) k p′
-      → NoteHolds (update (m .row) REGIONS q) (update (m .won) REGIONS (m .won REGIONS + 1)) p′
-      → Invariant area (at t k p′ (setRow REGIONS q m))
+  pub released : {h′ : Held} (p′ : Place) (q : List ℕ) → held p′ ≡ h′ → Released (m .row SPARE-REGIONS) q (held p) h′
+      → Holds k p′
+      → NoteHolds (update (m .row) SPARE-REGIONS q) (update (m .won) SPARE-REGIONS (m .won SPARE-REGIONS + 1)) (m .map) p′
+      → Invariant area (at t k p′ (setRow SPARE-REGIONS q m))
   released p′ q e s o n = turn-inv w _ (taskOf p′ k) refl (record {
     descriptors = λ x. omega (
       arith,
       s .descriptors x,
       ap (descriptorIn x) e,
-      total-out 17 (rowWeight x) (m .row) REGIONS q (omega arith),
+      total-out SPARE-REGIONS (rowWeight x) (m .row) SPARE-REGIONS q (omega arith),
     );
-    regions = λ x. omega (arith, s .regions x, ap (regionIn x) e, ap (count x) (update-same (m .row) REGIONS q));
+    regions = λ x. omega (arith, s .regions x, ap (regionIn x) e, ap (count x) (update-same (m .row) SPARE-REGIONS q));
     classes = λ c x l. fewer (omega (
       arith,
       s .classes c x,
       ap (listedIn c x) e,
-      ap (count x) (update-other (m .row) REGIONS q c (omega arith)),
+      ap (count x) (update-other (m .row) SPARE-REGIONS q c (omega arith)),
     ));
     spares = λ x. fewer (omega (
       arith,
       s .spares x,
       ap (spareIn x) e,
-      ap (count x) (update-other (m .row) REGIONS q SPARES (omega arith)),
+      ap (count x) (update-other (m .row) SPARE-REGIONS q SPARE-DESCRIPTORS (omega arith)),
     ));
     blocks = λ v. omega (arith, s .blocks v, ap (blockIn v) e);
     blockClasses = λ c v. omega (arith, w .inv .blockClasses c v, s .blockClasses c v, ap (classBlockIn c v) e);
@@ -116,9 +116,9 @@ module _ {area : ℕ} {m : Mem} {t : ℕ} {p : Place} {k : ℕ → List ℕ} (w 
       arith,
       s .unmapped x,
       ap (unmappedIn x) e,
-      ap (count x) (update-same (m .row) REGIONS q),
+      ap (count x) (update-same (m .row) SPARE-REGIONS q),
     )) refl;
     own = record { lengths = lengths w; place = o; note = n };
     kept = λ r h. refl;
-    exchanges = exchanged m REGIONS q;
+    exchanges = exchanged m SPARE-REGIONS q;
   })

@@ -1,10 +1,10 @@
 -- The group of a free: with its region's chain it has at most n blocks, and if it has n, all of the region's.
--- Assumes nothing.
 use mathlib.Core.Path.{_≡_, sym, ap, _∙_}
 use mathlib.Core.List.{List, _∷_, _++_}
 use Prim.Native.Nat.{ℕ, suc, _+_, _≤_}
 use native.Mathlib.Omega.{arith}
 use lib.ListN.{length}
+use Rattle.limits.specs.Limits.{TASKS, DESCRIPTORS}
 use Rattle.rows.specs.Tests.{same, other, same?, before, after, order?}
 use Rattle.rows.specs.Weights.{one}
 use Rattle.rows.specs.Counting.{count}
@@ -58,9 +58,9 @@ module _ {area : ℕ} {m : Mem} {t : ℕ} {p : Place} {k : ℕ → List ℕ} {c 
     counted v,
     w .inv .blocks v,
     inside-open (w .inv) v,
-    total-one 8 (blockWeight v) (m .task) t (w .fits),
+    total-one TASKS (blockWeight v) (m .task) t (w .fits),
     ap (blockWeight v t) (w .is),
-    total-one 64 (chainWeight v) (m .descriptor) d (group-owner .fits),
+    total-one DESCRIPTORS (chainWeight v) (m .descriptor) d (group-owner .fits),
     group-owner .counts (count v (m .descriptor d .chain)),
   )
 

@@ -1,12 +1,10 @@
 -- What a task holds in one way it holds.
--- Assumes nothing.
 use Prim.Native.Nat.{ℕ, _≤_}
 use native.Mathlib.Omega.{arith}
 use Rattle.rows.specs.Counting.{count}
 use Rattle.rows.proofs.Weights.{when-max}
 use Rattle.plain.specs.State.{Place}
-use Rattle.plain.specs.Held.{held, holdsDescriptor, holdsSpare, holdsForClass, holdsRegion}
-use Rattle.plain.specs.Held.{holdsUnmapped}
+use Rattle.plain.specs.Held.{held, holdsDescriptor, holdsSpare, holdsForClass, holdsRegion, holdsUnmapped}
 
 -- A descriptor held as spare is held.
 pub spare-held : (d : ℕ) (p : Place) → holdsSpare d p ≤ holdsDescriptor d p

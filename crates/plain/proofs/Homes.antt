@@ -1,8 +1,8 @@
 -- Where a block lives: the open region that has it, and its descriptor.
--- Assumes nothing.
 use mathlib.Core.Path.{_≡_, sym}
 use Prim.Native.Nat.{ℕ, suc, _≤_, _<_}
 use native.Mathlib.Omega.{arith}
+use Rattle.limits.specs.Limits.{TASKS, DESCRIPTORS}
 use Rattle.rows.specs.Weights.{when}
 use Rattle.rows.specs.Counting.{count}
 use Rattle.rows.specs.Totals.{total}
@@ -22,7 +22,7 @@ use Rattle.plain.proofs.States.{open-le, open-counts, open-holds}
 -- a block v of the class c, and the descriptor d that opens its region; the map names d
 pub record Home (m : Mem) (c v : ℕ) : Type 0 where
   pub d : ℕ
-  pub fits : d < 64
+  pub fits : d < DESCRIPTORS
   pub counts : IsOpen (m .descriptor d .state)
   pub class : m .descriptor d .class ≡ c
   pub region : m .descriptor d .region ≡ regionOf v
@@ -31,9 +31,9 @@ pub record Home (m : Mem) (c v : ℕ) : Type 0 where
 
 module _ {area : ℕ} {m : Mem} (I : Invariant area m) where
   -- What counts as a block of the class in an open region has a home.
-  pub home : (c v : ℕ) → 1 ≤ total 64 (insideClassWeight c v) (m .descriptor) → Home m c v
+  pub home : (c v : ℕ) → 1 ≤ total DESCRIPTORS (insideClassWeight c v) (m .descriptor) → Home m c v
   home c v e =
-      let f = total-found 64 (insideClassWeight c v) (m .descriptor) e in
+      let f = total-found DESCRIPTORS (insideClassWeight c v) (m .descriptor) e in
       let D = m .descriptor (f .at) in
       let g = open-counts (D .state) (when c (D .class) (isBlock v (D .region) (D .class))) (f .has) in
       let s = when-is c (D .class) (isBlock v (D .region) (D .class)) (g .0) in
@@ -50,10 +50,10 @@ module _ {area : ℕ} {m : Mem} (I : Invariant area m) where
 
   -- A unit is a block of an open region only if its own region is open, and that by one descriptor.
   pub inside-open : (v : ℕ)
-      → (total 64 (insideWeight v) (m .descriptor) ≤ total 64 (openWeight (regionOf v)) (m .descriptor))
-      × (total 64 (openWeight (regionOf v)) (m .descriptor) ≤ 1)
+      → (total DESCRIPTORS (insideWeight v) (m .descriptor) ≤ total DESCRIPTORS (openWeight (regionOf v)) (m .descriptor))
+      × (total DESCRIPTORS (openWeight (regionOf v)) (m .descriptor) ≤ 1)
   inside-open v = (
-    total-le 64 (insideWeight v) (openWeight (regionOf v)) (m .descriptor) (λ i l.
+    total-le DESCRIPTORS (insideWeight v) (openWeight (regionOf v)) (m .descriptor) (λ i l.
         let D = m .descriptor i in
         open-le (D .state) (isBlock-region (D .region) (D .class) v)),
     omega (arith, I .regions (regionOf v), below-max (regionOf v) area),
@@ -61,21 +61,21 @@ module _ {area : ℕ} {m : Mem} (I : Invariant area m) where
 
   -- A block of the class in an open region is a block in an open region.
   pub class-inside : (c v : ℕ)
-      → total 64 (insideClassWeight c v) (m .descriptor) ≤ total 64 (insideWeight v) (m .descriptor)
+      → total DESCRIPTORS (insideClassWeight c v) (m .descriptor) ≤ total DESCRIPTORS (insideWeight v) (m .descriptor)
   class-inside c v =
-      total-le 64 (insideClassWeight c v) (insideWeight v) (m .descriptor) (λ i l.
+      total-le DESCRIPTORS (insideClassWeight c v) (insideWeight v) (m .descriptor) (λ i l.
       let D = m .descriptor i in
       open-le (D .state) (when-max c (D .class) (isBlock v (D .region) (D .class))))
 
   -- What a task has under way is of its place's class, in an open region.
-  pub underWay-class : (t v : ℕ) → t < 8
+  pub underWay-class : (t v : ℕ) → t < TASKS
       → count v (underWay (m .task t .place))
-      ≤ total 64 (insideClassWeight (classAt (m .task t .place)) v) (m .descriptor)
+      ≤ total DESCRIPTORS (insideClassWeight (classAt (m .task t .place)) v) (m .descriptor)
   underWay-class t v h =
       let p = m .task t .place in
       omega (
         arith,
-        total-one 8 (blockClassWeight (classAt p) v) (m .task) t h,
+        total-one TASKS (blockClassWeight (classAt p) v) (m .task) t h,
         I .blockClasses (classAt p) v,
         when-same (classAt p) (count v (underWay p)),
       )

@@ -1,13 +1,13 @@
 -- What never happens in a pool that has the invariant.
--- Assumes nothing.
 use mathlib.Core.Path.{_≡_, refl, ap}
-use mathlib.Core.List.{List, [], _∷_}
+use mathlib.Core.List.{List, _∷_, []}
 use Prim.Native.Nat.{ℕ, _≤_, _<_}
 use native.Mathlib.Omega.{arith}
 use lib.ListN.{length}
+use Rattle.limits.specs.Limits.{TASKS}
 use Rattle.rows.proofs.Weights.{when-same}
 use Rattle.plain.specs.State.{State, EMPTY, PARTIAL, FULL, numberOf, Note, a3-exchange, f3-read, f3-link}
-use Rattle.plain.specs.State.{f3-exchange, Mem}
+use Rattle.plain.specs.State.{f3-exchange, Mem, working}
 use Rattle.plain.specs.Steps.{popList, AsNoted}
 use Rattle.plain.specs.States.{isFull}
 use Rattle.plain.specs.Invariant.{Invariant}
@@ -30,12 +30,12 @@ partial-is EMPTY e = absurd (omega arith)
 partial-is PARTIAL e = refl
 partial-is FULL e = absurd (omega arith)
 
-module _ {area : ℕ} {m : Mem} {t : ℕ} (I : Invariant area m) (l : t < 8) where
-  reads : (c u y : ℕ) (g : List ℕ) → m .task t .place ≡ f3-read c u y g → GroupNamed m c y g
+module _ {area : ℕ} {m : Mem} {t : ℕ} (I : Invariant area m) (l : t < TASKS) where
+  reads : (c u y : ℕ) (g : List ℕ) → m .task t .place ≡ working (f3-read c u y g) → GroupNamed m c y g
   reads c u y g e =
       let w = turnAt I l e in
       let f = home-of w y (omega (arith, when-same y 1)) in
-      let group : Grouped m (f3-read c u y g) c u y g (f .d) =
+      let group : Grouped m (working (f3-read c u y g)) c u y g (f .d) =
       record { blocks = refl; class = refl; together = placeHolds w .2; named = f .named } in
       record {
         d = f .d;
@@ -46,7 +46,7 @@ module _ {area : ℕ} {m : Mem} {t : ℕ} (I : Invariant area m) (l : t < 8) whe
         count = group-fits w group;
       }
 
-  takes : (c d : ℕ) (n : Note) → m .task t .place ≡ a3-exchange c d n → AsNoted (m .descriptor d) n
+  takes : (c d : ℕ) (n : Note) → m .task t .place ≡ working (a3-exchange c d n) → AsNoted (m .descriptor d) n
       → (n .state ≡ PARTIAL) × Top (m .descriptor d .chain)
   takes c d n e s =
       let T = taken (turnAt I l e) s in (
@@ -54,23 +54,23 @@ module _ {area : ℕ} {m : Mem} {t : ℕ} (I : Invariant area m) (l : t < 8) whe
         top-item (m .descriptor d .chain) (T .chain .0),
       )
 
-  links : (c u y : ℕ) (g : List ℕ) (d : ℕ) (n : Note) → m .task t .place ≡ f3-link c u y g d n
+  links : (c u y : ℕ) (g : List ℕ) (d : ℕ) (n : Note) → m .task t .place ≡ working (f3-link c u y g d n)
       → GroupFits m c y g d (n .length)
   links c u y g d n e =
       let w = turnAt I l e in
       let o = placeHolds w in
-      let group : Grouped m (f3-link c u y g d n) c u y g d =
-      record { blocks = refl; class = refl; together = o .2; named = o .3 } in
-      record { now = group-fits w group; then = o .4 }
+      let group : Grouped m (working (f3-link c u y g d n)) c u y g d =
+      record { blocks = refl; class = refl; together = o .2; named = noteHolds w .1 } in
+      record { now = group-fits w group; then = o .3 }
 
-  returns : (c u y : ℕ) (g : List ℕ) (d : ℕ) (n : Note) → m .task t .place ≡ f3-exchange c u y g d n
+  returns : (c u y : ℕ) (g : List ℕ) (d : ℕ) (n : Note) → m .task t .place ≡ working (f3-exchange c u y g d n)
       → GroupFits m c y g d (n .length)
   returns c u y g d n e =
       let w = turnAt I l e in
       let o = placeHolds w in
-      let group : Grouped m (f3-exchange c u y g d n) c u y g d =
-      record { blocks = refl; class = refl; together = o .2; named = o .3 } in
-      record { now = group-fits w group; then = o .4 }
+      let group : Grouped m (working (f3-exchange c u y g d n)) c u y g d =
+      record { blocks = refl; class = refl; together = o .2; named = noteHolds w .1 } in
+      record { now = group-fits w group; then = o .3 }
 
   -- What never happens at a step of the task t.
   pub never : NeverHappens m t

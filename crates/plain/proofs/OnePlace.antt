@@ -1,9 +1,9 @@
 -- Each block of an open region has one place, and no other unit has any; each item of a list stands there once.
--- Assumes nothing.
 use mathlib.Core.Path.{_≡_, sym, ap, _∙_}
 use mathlib.Core.Logic.{_≢_}
 use Prim.Native.Nat.{ℕ, _+_, _≤_, _<_}
 use native.Mathlib.Omega.{arith}
+use Rattle.limits.specs.Limits.{TASKS, DESCRIPTORS, SPARE-REGIONS}
 use Rattle.rows.specs.Tests.{same, other, same?, before, after, order?}
 use Rattle.rows.specs.Weights.{when, one}
 use Rattle.rows.specs.Counting.{count}
@@ -15,19 +15,18 @@ use Rattle.classes.proofs.Places.{region-is}
 use Rattle.plain.specs.State.{Mem}
 use Rattle.plain.specs.Blocks.{isBlock}
 use Rattle.plain.specs.States.{IsOpen}
-use Rattle.plain.specs.Weights.{rowWeight, insideWeight, insideClassWeight, chainWeight, openWeight}
-use Rattle.plain.specs.Weights.{blockWeight, blockClassWeight}
+use Rattle.plain.specs.Weights.{rowWeight, insideWeight, insideClassWeight, chainWeight, openWeight, blockWeight}
+use Rattle.plain.specs.Weights.{blockClassWeight}
 use Rattle.plain.specs.Invariant.{Invariant}
 use Rattle.plain.specs.OnePlace.{OpenBlock, OnePlace, OnceListed}
-use Rattle.plain.proofs.Blocks.{block-counts, counts-block, isBlock-region, first-is-block}
-use Rattle.plain.proofs.Blocks.{block-is-first}
-use Rattle.plain.proofs.States.{open-le, open-max, open-le-asked, open-is, is-open, open-counts}
-use Rattle.plain.proofs.States.{open-holds, open-map}
+use Rattle.plain.proofs.Blocks.{block-counts, counts-block, isBlock-region, first-is-block, block-is-first}
+use Rattle.plain.proofs.States.{open-le, open-max, open-le-asked, open-is, is-open, open-counts, open-holds}
+use Rattle.plain.proofs.States.{open-map}
 use Rattle.plain.proofs.Homes.{inside-open}
 
 module _ {area : ℕ} {m : Mem} (I : Invariant area m) where
   -- What counts in a chain is a block of the chain's region.
-  chain-inside : (v i : ℕ) → i < 64 → chainWeight v i (m .descriptor i) ≤ insideWeight v i (m .descriptor i)
+  chain-inside : (v i : ℕ) → i < DESCRIPTORS → chainWeight v i (m .descriptor i) ≤ insideWeight v i (m .descriptor i)
   chain-inside v i l =
       let D = m .descriptor i in
       open-le-asked (D .state) (count v (D .chain)) (isBlock v (D .region) (D .class))
@@ -41,16 +40,16 @@ module _ {area : ℕ} {m : Mem} (I : Invariant area m) where
 
   -- a block of an open region: its descriptor is one of the 64, and the only one whose region has the block
   record Of (v d : ℕ) : Type 0 where
-    fits : d < 64
+    fits : d < DESCRIPTORS
     counts : IsOpen (m .descriptor d .state)
     one-region : openWeight (regionOf v) d (m .descriptor d) ≡ 1
     is-block : isBlock v (m .descriptor d .region) (m .descriptor d .class) ≡ 1
-    others : (i : ℕ) → i < 64 → i ≢ d → insideWeight v i (m .descriptor i) ≡ 0
+    others : (i : ℕ) → i < DESCRIPTORS → i ≢ d → insideWeight v i (m .descriptor i) ≡ 0
 
   of : (v d : ℕ) → OpenBlock m v d → Of v d
   of v d b =
       let D = m .descriptor d in
-      let l : d < 64 = omega (arith, I .entries (regionOf v), b .entry) in
+      let l : d < DESCRIPTORS = omega (arith, I .entries (regionOf v), b .entry) in
       let o : IsOpen (D .state) = open-is (D .state) (b .opens .1) in
       let h : openWeight (regionOf v) d D ≡ 1 = omega (
         arith,
@@ -67,14 +66,14 @@ module _ {area : ℕ} {m : Mem} (I : Invariant area m) where
           arith,
           inside-region v i,
           inside-open I v,
-          total-two 64 (openWeight (regionOf v)) (m .descriptor) i d n f l,
+          total-two DESCRIPTORS (openWeight (regionOf v)) (m .descriptor) i d n f l,
         );
       }
 
   -- the descriptor that has v in its region, if the region has it at all
-  pub found : (v : ℕ) → 1 ≤ total 64 (insideWeight v) (m .descriptor) → (d : ℕ) × OpenBlock m v d
+  pub found : (v : ℕ) → 1 ≤ total DESCRIPTORS (insideWeight v) (m .descriptor) → (d : ℕ) × OpenBlock m v d
   found v h =
-      let f = total-found 64 (insideWeight v) (m .descriptor) h in
+      let f = total-found DESCRIPTORS (insideWeight v) (m .descriptor) h in
       let D = m .descriptor (f .at) in
       let g = open-counts (D .state) (isBlock v (D .region) (D .class)) (f .has) in
       let b : Block (D .region) (D .class) v = counts-block (D .region) (D .class) v (g .0) in (
@@ -91,15 +90,15 @@ module _ {area : ℕ} {m : Mem} (I : Invariant area m) where
   one-place v = record { once = once; class = class; nowhere = nowhere }
     where
       once : (d : ℕ) → OpenBlock m v d
-          → m .hands v + total 8 (blockWeight v) (m .task) + count v (m .descriptor d .chain) ≡ 1
+          → m .hands v + total TASKS (blockWeight v) (m .task) + count v (m .descriptor d .chain) ≡ 1
       once d b =
           let f = of v d b in
           let D = m .descriptor d in
           omega (
             arith,
             I .blocks v,
-            total-only 64 (insideWeight v) (m .descriptor) d (f .fits) (f .others),
-            total-only 64 (chainWeight v) (m .descriptor) d (f .fits)
+            total-only DESCRIPTORS (insideWeight v) (m .descriptor) d (f .fits) (f .others),
+            total-only DESCRIPTORS (chainWeight v) (m .descriptor) d (f .fits)
                 (λ i l n. omega (arith, chain-inside v i l, f .others i l n)),
             f .counts (count v (D .chain)),
             f .counts (isBlock v (D .region) (D .class)),
@@ -107,11 +106,11 @@ module _ {area : ℕ} {m : Mem} (I : Invariant area m) where
           )
 
       class : (d : ℕ) → OpenBlock m v d → (c : ℕ) → c ≢ m .descriptor d .class
-          → total 8 (blockClassWeight c v) (m .task) ≡ 0
+          → total TASKS (blockClassWeight c v) (m .task) ≡ 0
       class d b c n =
-          omega (arith, I .blockClasses c v, total-zero 64 (insideClassWeight c v) (m .descriptor) none)
+          omega (arith, I .blockClasses c v, total-zero DESCRIPTORS (insideClassWeight c v) (m .descriptor) none)
         where
-          none : (i : ℕ) → i < 64 → insideClassWeight c v i (m .descriptor i) ≡ 0
+          none : (i : ℕ) → i < DESCRIPTORS → insideClassWeight c v i (m .descriptor i) ≡ 0
           none i l =
               let D = m .descriptor i in
               elim (same? i d) [
@@ -129,9 +128,9 @@ module _ {area : ℕ} {m : Mem} (I : Invariant area m) where
               ]
 
       nowhere : ((d : ℕ) → ¬ OpenBlock m v d)
-          → (m .hands v ≡ 0) × (total 8 (blockWeight v) (m .task) ≡ 0)
-          × (total 64 (chainWeight v) (m .descriptor) ≡ 0)
-      nowhere n = elim (order? 0 (total 64 (insideWeight v) (m .descriptor))) [
+          → (m .hands v ≡ 0) × (total TASKS (blockWeight v) (m .task) ≡ 0)
+          × (total DESCRIPTORS (chainWeight v) (m .descriptor) ≡ 0)
+      nowhere n = elim (order? 0 (total DESCRIPTORS (insideWeight v) (m .descriptor))) [
         | before h ↦ (let f = found v h in absurd (n (f .0) (f .1)))
         | after h ↦ omega (arith, I .blocks v)
       ]
@@ -139,9 +138,9 @@ module _ {area : ℕ} {m : Mem} (I : Invariant area m) where
   -- Each item of a list stands there once.
   pub once-listed : OnceListed area m
   once-listed = record {
-    descriptors = λ d. omega (arith, I .descriptors d, below-max d 64);
-    descriptor = λ ℓ d l. omega (arith, I .descriptors d, below-max d 64, total-one 17 (rowWeight d) (m .row) ℓ l);
-    below = λ ℓ d l h. below-is d 64 (omega (arith, I .descriptors d, total-one 17 (rowWeight d) (m .row) ℓ l));
+    descriptors = λ d. omega (arith, I .descriptors d, below-max d DESCRIPTORS);
+    descriptor = λ ℓ d l. omega (arith, I .descriptors d, below-max d DESCRIPTORS, total-one SPARE-REGIONS (rowWeight d) (m .row) ℓ l);
+    below = λ ℓ d l h. below-is d DESCRIPTORS (omega (arith, I .descriptors d, total-one SPARE-REGIONS (rowWeight d) (m .row) ℓ l));
     region = λ r. omega (arith, I .regions r, below-max r area);
     inArea = λ r h. below-is r area (omega (arith, I .regions r));
   }

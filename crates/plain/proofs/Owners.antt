@@ -1,9 +1,9 @@
 -- The open region that a task's block belongs to, and its descriptor.
--- Assumes nothing.
 use mathlib.Core.Path.{_≡_, ap}
 use mathlib.Core.List.{List}
 use Prim.Native.Nat.{ℕ, suc, _≤_, _<_}
 use native.Mathlib.Omega.{arith}
+use Rattle.limits.specs.Limits.{TASKS, DESCRIPTORS}
 use Rattle.rows.specs.Counting.{count}
 use Rattle.rows.proofs.Weights.{when-same}
 use Rattle.rows.proofs.Totals.{total-one}
@@ -22,14 +22,14 @@ module _ {area : ℕ} {m : Mem} {t : ℕ} {p : Place} {k : ℕ → List ℕ} (w 
   home-of v h = home (w .inv) (classAt p) v (omega (
     arith,
     w .inv .blockClasses (classAt p) v,
-    total-one 8 (blockClassWeight (classAt p) v) (m .task) t (w .fits),
+    total-one TASKS (blockClassWeight (classAt p) v) (m .task) t (w .fits),
     ap (blockClassWeight (classAt p) v t) (w .is),
     when-same (classAt p) (count v (underWay p)),
   ))
 
 -- the descriptor d opens the region of the block y for the class c
 pub record Owner (m : Mem) (c y d : ℕ) : Type 0 where
-  pub fits : d < 64
+  pub fits : d < DESCRIPTORS
   pub counts : IsOpen (m .descriptor d .state)
   pub class : m .descriptor d .class ≡ c
   pub region : m .descriptor d .region ≡ regionOf y

@@ -1,18 +1,17 @@
 -- A step that changes the task's place alone.
--- Assumes nothing.
-use mathlib.Core.Path.{_≡_, refl, ap}
+use mathlib.Core.Path.{_≡_, ap}
 use mathlib.Core.List.{List, []}
 use Prim.Native.Nat.{ℕ, _≤_, _<_}
 use native.Mathlib.Omega.{arith}
 use lib.ListN.{length}
+use Rattle.limits.specs.Limits.{TASKS}
 use Rattle.rows.proofs.Weights.{when-zero}
 use Rattle.classes.specs.Classes.{perRegion}
-use Rattle.plain.specs.State.{Phase, Pop, partial, spare, region, Push, retire, back, release, offer, Place}
-use Rattle.plain.specs.State.{popping, pushing, Task, Mem}
+use Rattle.plain.specs.State.{Place, Task, Mem}
 use Rattle.plain.specs.Steps.{at}
-use Rattle.plain.specs.Held.{hold, held, blockIn, classBlockIn, descriptorIn, spareIn, listedIn}
-use Rattle.plain.specs.Held.{regionIn, unmappedIn}
-use Rattle.plain.specs.Places.{HoldsAt, NoteHolds}
+use Rattle.plain.specs.Held.{hold, held, blockIn, classBlockIn, descriptorIn, spareIn, listedIn, regionIn}
+use Rattle.plain.specs.Held.{unmappedIn}
+use Rattle.plain.specs.Places.{NoteHolds, Holds}
 use Rattle.plain.specs.Invariant.{Invariant}
 use Rattle.plain.proofs.Turn.{Turn, taskHolds, within}
 
@@ -21,50 +20,20 @@ abbrev pub taskOf : Place → (ℕ → List ℕ) → Task
 taskOf p k = record { place = p; cache = k }
 
 -- The turn of a task at a known place.
-pub turnAt : {area : ℕ} {m : Mem} {t : ℕ} {p : Place} → Invariant area m → t < 8 → m .task t .place ≡ p
+pub turnAt : {area : ℕ} {m : Mem} {t : ℕ} {p : Place} → Invariant area m → t < TASKS → m .task t .place ≡ p
     → Turn area m t (taskOf p (m .task t .cache))
 turnAt {m = m} {t = t} I l e =
     record { inv = I; fits = l; is = λ i. record { place = e i; cache = m .task t .cache } }
-
--- ---- the phases of a pop or a push
-
--- The phases of a pop have the same under way, ..
-pub pop-held : (p : Pop) (φ ψ : Phase) → held (popping p ψ) ≡ held (popping p φ)
-pop-held (partial c) φ ψ = refl
-pop-held (spare c) φ ψ = refl
-pop-held (region c d) φ ψ = refl
-
--- .. as have those of a push.
-pub push-held : (p : Push) (φ ψ : Phase) → held (pushing p ψ) ≡ held (pushing p φ)
-push-held (retire c d) φ ψ = refl
-push-held (back c d) φ ψ = refl
-push-held (release c u d w r) φ ψ = refl
-push-held (offer c u d) φ ψ = refl
-
--- What holds at a phase of a pop holds at the others, ..
-pub pop-holds : (map : ℕ → ℕ) (k : ℕ → List ℕ) (p : Pop) (φ ψ : Phase)
-    → HoldsAt map k (popping p φ) → HoldsAt map k (popping p ψ)
-pop-holds map k (partial c) φ ψ h = h
-pop-holds map k (spare c) φ ψ h = h
-pop-holds map k (region c d) φ ψ h = h
-
--- .. and so at those of a push.
-pub push-holds : (map : ℕ → ℕ) (k : ℕ → List ℕ) (p : Push) (φ ψ : Phase)
-    → HoldsAt map k (pushing p φ) → HoldsAt map k (pushing p ψ)
-push-holds map k (retire c d) φ ψ h = h
-push-holds map k (back c d) φ ψ h = h
-push-holds map k (release c u d w r) φ ψ h = h
-push-holds map k (offer c u d) φ ψ h = h
 
 -- ---- the task at its place
 
 module _ {area : ℕ} {m : Mem} {t : ℕ} {p : Place} {k : ℕ → List ℕ} (w : Turn area m t (taskOf p k)) where
   -- What holds at the place.
-  pub placeHolds : HoldsAt (m .map) k p
+  pub placeHolds : Holds k p
   placeHolds = taskHolds w .place
 
   -- What holds of the task's note.
-  pub noteHolds : NoteHolds (m .row) (m .won) p
+  pub noteHolds : NoteHolds (m .row) (m .won) (m .map) p
   noteHolds = taskHolds w .note
 
   -- A cache has at most n blocks.
@@ -72,7 +41,7 @@ module _ {area : ℕ} {m : Mem} {t : ℕ} {p : Place} {k : ℕ → List ℕ} (w 
   lengths = taskHolds w .lengths
 
   -- A step to a place that holds the same keeps the invariant.
-  pub placed : (p′ : Place) → held p′ ≡ held p → HoldsAt (m .map) k p′ → NoteHolds (m .row) (m .won) p′
+  pub placed : (p′ : Place) → held p′ ≡ held p → Holds k p′ → NoteHolds (m .row) (m .won) (m .map) p′
       → Invariant area (at t k p′ m)
   placed p′ e h n = within w (taskOf p′ k) (record {
     blocks = λ v. omega (arith, ap (blockIn v) e);
@@ -86,7 +55,7 @@ module _ {area : ℕ} {m : Mem} {t : ℕ} {p : Place} {k : ℕ → List ℕ} (w 
 
   -- So does a step between places that hold nothing, of whatever class.
   pub placed-empty : {c e : ℕ} (p′ : Place) → held p ≡ hold c [] [] [] [] → held p′ ≡ hold e [] [] [] []
-      → HoldsAt (m .map) k p′ → NoteHolds (m .row) (m .won) p′ → Invariant area (at t k p′ m)
+      → Holds k p′ → NoteHolds (m .row) (m .won) (m .map) p′ → Invariant area (at t k p′ m)
   placed-empty {c} {e} p′ a b h n = within w (taskOf p′ k) (record {
     blocks = λ v. omega (arith, ap (blockIn v) a, ap (blockIn v) b);
     blockClasses = λ f v.

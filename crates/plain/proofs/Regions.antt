@@ -1,11 +1,11 @@
 -- Step 7 of an allocate opens a region, step 4 of a free clears its entry in the map.
--- Assumes nothing.
 use mathlib.Core.Path.{_≡_, refl, sym, ap, _∙_}
 use mathlib.Core.Logic.{_≢_}
 use mathlib.Core.List.{List, []}
 use Prim.Native.Nat.{ℕ, suc, _+_, _-_, _≤_, _<_}
 use native.Mathlib.Omega.{arith}
 use native.Mathlib.Nat.{sub-zero}
+use Rattle.limits.specs.Limits.{TASKS, DESCRIPTORS}
 use Rattle.rows.specs.Tests.{same, other, same?}
 use Rattle.rows.specs.Update.{update}
 use Rattle.rows.specs.Weights.{when, one}
@@ -16,13 +16,13 @@ use Rattle.rows.proofs.Weights.{when-same, when-other, when-zero, below-max, we
 use Rattle.rows.proofs.Totals.{total-one, total-update}
 use Rattle.classes.specs.Classes.{perRegion}
 use Rattle.classes.proofs.Tables.{perRegion-low}
-use Rattle.plain.specs.State.{State, EMPTY, FULL, Descriptor, read, release, pushing, a7, a8, f4-clear, Task}
-use Rattle.plain.specs.State.{Mem}
+use Rattle.plain.specs.State.{State, EMPTY, FULL, Descriptor, read, release, pushing, a7, a8, f4-clear, Task, Mem}
+use Rattle.plain.specs.State.{working}
 use Rattle.plain.specs.Steps.{a7Step, stepAt}
 use Rattle.plain.specs.Blocks.{blocksFrom, isBlock}
 use Rattle.plain.specs.States.{ifOpen, IsOpen, IfOpen, IfEmpty, isFull, isEmpty}
-use Rattle.plain.specs.Weights.{insideWeight, insideClassWeight, chainWeight, chainClassWeight}
-use Rattle.plain.specs.Weights.{openWeight, fullWeight, descriptorClassWeight, regionWeight}
+use Rattle.plain.specs.Weights.{insideWeight, insideClassWeight, chainWeight, chainClassWeight, openWeight}
+use Rattle.plain.specs.Weights.{fullWeight, descriptorClassWeight, regionWeight}
 use Rattle.plain.specs.Invariant.{OpenDescriptor, ClosedDescriptor, Invariant}
 use Rattle.plain.proofs.Tests.{Kept}
 use Rattle.plain.proofs.Blocks.{isBlock-row}
@@ -36,18 +36,18 @@ use Rattle.plain.proofs.Anchors.{in-hand, spare-empty}
 
 -- It is not open.
 pub no-open : {area : ℕ} {m : Mem} {t : ℕ} {T : Task} (w : Turn area m t T) (r : ℕ) → 1 ≤ regionWeight r t T
-    → total 64 (openWeight r) (m .descriptor) ≡ 0
+    → total DESCRIPTORS (openWeight r) (m .descriptor) ≡ 0
 no-open {area} {m} {t} w r h = omega (
   arith,
   w .inv .regions r,
   below-max r area,
-  total-one 8 (regionWeight r) (m .task) t (w .fits),
+  total-one TASKS (regionWeight r) (m .task) t (w .fits),
   ap (regionWeight r t) (w .is),
 )
 
 -- So its entry in the map may be written: the entries of open regions still name their descriptors, ..
-maps-kept : {area : ℕ} {m : Mem} (I : Invariant area m) (r z : ℕ) → total 64 (openWeight r) (m .descriptor) ≡ 0
-    → (j : ℕ) → j < 64 → IfOpen (m .descriptor j .state) (update (m .map) r z (m .descriptor j .region) ≡ suc j)
+maps-kept : {area : ℕ} {m : Mem} (I : Invariant area m) (r z : ℕ) → total DESCRIPTORS (openWeight r) (m .descriptor) ≡ 0
+    → (j : ℕ) → j < DESCRIPTORS → IfOpen (m .descriptor j .state) (update (m .map) r z (m .descriptor j .region) ≡ suc j)
 maps-kept {m = m} I r z h j l =
     open-map (m .descriptor j .state)
     (λ g e. update-other (m .map) r z (m .descriptor j .region) (other-region g) ∙ e) (I .maps j l)
@@ -55,28 +55,28 @@ maps-kept {m = m} I r z h j l =
     other-region : IsOpen (m .descriptor j .state) → m .descriptor j .region ≢ r
     other-region g f = absurd (omega (
       arith,
-      total-one 64 (openWeight r) (m .descriptor) j l,
+      total-one DESCRIPTORS (openWeight r) (m .descriptor) j l,
       g (one r (m .descriptor j .region)),
       ap (one r) f,
       when-same r 1,
     ))
 
 -- .. as they did.
-entries-kept : (m : Mem) (r z : ℕ) → total 64 (openWeight r) (m .descriptor) ≡ 0
-    → (x : ℕ) → 1 ≤ total 64 (openWeight x) (m .descriptor) → update (m .map) r z x ≡ m .map x
+entries-kept : (m : Mem) (r z : ℕ) → total DESCRIPTORS (openWeight r) (m .descriptor) ≡ 0
+    → (x : ℕ) → 1 ≤ total DESCRIPTORS (openWeight x) (m .descriptor) → update (m .map) r z x ≡ m .map x
 entries-kept m r z h x g =
     update-other (m .map) r z x
-    (λ e. absurd (omega (arith, ap (λ (y : ℕ). total 64 (openWeight y) (m .descriptor)) e)))
+    (λ e. absurd (omega (arith, ap (λ (y : ℕ). total DESCRIPTORS (openWeight y) (m .descriptor)) e)))
 
 -- ---- the two steps
 
 module _ {area : ℕ} {m : Mem} {t : ℕ} {k : ℕ → List ℕ} where
   -- Step 4 of a free clears the entry.
-  pub clear-inv : (c u d : ℕ) (s : State) (r : ℕ) → Turn area m t (taskOf (f4-clear c u d s r) k)
+  pub clear-inv : (c u d : ℕ) (s : State) (r : ℕ) → Turn area m t (taskOf (working (f4-clear c u d s r)) k)
       → Kept area (stepAt t k (f4-clear c u d s r) m)
   clear-inv c u d s r w =
       let z = no-open w r (omega (arith, when-same r 1)) in
-      turn-inv w _ (taskOf (pushing (release c u d s r) read) k) refl (record {
+      turn-inv w _ (taskOf (working (pushing (release c u d s r) read)) k) refl (record {
         descriptors = λ x. omega arith;
         regions = λ x. omega arith;
         classes = λ f x l. fewer (omega arith);
@@ -86,7 +86,7 @@ module _ {area : ℕ} {m : Mem} {t : ℕ} {k : ℕ → List ℕ} where
         chains = w .inv .chains;
         closed = w .inv .closed;
         maps = maps-kept (w .inv) r 0 z;
-        entries = update-all (λ j x. x ≤ 64) (m .map) r 0 (omega arith) (λ j n. w .inv .entries j);
+        entries = update-all (λ j x. x ≤ DESCRIPTORS) (m .map) r 0 (omega arith) (λ j n. w .inv .entries j);
         unmapped = λ x. elim (same? x r) [
           | same e ↦ no-entry (rw e (update-same (m .map) r 0))
           | other e ↦ as-mapped (omega (arith, when-other x r 1 e)) (update-other (m .map) r 0 x e)
@@ -98,20 +98,20 @@ module _ {area : ℕ} {m : Mem} {t : ℕ} {k : ℕ → List ℕ} where
 
   -- Step 7 of an allocate: the descriptor, which is EMPTY, opens the region for the class, and all its blocks are
   -- to be carved.
-  pub open-inv : (c d r : ℕ) → Turn area m t (taskOf (a7 c d r) k) → Kept area (a7Step t k c d r m)
+  pub open-inv : (c d r : ℕ) → Turn area m t (taskOf (working (a7 c d r)) k) → Kept area (a7Step t k c d r m)
   open-inv c d r w =
       let D = m .descriptor d in
       let F = m .descriptor in
       let o = placeHolds w in
       let z = no-open w r (omega (arith, when-same r 1)) in
-      turn-inv w _ (taskOf (a8 c r 0) k) refl (record {
+      turn-inv w _ (taskOf (working (a8 c r 0)) k) refl (record {
         descriptors = λ x. omega (
           arith,
-          total-update 64 (fullWeight x) F d E fits,
+          total-update DESCRIPTORS (fullWeight x) F d E fits,
           ap (λ (s : State). when x d (isFull s)) empty,
           when-zero x d,
         );
-        regions = λ x. omega (arith, total-update 64 (openWeight x) F d E fits, shut (one x (D .region)));
+        regions = λ x. omega (arith, total-update DESCRIPTORS (openWeight x) F d E fits, shut (one x (D .region)));
         classes = λ f x h. classes f x;
         spares = λ x. fewer (omega (
           arith,
@@ -121,8 +121,8 @@ module _ {area : ℕ} {m : Mem} {t : ℕ} {k : ℕ → List ℕ} where
         ));
         blocks = λ v. omega (
           arith,
-          total-update 64 (chainWeight v) F d E fits,
-          total-update 64 (insideWeight v) F d E fits,
+          total-update DESCRIPTORS (chainWeight v) F d E fits,
+          total-update DESCRIPTORS (insideWeight v) F d E fits,
           to-carve v,
           shut (count v (D .chain)),
           shut (isBlock v (D .region) (D .class)),
@@ -130,24 +130,24 @@ module _ {area : ℕ} {m : Mem} {t : ℕ} {k : ℕ → List ℕ} where
         blockClasses = λ f v. omega (
           arith,
           w .inv .blockClasses f v,
-          total-update 64 (chainClassWeight f v) F d E fits,
-          total-update 64 (insideClassWeight f v) F d E fits,
+          total-update DESCRIPTORS (chainClassWeight f v) F d E fits,
+          total-update DESCRIPTORS (insideClassWeight f v) F d E fits,
           ap (when f c) (to-carve v),
           shut (when f (D .class) (count v (D .chain))),
           shut (when f (D .class) (isBlock v (D .region) (D .class))),
           when-zero f c,
         );
-        chains = update-all (λ j G. j < 64 → IfOpen (G .state) (OpenDescriptor G)) F d E
+        chains = update-all (λ j G. j < DESCRIPTORS → IfOpen (G .state) (OpenDescriptor G)) F d E
             (λ h. record { fits = o .0; inside = λ v. omega arith; sized = refl }) (λ j n. w .inv .chains j);
-        closed = update-all (λ j G. j < 64 → IfEmpty (G .state) (ClosedDescriptor G)) F d E
+        closed = update-all (λ j G. j < DESCRIPTORS → IfEmpty (G .state) (ClosedDescriptor G)) F d E
             (λ h. tt) (λ j n. w .inv .closed j);
-        maps = update-all (λ j G. j < 64 → IfOpen (G .state) (update (m .map) r (suc d) (G .region) ≡ suc j)) F d E
+        maps = update-all (λ j G. j < DESCRIPTORS → IfOpen (G .state) (update (m .map) r (suc d) (G .region) ≡ suc j)) F d E
             (λ h. update-same (m .map) r (suc d)) (λ j n. maps-kept (w .inv) r (suc d) z j);
-        entries = update-all (λ j x. x ≤ 64) (m .map) r (suc d) fits (λ j n. w .inv .entries j);
+        entries = update-all (λ j x. x ≤ DESCRIPTORS) (m .map) r (suc d) fits (λ j n. w .inv .entries j);
         unmapped = λ x. elim (same? x r) [
           | same e ↦ opens (rw e (omega (
             arith,
-            total-update 64 (openWeight r) F d E fits,
+            total-update DESCRIPTORS (openWeight r) F d E fits,
             shut (one r (D .region)),
             when-same r 1,
           )))
@@ -161,7 +161,7 @@ module _ {area : ℕ} {m : Mem} {t : ℕ} {k : ℕ → List ℕ} where
       E : Descriptor
       E = record { state = FULL; region = r; class = c; chain = [] }
 
-      fits : d < 64
+      fits : d < DESCRIPTORS
       fits = in-hand w d (omega (arith, when-same d 1)) .0
 
       empty : m .descriptor d .state ≡ EMPTY
@@ -178,14 +178,14 @@ module _ {area : ℕ} {m : Mem} {t : ℕ} {k : ℕ → List ℕ} where
 
       -- the descriptor is FULL now, and so on no list and in no hand; the others are as they were
       classes : (f x : ℕ) → Asked
-          (count x (m .row f) + descriptorClassWeight f x t (taskOf (a7 c d r) k))
-          (count x (m .row f) + descriptorClassWeight f x t (taskOf (a8 c r 0) k))
+          (count x (m .row f) + descriptorClassWeight f x t (taskOf (working (a7 c d r)) k))
+          (count x (m .row f) + descriptorClassWeight f x t (taskOf (working (a8 c r 0)) k))
           (one f (m .descriptor x .class)) (one f (update (m .descriptor) d E x .class))
-          (total 64 (fullWeight x) (update (m .descriptor) d E))
+          (total DESCRIPTORS (fullWeight x) (update (m .descriptor) d E))
       classes f x = elim (same? x d) [
         | same h ↦ rw h (enough (omega (
           arith,
-          total-one 64 (fullWeight d) (update (m .descriptor) d E) d fits,
+          total-one DESCRIPTORS (fullWeight d) (update (m .descriptor) d E) d fits,
           ap (λ (G : Descriptor). when d d (isFull (G .state))) (update-same (m .descriptor) d E),
           when-same d 1,
         )))

@@ -1,5 +1,4 @@
 -- Step 3 of a free: its group goes before its region's chain; at n blocks the region closes.
--- Assumes nothing.
 use mathlib.Core.Path.{_≡_, refl, sym, ap, _∙_}
 use mathlib.Core.List.{List, _∷_, _++_}
 use Prim.Native.Nat.{ℕ, _+_, _≤_}
@@ -10,7 +9,7 @@ use Rattle.rows.specs.Weights.{when, one}
 use Rattle.rows.specs.Counting.{count}
 use Rattle.rows.proofs.Weights.{when-add, when-le, when-zero}
 use Rattle.classes.specs.Classes.{perRegion}
-use Rattle.plain.specs.State.{State, EMPTY, PARTIAL, FULL, numberOf, Descriptor, Note, f3-exchange, Mem}
+use Rattle.plain.specs.State.{State, EMPTY, PARTIAL, FULL, numberOf, Descriptor, Note, f3-exchange, Mem, working}
 use Rattle.plain.specs.Steps.{AsNoted, asNoted?, returned, f3Exchange}
 use Rattle.plain.specs.Blocks.{isBlock}
 use Rattle.plain.specs.States.{isFull}
@@ -18,12 +17,11 @@ use Rattle.plain.specs.Held.{owed}
 use Rattle.plain.specs.Invariant.{all-returned}
 use Rattle.plain.proofs.Tests.{either, Kept}
 use Rattle.plain.proofs.Turn.{Turn}
-use Rattle.plain.proofs.Places.{taskOf, placeHolds, placed}
+use Rattle.plain.proofs.Places.{taskOf, placeHolds, placed, noteHolds}
 use Rattle.plain.proofs.Owners.{Owner}
 use Rattle.plain.proofs.Continues.{f5-held, f5-holds, f5-note}
 use Rattle.plain.proofs.Anchors.{anchored}
-use Rattle.plain.proofs.Groups.{Grouped, group-owner, group-opened, group-joined, group-fits}
-use Rattle.plain.proofs.Groups.{group-whole}
+use Rattle.plain.proofs.Groups.{Grouped, group-owner, group-opened, group-joined, group-fits, group-whole}
 
 -- ---- what a free owes
 
@@ -48,7 +46,7 @@ owed-le FULL x d = omega arith
 -- ---- the won exchange
 
 module _ {area : ℕ} {m : Mem} {t c u y d : ℕ} {g : List ℕ} {n : Note} {k : ℕ → List ℕ}
-    (w : Turn area m t (taskOf (f3-exchange c u y g d n) k)) where
+    (w : Turn area m t (taskOf (working (f3-exchange c u y g d n)) k)) where
   -- the descriptor before the exchange
   abbrev D : Descriptor
   D = m .descriptor d
@@ -57,8 +55,8 @@ module _ {area : ℕ} {m : Mem} {t c u y d : ℕ} {g : List ℕ} {n : Note} {k :
   abbrev joined : List ℕ
   joined = y ∷ (g ++ m .descriptor d .chain)
 
-  group : Grouped m (f3-exchange c u y g d n) c u y g d
-  group = record { blocks = refl; class = refl; together = placeHolds w .2; named = placeHolds w .3 }
+  group : Grouped m (working (f3-exchange c u y g d n)) c u y g d
+  group = record { blocks = refl; class = refl; together = placeHolds w .2; named = noteHolds w .1 }
 
   own : Owner m c y d
   own = group-owner w group
@@ -119,8 +117,8 @@ module _ {area : ℕ} {m : Mem} {t c u y d : ℕ} {g : List ℕ} {n : Note} {k :
         };
         closed = tt;
       })
-      (f5-holds (m .map) k (n .state) c u d (placeHolds w .0) (omega (arith, placeHolds w .1)))
-      (f5-note _ _ (n .state) c u d (k c))
+      (f5-holds k (n .state) c u d (placeHolds w .0) (omega (arith, placeHolds w .1)))
+      (f5-note _ _ _ (n .state) c u d (k c))
 
   -- n blocks: EMPTY, and the region is no longer open, but held by the task.
   to-empty : AsNoted (m .descriptor d) n → (h : length joined ≡ perRegion c)

@@ -1,22 +1,22 @@
 -- The invariant after a start.
--- Assumes nothing.
 use mathlib.Core.Path.{_≡_, refl, sym, ap, _∙_}
-use mathlib.Core.List.{[]}
 use Prim.Native.Nat.{ℕ, zero, suc, _+_, _≤_, _<_}
 use native.Mathlib.Omega.{arith}
 use native.Mathlib.Decide.{ℕ-discrete}
 use lib.ListN.{length}
+use mathlib.Core.List.{[]}
+use Rattle.limits.specs.Limits.{TASKS, CLASSES, DESCRIPTORS, SPARE-DESCRIPTORS, SPARE-REGIONS}
 use Rattle.rows.specs.Tests.{same, other, same?}
 use Rattle.rows.specs.Weights.{below}
 use Rattle.rows.specs.Counting.{count}
 use Rattle.rows.proofs.Branch.{if-yes, if-no}
 use Rattle.rows.proofs.Weights.{when-same, when-other, when-zero, below-yes, below-no, below-max}
 use Rattle.rows.proofs.Totals.{total-suc, total-zero}
-use Rattle.plain.specs.State.{EMPTY, Descriptor, idle, Task, SPARES, REGIONS}
+use Rattle.plain.specs.State.{EMPTY, Descriptor, idle, Task}
 use Rattle.plain.specs.Calls.{rising, startRow, startMem}
-use Rattle.plain.specs.Weights.{rowWeight, insideWeight, chainWeight, chainClassWeight, openWeight}
-use Rattle.plain.specs.Weights.{fullWeight, blockWeight, blockClassWeight, descriptorWeight}
-use Rattle.plain.specs.Weights.{descriptorClassWeight, spareWeight, regionWeight}
+use Rattle.plain.specs.Weights.{rowWeight, insideWeight, chainWeight, chainClassWeight, openWeight, fullWeight}
+use Rattle.plain.specs.Weights.{blockWeight, blockClassWeight, descriptorWeight, descriptorClassWeight}
+use Rattle.plain.specs.Weights.{spareWeight, regionWeight}
 use Rattle.plain.specs.Invariant.{never-opened, Invariant}
 
 -- ---- the n items from i on
@@ -55,18 +55,18 @@ length-rising (suc n) i = ap suc (length-rising n (suc i))
 
 -- ---- the lists at a start
 
-partial-row : (area ℓ : ℕ) → ℓ < 16 → startRow area ℓ ≡ []
+partial-row : (area ℓ : ℕ) → ℓ < CLASSES → startRow area ℓ ≡ []
 partial-row area ℓ h =
-    if-no (ℕ-discrete ℓ SPARES) (rising 64 0) _ (omega arith)
-    ∙ if-no (ℕ-discrete ℓ REGIONS) (rising area 0) [] (omega arith)
+    if-no (ℕ-discrete ℓ SPARE-DESCRIPTORS) (rising DESCRIPTORS 0) _ (omega arith)
+    ∙ if-no (ℕ-discrete ℓ SPARE-REGIONS) (rising area 0) [] (omega arith)
 
-spare-row : (area : ℕ) → startRow area SPARES ≡ rising 64 0
-spare-row area = if-yes (ℕ-discrete SPARES SPARES) (rising 64 0) _ refl
+spare-row : (area : ℕ) → startRow area SPARE-DESCRIPTORS ≡ rising DESCRIPTORS 0
+spare-row area = if-yes (ℕ-discrete SPARE-DESCRIPTORS SPARE-DESCRIPTORS) (rising DESCRIPTORS 0) _ refl
 
-region-row : (area : ℕ) → startRow area REGIONS ≡ rising area 0
+region-row : (area : ℕ) → startRow area SPARE-REGIONS ≡ rising area 0
 region-row area =
-    if-no (ℕ-discrete REGIONS SPARES) (rising 64 0) _ (omega arith)
-    ∙ if-yes (ℕ-discrete REGIONS REGIONS) (rising area 0) [] refl
+    if-no (ℕ-discrete SPARE-REGIONS SPARE-DESCRIPTORS) (rising DESCRIPTORS 0) _ (omega arith)
+    ∙ if-yes (ℕ-discrete SPARE-REGIONS SPARE-REGIONS) (rising area 0) [] refl
 
 -- A start makes the invariant true.
 pub start-inv : (area : ℕ) → Invariant area (startMem area)
@@ -74,43 +74,43 @@ unfolding startMem
 start-inv area = record {
   descriptors = λ d. omega (
     arith,
-    total-suc 16 (rowWeight d) (startRow area),
-    total-zero 16 (rowWeight d) (startRow area) (λ i l. ap (count d) (partial-row area i l)),
+    total-suc CLASSES (rowWeight d) (startRow area),
+    total-zero CLASSES (rowWeight d) (startRow area) (λ i l. ap (count d) (partial-row area i l)),
     ap (count d) (spare-row area),
-    rising-count 64 d,
-    total-zero 8 (descriptorWeight d) tasks (λ i l. refl),
-    total-zero 64 (fullWeight d) descriptors (λ i l. when-zero d i),
+    rising-count DESCRIPTORS d,
+    total-zero TASKS (descriptorWeight d) tasks (λ i l. refl),
+    total-zero DESCRIPTORS (fullWeight d) descriptors (λ i l. when-zero d i),
   );
   regions = λ r. omega (
     arith,
     ap (count r) (region-row area),
     rising-count area r,
-    total-zero 8 (regionWeight r) tasks (λ i l. refl),
-    total-zero 64 (openWeight r) descriptors (λ i l. refl),
+    total-zero TASKS (regionWeight r) tasks (λ i l. refl),
+    total-zero DESCRIPTORS (openWeight r) descriptors (λ i l. refl),
   );
   classes = λ c d l. omega (
     arith,
     ap (count d) (partial-row area c l),
-    total-zero 8 (descriptorClassWeight c d) tasks (λ i l. when-zero c 0),
+    total-zero TASKS (descriptorClassWeight c d) tasks (λ i l. when-zero c 0),
   );
   spares = λ d. omega (
     arith,
     ap (count d) (spare-row area),
-    rising-count 64 d,
-    below-max d 64,
-    total-zero 8 (spareWeight d) tasks (λ i l. refl),
+    rising-count DESCRIPTORS d,
+    below-max d DESCRIPTORS,
+    total-zero TASKS (spareWeight d) tasks (λ i l. refl),
   );
   blocks = λ v. omega (
     arith,
-    total-zero 8 (blockWeight v) tasks
-        (λ i l. omega (arith, total-zero 16 (rowWeight v) (λ (c : ℕ). []) (λ i l. refl))),
-    total-zero 64 (chainWeight v) descriptors (λ i l. refl),
-    total-zero 64 (insideWeight v) descriptors (λ i l. refl),
+    total-zero TASKS (blockWeight v) tasks
+        (λ i l. omega (arith, total-zero CLASSES (rowWeight v) (λ (c : ℕ). []) (λ i l. refl))),
+    total-zero DESCRIPTORS (chainWeight v) descriptors (λ i l. refl),
+    total-zero DESCRIPTORS (insideWeight v) descriptors (λ i l. refl),
   );
   blockClasses = λ c v. omega (
     arith,
-    total-zero 8 (blockClassWeight c v) tasks (λ i l. omega (arith, when-zero c 0)),
-    total-zero 64 (chainClassWeight c v) descriptors (λ i l. refl),
+    total-zero TASKS (blockClassWeight c v) tasks (λ i l. omega (arith, when-zero c 0)),
+    total-zero DESCRIPTORS (chainClassWeight c v) descriptors (λ i l. refl),
   );
   chains = λ d l. tt;
   closed = λ d l. never-opened refl;

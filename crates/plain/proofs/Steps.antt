@@ -1,18 +1,19 @@
 -- The invariant after every step.
--- Assumes nothing.
 use mathlib.Core.Path.{_≡_, refl}
 use mathlib.Core.List.{List}
 use Prim.Native.Nat.{ℕ, zero, suc, _<_}
 use native.Mathlib.Omega.{arith}
 use lib.ListN.{length-append}
+use Rattle.rows.proofs.Weights.{when-same}
+use Rattle.limits.specs.Limits.{TASKS}
 use Rattle.classes.specs.Places.{regionOf}
 use Rattle.plain.specs.State.{Place, idle, a1, popping, pushing, a3-read, a3-exchange, a4, a7, a8, f1, f2}
-use Rattle.plain.specs.State.{f3-read, f3-link, f3-exchange, f4-clear, Mem}
-use Rattle.plain.specs.Steps.{f3Read, stepAt, step}
+use Rattle.plain.specs.State.{f3-read, f3-link, f3-exchange, f4-clear, Mem, Work, working}
+use Rattle.plain.specs.Steps.{f3Read, stepAt, stepOf, whenWorking}
 use Rattle.plain.specs.Invariant.{Invariant}
 use Rattle.plain.proofs.Tests.{Kept}
 use Rattle.plain.proofs.Turn.{Turn}
-use Rattle.plain.proofs.Places.{taskOf, turnAt, placeHolds, placed}
+use Rattle.plain.proofs.Places.{taskOf, turnAt, placeHolds, placed, noteHolds}
 use Rattle.plain.proofs.Caches.{a1-inv, a4-inv, a8-inv, f1-inv, f2-inv}
 use Rattle.plain.proofs.Lists.{pop-inv, push-inv}
 use Rattle.plain.proofs.Takes.{a3-read-inv, a3-exchange-inv}
@@ -23,18 +24,18 @@ use Rattle.plain.proofs.Returns.{f3-exchange-inv}
 module _ {area : ℕ} {m : Mem} {t : ℕ} (k : ℕ → List ℕ) where
   -- The anchor read of a free; where the map names no descriptor nothing happens.
   read-step : (c u y : ℕ) (g : List ℕ) (z : ℕ) → m .map (regionOf y) ≡ z
-      → Turn area m t (taskOf (f3-read c u y g) k) → Kept area (f3Read t k z c u y g m)
+      → Turn area m t (taskOf (working (f3-read c u y g)) k) → Kept area (f3Read t k z c u y g m)
   read-step c u y g zero e w = w .inv
   read-step c u y g (suc d) e w =
       let o = placeHolds w in
-      let group : Grouped m (f3-read c u y g) c u y g d =
+      let group : Grouped m (working (f3-read c u y g)) c u y g d =
       record { blocks = refl; class = refl; together = o .2; named = e } in
       placed w _ refl
-      (o .0, o .1, o .2, e, omega (arith, group-fits w group, length-append g (m .descriptor d .chain))) tt
+      (o .0, o .1, o .2, omega (arith, group-fits w group, length-append g (m .descriptor d .chain)))
+      (omega (arith, when-same y 1), e)
 
   -- The step list.
-  step-at : (p : Place) → Turn area m t (taskOf p k) → Kept area (stepAt t k p m)
-  step-at idle w = w .inv
+  step-at : (p : Work) → Turn area m t (taskOf (working p) k) → Kept area (stepAt t k p m)
   step-at (a1 c) w = a1-inv c (k c) refl w
   step-at (popping p φ) w = pop-inv p φ w
   step-at (pushing p φ) w = push-inv p φ w
@@ -46,11 +47,15 @@ module _ {area : ℕ} {m : Mem} {t : ℕ} (k : ℕ → List ℕ) where
   step-at (f1 c u) w = f1-inv c u w
   step-at (f2 c u g) w = f2-inv c u (k c) g refl w
   step-at (f3-read c u y g) w = read-step c u y g (m .map (regionOf y)) refl w
-  step-at (f3-link c u y g d n) w = placed w _ refl (placeHolds w) tt
+  step-at (f3-link c u y g d n) w = placed w _ refl (placeHolds w) (noteHolds w)
   step-at (f3-exchange c u y g d n) w = f3-exchange-inv w
   step-at (f4-clear c u d s r) w = clear-inv c u d s r w
 
--- Every step of one of the tasks keeps the invariant.
-pub step-inv : {area : ℕ} {m : Mem} (t : ℕ) → t < 8 → Invariant area m → Kept area (step t m)
-unfolding step
-step-inv {m = m} t l I = step-at (m .task t .cache) (m .task t .place) (turnAt I l refl)
+  -- Every step of one of the tasks, if it has a request.
+  step-of : (p : Place) → Turn area m t (taskOf p k) → Kept area (whenWorking p (λ q. stepAt t k q m) m)
+  step-of idle w = w .inv
+  step-of (working q) w = step-at q w
+
+pub step-inv : {area : ℕ} {m : Mem} (t : ℕ) → t < TASKS → Invariant area m → Kept area (stepOf t m)
+unfolding stepOf
+step-inv {m = m} t l I = step-of (m .task t .cache) (m .task t .place) (turnAt I l refl)

@@ -1,18 +1,18 @@
 -- Step 3 of an allocate: the anchor read, and the exchange that takes the chain.
--- Assumes nothing.
 use mathlib.Core.Path.{_≡_, refl, ap}
-use mathlib.Core.List.{List, [], _∷_}
+use mathlib.Core.List.{List, _∷_, []}
 use Prim.Native.Nat.{ℕ, _+_, _≤_, _<_}
 use native.Mathlib.Omega.{arith}
 use lib.ListN.{length}
+use Rattle.limits.specs.Limits.{DESCRIPTORS}
 use Rattle.rows.specs.Tests.{same, other, same?}
 use Rattle.rows.specs.Weights.{when, one}
 use Rattle.rows.specs.Counting.{count}
 use Rattle.rows.proofs.Weights.{when-same, when-other, when-zero}
 use Rattle.classes.specs.Classes.{perRegion}
 use Rattle.plain.specs.State.{State, EMPTY, PARTIAL, FULL, numberOf, Note, read, retire, pushing, a3-read}
-use Rattle.plain.specs.State.{a3-exchange, Mem, setDescriptor}
-use Rattle.plain.specs.Steps.{moving, AsNoted, asNoted?, chained, at, a3Read, a3Exchange}
+use Rattle.plain.specs.State.{a3-exchange, Mem, setDescriptor, working}
+use Rattle.plain.specs.Steps.{moving, AsNoted, asNoted?, chained, at, a3Read, a3Exchange, to}
 use Rattle.plain.specs.Blocks.{isBlock}
 use Rattle.plain.specs.States.{ifOpen, IsOpen, isFull, isEmpty}
 use Rattle.plain.specs.Invariant.{ChainLength, OpenDescriptor, Invariant}
@@ -25,7 +25,7 @@ use Rattle.plain.proofs.Anchors.{in-hand, class-of, anchored}
 
 -- the descriptor whose chain is taken: it was noted as not EMPTY, and as it is held it is not FULL
 pub record Taken (m : Mem) (c d : ℕ) : Type 0 where
-  pub fits : d < 64
+  pub fits : d < DESCRIPTORS
   pub counts : IsOpen (m .descriptor d .state)
   pub state : m .descriptor d .state ≡ PARTIAL
   pub class : c ≡ m .descriptor d .class
@@ -34,10 +34,10 @@ pub record Taken (m : Mem) (c d : ℕ) : Type 0 where
 
 -- An exchange of an anchor that is as noted takes such a descriptor's chain.
 pub taken : {area : ℕ} {m : Mem} {t : ℕ} {k : ℕ → List ℕ} {c d : ℕ} {n : Note}
-    → Turn area m t (taskOf (a3-exchange c d n) k) → AsNoted (m .descriptor d) n → Taken m c d
+    → Turn area m t (taskOf (working (a3-exchange c d n)) k) → AsNoted (m .descriptor d) n → Taken m c d
 taken {m = m} {c = c} {d = d} {n = n} w s = by (state? (m .descriptor d .state))
   where
-    hand : (d < 64) × (isFull (m .descriptor d .state) ≡ 0)
+    hand : (d < DESCRIPTORS) × (isFull (m .descriptor d .state) ≡ 0)
     hand = in-hand w d (omega (arith, when-same d 1))
 
     of-class : c ≡ m .descriptor d .class
@@ -62,9 +62,9 @@ taken {m = m} {c = c} {d = d} {n = n} w s = by (state? (m .descriptor d .state))
 
 module _ {area : ℕ} {m : Mem} {t : ℕ} {k : ℕ → List ℕ} where
   -- The anchor read: an EMPTY descriptor is held as spare from now on, any other is exchanged next.
-  pub a3-read-inv : (c d : ℕ) (s : State) → m .descriptor d .state ≡ s → Turn area m t (taskOf (a3-read c d) k)
+  pub a3-read-inv : (c d : ℕ) (s : State) → m .descriptor d .state ≡ s → Turn area m t (taskOf (working (a3-read c d)) k)
       → Kept area (a3Read t k c d s m)
-  a3-read-inv c d EMPTY e w = turn-inv w _ (taskOf (pushing (retire c d) read) k) refl (record {
+  a3-read-inv c d EMPTY e w = turn-inv w _ (taskOf (working (pushing (retire c d) read)) k) refl (record {
     descriptors = λ x. omega arith;
     regions = λ r. omega arith;
     classes = λ f x l. fewer (omega (arith, when-zero f c));
@@ -90,8 +90,8 @@ module _ {area : ℕ} {m : Mem} {t : ℕ} {k : ℕ → List ℕ} where
 
   -- The won exchange: the chain's blocks are under way from now on.
   take-inv : (c d : ℕ) (n : Note) (q : List ℕ) → m .descriptor d .chain ≡ q
-      → Turn area m t (taskOf (a3-exchange c d n) k) → AsNoted (m .descriptor d) n
-      → Invariant area (at t k (moving c q) (setDescriptor d (chained (m .descriptor d) FULL []) m))
+      → Turn area m t (taskOf (working (a3-exchange c d n)) k) → AsNoted (m .descriptor d) n
+      → Invariant area (to t k (moving c q) (setDescriptor d (chained (m .descriptor d) FULL []) m))
   take-inv c d n [] e w s = absurd (omega (arith, taken w s .chain, ap length e))
   take-inv c d n (y ∷ q) e w s =
       let D = m .descriptor d in
@@ -126,7 +126,7 @@ module _ {area : ℕ} {m : Mem} {t : ℕ} {k : ℕ → List ℕ} where
       (placeHolds w .0, omega (arith, placeHolds w .1, T .chain, ap length e)) tt
 
   -- The exchange, won or lost.
-  pub a3-exchange-inv : (c d : ℕ) (n : Note) → Turn area m t (taskOf (a3-exchange c d n) k)
+  pub a3-exchange-inv : (c d : ℕ) (n : Note) → Turn area m t (taskOf (working (a3-exchange c d n)) k)
       → Kept area (a3Exchange t k c d n m)
   a3-exchange-inv c d n w = either (Kept area) (asNoted? (m .descriptor d) n) _ _
       (λ s. take-inv c d n (m .descriptor d .chain) refl w s)

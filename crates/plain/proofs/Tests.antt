@@ -1,5 +1,4 @@
 -- Tests that a step or a call makes.
--- Assumes nothing.
 use Prim.Native.Nat.{ℕ}
 use Rattle.rows.specs.Branch.{if}
 use Rattle.plain.specs.Steps.{Result}

@@ -1,9 +1,9 @@
 -- One task's turn: what a step has to show of what it changes, and that the invariant then holds again.
--- Assumes nothing.
 use mathlib.Core.Path.{_≡_, refl, sym, ap, subst, _∙_}
 use mathlib.Core.Logic.{_≢_}
 use Prim.Native.Nat.{ℕ, suc, _+_, _≤_, _<_}
 use native.Mathlib.Omega.{arith}
+use Rattle.limits.specs.Limits.{TASKS, CLASSES, DESCRIPTORS, SPARE-DESCRIPTORS, SPARE-REGIONS}
 use Rattle.rows.specs.Update.{update}
 use Rattle.rows.specs.Weights.{one}
 use Rattle.rows.specs.Counting.{count}
@@ -12,24 +12,24 @@ use Rattle.rows.proofs.Update.{update-all}
 use Rattle.rows.proofs.Weights.{below-max}
 use Rattle.rows.proofs.Totals.{total-le, total-one, total-update}
 use Rattle.classes.specs.Places.{regionOf}
-use Rattle.plain.specs.State.{Task, SPARES, REGIONS, Mem, setTask}
+use Rattle.plain.specs.State.{Task, Mem, setTask}
 use Rattle.plain.specs.Steps.{at}
 use Rattle.plain.specs.States.{IfOpen, IfEmpty, isEmpty}
 use Rattle.plain.specs.Held.{classAt, underWay}
-use Rattle.plain.specs.Weights.{rowWeight, insideWeight, insideClassWeight, chainWeight}
-use Rattle.plain.specs.Weights.{chainClassWeight, openWeight, fullWeight, blockWeight}
-use Rattle.plain.specs.Weights.{blockClassWeight, descriptorWeight, descriptorClassWeight}
-use Rattle.plain.specs.Weights.{spareWeight, regionWeight, unmappedWeight}
+use Rattle.plain.specs.Weights.{rowWeight, insideWeight, insideClassWeight, chainWeight, chainClassWeight}
+use Rattle.plain.specs.Weights.{openWeight, fullWeight, blockWeight, blockClassWeight, descriptorWeight}
+use Rattle.plain.specs.Weights.{descriptorClassWeight, spareWeight, regionWeight, unmappedWeight}
 use Rattle.plain.specs.Places.{TaskHolds}
 use Rattle.plain.specs.Invariant.{OpenDescriptor, ClosedDescriptor, Invariant}
+use Rattle.plain.specs.Noted.{noted}
 use Rattle.plain.proofs.Held.{spare-held, class-held, unmapped-held}
 use Rattle.plain.proofs.Homes.{inside-open, class-inside, underWay-class}
-use Rattle.plain.proofs.Notes.{holds-kept, Exchanges, as-before, note-kept}
+use Rattle.plain.proofs.Notes.{Exchanges, as-before, note-kept}
 
 -- the task t, which is T, is about to take a step in a memory that has the invariant
 pub record Turn (area : ℕ) (m : Mem) (t : ℕ) (T : Task) : Type 0 where
   pub inv : Invariant area m
-  pub fits : t < 8
+  pub fits : t < TASKS
   pub is : m .task t ≡ T
 
 -- Two of the laws say n ≤ e, of a descriptor that is on some list or held in some way. After a step n′ ≤ e′
@@ -48,45 +48,45 @@ pub data Unmapped (n n′ z z′ o′ : ℕ) : Type 0 where
 -- what a step has to show, after which the memory is m′, and the task T′
 pub record Shown (m : Mem) (t : ℕ) (T : Task) (m′ : Mem) (T′ : Task) : Type 0 where
   pub descriptors : (x : ℕ)
-      → total 17 (rowWeight x) (m′ .row) + descriptorWeight x t T′ + total 64 (fullWeight x) (m′ .descriptor)
-      ≡ total 17 (rowWeight x) (m .row) + descriptorWeight x t T + total 64 (fullWeight x) (m .descriptor)
+      → total SPARE-REGIONS (rowWeight x) (m′ .row) + descriptorWeight x t T′ + total DESCRIPTORS (fullWeight x) (m′ .descriptor)
+      ≡ total SPARE-REGIONS (rowWeight x) (m .row) + descriptorWeight x t T + total DESCRIPTORS (fullWeight x) (m .descriptor)
   pub regions : (r : ℕ)
-      → count r (m′ .row REGIONS) + regionWeight r t T′ + total 64 (openWeight r) (m′ .descriptor)
-      ≡ count r (m .row REGIONS) + regionWeight r t T + total 64 (openWeight r) (m .descriptor)
-  pub classes : (c x : ℕ) → c < 16 → Asked
+      → count r (m′ .row SPARE-REGIONS) + regionWeight r t T′ + total DESCRIPTORS (openWeight r) (m′ .descriptor)
+      ≡ count r (m .row SPARE-REGIONS) + regionWeight r t T + total DESCRIPTORS (openWeight r) (m .descriptor)
+  pub classes : (c x : ℕ) → c < CLASSES → Asked
       (count x (m .row c) + descriptorClassWeight c x t T)
       (count x (m′ .row c) + descriptorClassWeight c x t T′)
       (one c (m .descriptor x .class))
       (one c (m′ .descriptor x .class))
-      (total 64 (fullWeight x) (m′ .descriptor))
+      (total DESCRIPTORS (fullWeight x) (m′ .descriptor))
   pub spares : (x : ℕ) → Asked
-      (count x (m .row SPARES) + spareWeight x t T)
-      (count x (m′ .row SPARES) + spareWeight x t T′)
+      (count x (m .row SPARE-DESCRIPTORS) + spareWeight x t T)
+      (count x (m′ .row SPARE-DESCRIPTORS) + spareWeight x t T′)
       (isEmpty (m .descriptor x .state))
       (isEmpty (m′ .descriptor x .state))
-      (total 64 (fullWeight x) (m′ .descriptor))
+      (total DESCRIPTORS (fullWeight x) (m′ .descriptor))
   pub blocks : (v : ℕ)
-      → m′ .hands v + blockWeight v t T′ + total 64 (chainWeight v) (m′ .descriptor)
-      + total 64 (insideWeight v) (m .descriptor)
-      ≡ m .hands v + blockWeight v t T + total 64 (chainWeight v) (m .descriptor)
-      + total 64 (insideWeight v) (m′ .descriptor)
+      → m′ .hands v + blockWeight v t T′ + total DESCRIPTORS (chainWeight v) (m′ .descriptor)
+      + total DESCRIPTORS (insideWeight v) (m .descriptor)
+      ≡ m .hands v + blockWeight v t T + total DESCRIPTORS (chainWeight v) (m .descriptor)
+      + total DESCRIPTORS (insideWeight v) (m′ .descriptor)
   pub blockClasses : (c v : ℕ)
-      → total 8 (blockClassWeight c v) (m .task) + blockClassWeight c v t T′
-      + total 64 (chainClassWeight c v) (m′ .descriptor)
-      ≤ blockClassWeight c v t T + total 64 (insideClassWeight c v) (m′ .descriptor)
-  pub chains : (d : ℕ) → d < 64 → IfOpen (m′ .descriptor d .state) (OpenDescriptor (m′ .descriptor d))
-  pub closed : (d : ℕ) → d < 64 → IfEmpty (m′ .descriptor d .state) (ClosedDescriptor (m′ .descriptor d))
-  pub maps : (d : ℕ) → d < 64 → IfOpen (m′ .descriptor d .state) (m′ .map (m′ .descriptor d .region) ≡ suc d)
-  pub entries : (r : ℕ) → m′ .map r ≤ 64
+      → total TASKS (blockClassWeight c v) (m .task) + blockClassWeight c v t T′
+      + total DESCRIPTORS (chainClassWeight c v) (m′ .descriptor)
+      ≤ blockClassWeight c v t T + total DESCRIPTORS (insideClassWeight c v) (m′ .descriptor)
+  pub chains : (d : ℕ) → d < DESCRIPTORS → IfOpen (m′ .descriptor d .state) (OpenDescriptor (m′ .descriptor d))
+  pub closed : (d : ℕ) → d < DESCRIPTORS → IfEmpty (m′ .descriptor d .state) (ClosedDescriptor (m′ .descriptor d))
+  pub maps : (d : ℕ) → d < DESCRIPTORS → IfOpen (m′ .descriptor d .state) (m′ .map (m′ .descriptor d .region) ≡ suc d)
+  pub entries : (r : ℕ) → m′ .map r ≤ DESCRIPTORS
   pub unmapped : (r : ℕ) → Unmapped
-      (count r (m .row REGIONS) + unmappedWeight r t T)
-      (count r (m′ .row REGIONS) + unmappedWeight r t T′)
+      (count r (m .row SPARE-REGIONS) + unmappedWeight r t T)
+      (count r (m′ .row SPARE-REGIONS) + unmappedWeight r t T′)
       (m .map r)
       (m′ .map r)
-      (total 64 (openWeight r) (m′ .descriptor))
+      (total DESCRIPTORS (openWeight r) (m′ .descriptor))
   pub own : TaskHolds m′ T′
   -- the map's entries of open regions stay
-  pub kept : (r : ℕ) → 1 ≤ total 64 (openWeight r) (m .descriptor) → m′ .map r ≡ m .map r
+  pub kept : (r : ℕ) → 1 ≤ total DESCRIPTORS (openWeight r) (m .descriptor) → m′ .map r ≡ m .map r
   pub exchanges : (ℓ : ℕ) → Exchanges (m .won ℓ) (m .row ℓ) (m′ .won ℓ) (m′ .row ℓ)
 
 module _ {area : ℕ} {m : Mem} {t : ℕ} {T : Task} (w : Turn area m t T) where
@@ -95,8 +95,8 @@ module _ {area : ℕ} {m : Mem} {t : ℕ} {T : Task} (w : Turn area m t T) where
   taskHolds = rw (w .is) at (w .inv .tasks t (w .fits))
 
   -- The region of what a task has under way is open.
-  underWay-open : (j y : ℕ) → j < 8 → 1 ≤ count y (underWay (m .task j .place))
-      → 1 ≤ total 64 (openWeight (regionOf y)) (m .descriptor)
+  underWay-open : (j y : ℕ) → j < TASKS → 1 ≤ count y (underWay (m .task j .place))
+      → 1 ≤ total DESCRIPTORS (openWeight (regionOf y)) (m .descriptor)
   underWay-open j y l h =
       let c = classAt (m .task j .place) in
       omega (arith, underWay-class (w .inv) j y l, class-inside (w .inv) c y, inside-open (w .inv) y)
@@ -115,63 +115,63 @@ module _ {area : ℕ} {m : Mem} {t : ℕ} {T : Task} (w : Turn area m t T) where
     maps = s .maps;
     entries = s .entries;
     unmapped = λ r. unmapped r (s .unmapped r);
-    tasks = subst (λ (f : ℕ → Task). (j : ℕ) → j < 8 → TaskHolds m′ (f j)) (sym e)
-        (update-all (λ j U. j < 8 → TaskHolds m′ U) (m .task) t T′ (λ l. s .own) others);
+    tasks = subst (λ (f : ℕ → Task). (j : ℕ) → j < TASKS → TaskHolds m′ (f j)) (sym e)
+        (update-all (λ j U. j < TASKS → TaskHolds m′ U) (m .task) t T′ (λ l. s .own) others);
   }
     where
       -- a weight summed over the tasks, after the task's change
-      retask : (z : ℕ → Task → ℕ) → total 8 z (m′ .task) + z t T ≡ total 8 z (m .task) + z t T′
+      retask : (z : ℕ → Task → ℕ) → total TASKS z (m′ .task) + z t T ≡ total TASKS z (m .task) + z t T′
       retask z = omega (
         arith,
-        total-update 8 z (m .task) t T′ (w .fits),
+        total-update TASKS z (m .task) t T′ (w .fits),
         ap (z t) (w .is),
-        ap (λ (f : ℕ → Task). total 8 z f) e,
+        ap (λ (f : ℕ → Task). total TASKS z f) e,
       )
 
       -- A descriptor is on the list ℓ, or held, or FULL, but once; z is a way to hold it.
-      once : (z : ℕ → Task → ℕ) (x ℓ : ℕ) → ℓ < 17
+      once : (z : ℕ → Task → ℕ) (x ℓ : ℕ) → ℓ < SPARE-REGIONS
           → ((i : ℕ) → z i (m′ .task i) ≤ descriptorWeight x i (m′ .task i))
-          → count x (m′ .row ℓ) + total 8 z (m′ .task) + total 64 (fullWeight x) (m′ .descriptor) ≤ 1
+          → count x (m′ .row ℓ) + total TASKS z (m′ .task) + total DESCRIPTORS (fullWeight x) (m′ .descriptor) ≤ 1
       once z x ℓ l h = omega (
         arith,
         w .inv .descriptors x,
         retask (descriptorWeight x),
         s .descriptors x,
-        total-one 17 (rowWeight x) (m′ .row) ℓ l,
-        total-le 8 z (descriptorWeight x) (m′ .task) (λ i g. h i),
-        below-max x 64,
+        total-one SPARE-REGIONS (rowWeight x) (m′ .row) ℓ l,
+        total-le TASKS z (descriptorWeight x) (m′ .task) (λ i g. h i),
+        below-max x DESCRIPTORS,
       )
 
-      classes : (c x : ℕ) → c < 16 → Asked
+      classes : (c x : ℕ) → c < CLASSES → Asked
           (count x (m .row c) + descriptorClassWeight c x t T)
           (count x (m′ .row c) + descriptorClassWeight c x t T′)
           (one c (m .descriptor x .class))
           (one c (m′ .descriptor x .class))
-          (total 64 (fullWeight x) (m′ .descriptor))
-          → count x (m′ .row c) + total 8 (descriptorClassWeight c x) (m′ .task) ≤ one c (m′ .descriptor x .class)
+          (total DESCRIPTORS (fullWeight x) (m′ .descriptor))
+          → count x (m′ .row c) + total TASKS (descriptorClassWeight c x) (m′ .task) ≤ one c (m′ .descriptor x .class)
       classes c x l (fewer h) = omega (arith, w .inv .classes c x l, retask (descriptorClassWeight c x))
       classes c x l (enough h) =
           let z = descriptorClassWeight c x in
           omega (arith, once z x c (omega arith) (λ i. class-held c x (m′ .task i .place)))
 
       spares : (x : ℕ) → Asked
-          (count x (m .row SPARES) + spareWeight x t T)
-          (count x (m′ .row SPARES) + spareWeight x t T′)
+          (count x (m .row SPARE-DESCRIPTORS) + spareWeight x t T)
+          (count x (m′ .row SPARE-DESCRIPTORS) + spareWeight x t T′)
           (isEmpty (m .descriptor x .state))
           (isEmpty (m′ .descriptor x .state))
-          (total 64 (fullWeight x) (m′ .descriptor))
-          → count x (m′ .row SPARES) + total 8 (spareWeight x) (m′ .task) ≤ isEmpty (m′ .descriptor x .state)
+          (total DESCRIPTORS (fullWeight x) (m′ .descriptor))
+          → count x (m′ .row SPARE-DESCRIPTORS) + total TASKS (spareWeight x) (m′ .task) ≤ isEmpty (m′ .descriptor x .state)
       spares x (fewer h) = omega (arith, w .inv .spares x, retask (spareWeight x))
       spares x (enough h) =
-          omega (arith, once (spareWeight x) x SPARES (omega arith) (λ i. spare-held x (m′ .task i .place)))
+          omega (arith, once (spareWeight x) x SPARE-DESCRIPTORS (omega arith) (λ i. spare-held x (m′ .task i .place)))
 
       unmapped : (r : ℕ) → Unmapped
-          (count r (m .row REGIONS) + unmappedWeight r t T)
-          (count r (m′ .row REGIONS) + unmappedWeight r t T′)
+          (count r (m .row SPARE-REGIONS) + unmappedWeight r t T)
+          (count r (m′ .row SPARE-REGIONS) + unmappedWeight r t T′)
           (m .map r)
           (m′ .map r)
-          (total 64 (openWeight r) (m′ .descriptor))
-          → 1 ≤ count r (m′ .row REGIONS) + total 8 (unmappedWeight r) (m′ .task) → m′ .map r ≡ 0
+          (total DESCRIPTORS (openWeight r) (m′ .descriptor))
+          → 1 ≤ count r (m′ .row SPARE-REGIONS) + total TASKS (unmappedWeight r) (m′ .task) → m′ .map r ≡ 0
       unmapped r (as-mapped l f) h = f ∙ w .inv .unmapped r (omega (arith, retask (unmappedWeight r)))
       unmapped r (no-entry f) h = f
       unmapped r (opens o) h = absurd (omega (
@@ -179,18 +179,18 @@ module _ {area : ℕ} {m : Mem} {t : ℕ} {T : Task} (w : Turn area m t T) where
         w .inv .regions r,
         retask (regionWeight r),
         s .regions r,
-        total-le 8 (unmappedWeight r) (regionWeight r) (m′ .task) (λ i g. unmapped-held r (m′ .task i .place)),
+        total-le TASKS (unmappedWeight r) (regionWeight r) (m′ .task) (λ i g. unmapped-held r (m′ .task i .place)),
         below-max r area,
       ))
 
-      others : (j : ℕ) → j ≢ t → j < 8 → TaskHolds m′ (m .task j)
+      others : (j : ℕ) → j ≢ t → j < TASKS → TaskHolds m′ (m .task j)
       others j d l =
           let o = w .inv .tasks j l in
           record {
             lengths = o .lengths;
-            place = holds-kept (m .map) (m′ .map) (m .task j .cache) (m .task j .place)
-                (λ y h. s .kept (regionOf y) (underWay-open j y l h)) (o .place);
-            note = note-kept m m′ (m .task j .place) (s .exchanges) (o .note);
+            place = o .place;
+            note = note-kept m m′ (underWay (m .task j .place)) (noted (m .task j .place)) (s .exchanges)
+                (λ y h. s .kept (regionOf y) (underWay-open j y l h)) (o .note);
           }
 
 -- ---- a step that changes the task alone

@@ -1,6 +1,5 @@
 -- The blocks of a region as a row.
--- Assumes nothing.
-use mathlib.Core.List.{List, [], _∷_}
+use mathlib.Core.List.{List, _∷_, []}
 use Prim.Native.Nat.{ℕ, zero, suc}
 use Rattle.rows.specs.Counting.{count}
 use Rattle.classes.specs.Classes.{perRegion}

@@ -1,14 +1,13 @@
 -- What a step and a call answer, in every state: the codes, where 12 and 13 come from, and how many exchanges are
 -- won.
--- Assumes nothing.
 use mathlib.Core.Path.{_≡_}
-use mathlib.Core.List.{[]}
 use Prim.Native.Nat.{ℕ, _+_, _≤_, _<_}
-use Rattle.plain.specs.State.{Phase, read, exchange, spare, region, back, popping, pushing, SPARES, REGIONS}
-use Rattle.plain.specs.State.{Mem}
+use mathlib.Core.List.{[]}
+use Rattle.limits.specs.Limits.{SPARE-DESCRIPTORS, SPARE-REGIONS}
+use Rattle.plain.specs.State.{Phase, read, exchange, spare, region, back, popping, pushing, Mem, working}
 use Rattle.plain.specs.Moves.{found-empty, pushed, Answer}
-use Rattle.plain.specs.Steps.{Result, step}
-use Rattle.plain.specs.Calls.{Pool, Call, go, became}
+use Rattle.plain.specs.Steps.{Result, stepOf, stepOf}
+use Rattle.plain.specs.Calls.{Pool, Call, became, step}
 
 -- the codes of a step: "Code 0 is accepted or still under way, 20 finished"; 7 without a request; 12 and 13 end one
 pub data StepCode : ℕ → Type 0 where
@@ -21,24 +20,24 @@ pub data StepCode : ℕ → Type 0 where
 -- the task t is at the head read of step 5's pop, and the list of spare descriptors is empty
 pub record ReadsNoSpare (t : ℕ) (m : Mem) : Type 0 where
   pub c : ℕ
-  pub place : m .task t .place ≡ popping (spare c) read
-  pub row : m .row SPARES ≡ []
+  pub place : m .task t .place ≡ working (popping (spare c) read)
+  pub row : m .row SPARE-DESCRIPTORS ≡ []
 
 -- the task t is at the exchange that pushes the descriptor d back, and wins it
 pub record PushesBack (t : ℕ) (m : Mem) (d : ℕ) : Type 0 where
   pub c : ℕ
   pub n : ℕ
-  pub place : m .task t .place ≡ pushing (back c d) (exchange n)
-  pub won : m .won SPARES ≡ n
+  pub place : m .task t .place ≡ working (pushing (back c d) (exchange n))
+  pub won : m .won SPARE-DESCRIPTORS ≡ n
 
 -- the task t is at the head read of step 6's pop, and the list of spare regions is empty
 pub record ReadsNoRegion (t : ℕ) (m : Mem) (c d : ℕ) : Type 0 where
-  pub place : m .task t .place ≡ popping (region c d) read
-  pub row : m .row REGIONS ≡ []
+  pub place : m .task t .place ≡ working (popping (region c d) read)
+  pub row : m .row SPARE-REGIONS ≡ []
 
 -- how a task comes to be pushing a descriptor back: it was on this push already, or read no region just now
 pub data WayBack (t : ℕ) (m : Mem) (c d : ℕ) : Phase → Type 0 where
-  stays : {φ : Phase} (ψ : Phase) → m .task t .place ≡ pushing (back c d) ψ → WayBack t m c d φ
+  stays : {φ : Phase} (ψ : Phase) → m .task t .place ≡ working (pushing (back c d) ψ) → WayBack t m c d φ
   comes : ReadsNoRegion t m c d → WayBack t m c d read
 
 -- x is what a step of the task t makes of the memory m
@@ -46,11 +45,11 @@ pub record StepFacts (t : ℕ) (m : Mem) (x : Result) : Type 0 where
   -- the code is one of five
   pub code : StepCode (x .1 .code)
   -- 12 is answered by the read of an empty list of spare descriptors only
-  pub twelve : x .1 .code ≡ 12 → ReadsNoSpare t m × (x .1 .decided ≡ found-empty SPARES)
+  pub twelve : x .1 .code ≡ 12 → ReadsNoSpare t m × (x .1 .decided ≡ found-empty SPARE-DESCRIPTORS)
   -- 13 is answered by the won exchange that pushes the descriptor back only
-  pub thirteen : x .1 .code ≡ 13 → (d : ℕ) × PushesBack t m d × (x .1 .decided ≡ pushed SPARES d)
+  pub thirteen : x .1 .code ≡ 13 → (d : ℕ) × PushesBack t m d × (x .1 .decided ≡ pushed SPARE-DESCRIPTORS d)
   -- the way to that push is taken by the read of an empty list of spare regions only
-  pub wayBack : (c d : ℕ) (φ : Phase) → x .0 .task t .place ≡ pushing (back c d) φ → WayBack t m c d φ
+  pub wayBack : (c d : ℕ) (φ : Phase) → x .0 .task t .place ≡ working (pushing (back c d) φ) → WayBack t m c d φ
   -- each list has at most one more won exchange
   pub won : (ℓ : ℕ) → x .0 .won ℓ ≤ m .won ℓ + 1
 
@@ -60,15 +59,14 @@ pub data CallIs (c : Call) (s : Pool) (x : Pool × Answer) : Type 0 where
   starts : x .1 .code ≡ 0 → ((ℓ : ℕ) → x .0 .mem .won ℓ ≡ 0) → CallIs c s x
   begins : x .1 .code ≤ 11 → x .0 .tasks ≡ s .tasks → ((ℓ : ℕ) → x .0 .mem .won ℓ ≡ s .mem .won ℓ)
       → CallIs c s x
-  steps : (control area t : ℕ) → c ≡ go control area t → t < s .tasks → x ≡ became s (step t (s .mem))
-      → CallIs c s x
+  steps : (t : ℕ) → c ≡ step t → t < s .tasks → x ≡ became s (stepOf t (s .mem)) → CallIs c s x
 
 -- the call that was answered a is a step that reads the empty list of spare descriptors
 pub record EndsBy12 (s : Pool) (a : Answer) : Type 0 where
   pub t : ℕ
   pub fits : t < s .tasks
   pub reads : ReadsNoSpare t (s .mem)
-  pub decided : a .decided ≡ found-empty SPARES
+  pub decided : a .decided ≡ found-empty SPARE-DESCRIPTORS
 
 -- it is a step that wins the exchange that pushes a descriptor back
 pub record EndsBy13 (s : Pool) (a : Answer) : Type 0 where
@@ -76,7 +74,7 @@ pub record EndsBy13 (s : Pool) (a : Answer) : Type 0 where
   pub d : ℕ
   pub fits : t < s .tasks
   pub pushes : PushesBack t (s .mem) d
-  pub decided : a .decided ≡ pushed SPARES d
+  pub decided : a .decided ≡ pushed SPARE-DESCRIPTORS d
 
 -- no list of a started pool has won more than n exchanges
 abbrev pub AtMost : ℕ → Pool → Type 0

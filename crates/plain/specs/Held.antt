@@ -1,13 +1,12 @@
 -- What a task has under way at each place.
--- Assumes nothing.
-use mathlib.Core.List.{List, [], _∷_}
+use mathlib.Core.List.{List, _∷_, []}
 use Prim.Native.Nat.{ℕ, _+_, _-_}
 use Rattle.rows.specs.Weights.{when}
 use Rattle.rows.specs.Counting.{count}
 use Rattle.classes.specs.Classes.{perRegion}
-use Rattle.plain.specs.State.{State, EMPTY, PARTIAL, FULL, partial, spare, region, retire, back, release}
-use Rattle.plain.specs.State.{offer, Place, idle, a1, popping, pushing, a3-read, a3-exchange, a4, a7, a8, f1}
-use Rattle.plain.specs.State.{f2, f3-read, f3-link, f3-exchange, f4-clear}
+use Rattle.plain.specs.State.{State, EMPTY, PARTIAL, FULL, partial, spare, region, retire, back, release, offer}
+use Rattle.plain.specs.State.{Place, idle, a1, popping, pushing, a3-read, a3-exchange, a4, a7, a8, f1, f2}
+use Rattle.plain.specs.State.{f3-read, f3-link, f3-exchange, f4-clear, Work, working, Pop, Push}
 use Rattle.plain.specs.Blocks.{blocksFrom}
 
 -- What a task has under way beside its caches: blocks, all of one class; descriptors held as spare, which are
@@ -31,30 +30,42 @@ owed EMPTY d = []
 owed PARTIAL d = []
 owed FULL d = d ∷ []
 
+-- what a task has under way in a pop, whatever its phase
+abbrev pub popHeld : Pop → Held
+popHeld (partial c) = hold c [] [] [] []
+popHeld (spare c) = hold c [] [] [] []
+popHeld (region c d) = hold c [] (d ∷ []) [] []
+
+-- .. and in a push
+abbrev pub pushHeld : Push → Held
+pushHeld (retire c d) = hold c [] (d ∷ []) [] []
+pushHeld (back c d) = hold c [] (d ∷ []) [] []
+pushHeld (release c u d w r) = hold c (u ∷ []) [] (owed w d) (r ∷ [])
+pushHeld (offer c u d) = hold c (u ∷ []) [] (d ∷ []) []
+
 -- What each place has under way. The blocks are a taken chain, those still to be carved, the block being freed,
 -- and a group.
+abbrev pub heldAt : Work → Held
+heldAt (a1 c) = hold c [] [] [] []
+heldAt (popping p φ) = popHeld p
+heldAt (pushing p φ) = pushHeld p
+heldAt (a3-read c d) = hold c [] [] (d ∷ []) []
+heldAt (a3-exchange c d n) = hold c [] [] (d ∷ []) []
+heldAt (a4 c x q) = hold c (x ∷ q) [] [] []
+heldAt (a7 c d r) = hold c [] (d ∷ []) [] (r ∷ [])
+heldAt (a8 c r i) = hold c (blocksFrom r c i (perRegion c - i)) [] [] []
+heldAt (f1 c u) = hold c (u ∷ []) [] [] []
+heldAt (f2 c u g) = hold c (u ∷ g) [] [] []
+heldAt (f3-read c u y g) = hold c (u ∷ y ∷ g) [] [] []
+heldAt (f3-link c u y g d n) = hold c (u ∷ y ∷ g) [] [] []
+heldAt (f3-exchange c u y g d n) = hold c (u ∷ y ∷ g) [] [] []
+heldAt (f4-clear c u d w r) =
+    record { class = c; blocks = u ∷ []; spares = []; listed = owed w d; regions = []; closing = r ∷ [] }
+
+-- an idle task has nothing under way
 abbrev pub held : Place → Held
 held idle = hold 0 [] [] [] []
-held (a1 c) = hold c [] [] [] []
-held (popping (partial c) φ) = hold c [] [] [] []
-held (popping (spare c) φ) = hold c [] [] [] []
-held (popping (region c d) φ) = hold c [] (d ∷ []) [] []
-held (pushing (retire c d) φ) = hold c [] (d ∷ []) [] []
-held (pushing (back c d) φ) = hold c [] (d ∷ []) [] []
-held (pushing (release c u d w r) φ) = hold c (u ∷ []) [] (owed w d) (r ∷ [])
-held (pushing (offer c u d) φ) = hold c (u ∷ []) [] (d ∷ []) []
-held (a3-read c d) = hold c [] [] (d ∷ []) []
-held (a3-exchange c d n) = hold c [] [] (d ∷ []) []
-held (a4 c x q) = hold c (x ∷ q) [] [] []
-held (a7 c d r) = hold c [] (d ∷ []) [] (r ∷ [])
-held (a8 c r i) = hold c (blocksFrom r c i (perRegion c - i)) [] [] []
-held (f1 c u) = hold c (u ∷ []) [] [] []
-held (f2 c u g) = hold c (u ∷ g) [] [] []
-held (f3-read c u y g) = hold c (u ∷ y ∷ g) [] [] []
-held (f3-link c u y g d n) = hold c (u ∷ y ∷ g) [] [] []
-held (f3-exchange c u y g d n) = hold c (u ∷ y ∷ g) [] [] []
-held (f4-clear c u d w r) =
-    record { class = c; blocks = u ∷ []; spares = []; listed = owed w d; regions = []; closing = r ∷ [] }
+held (working w) = heldAt w
 
 -- ---- how often something is under way
 

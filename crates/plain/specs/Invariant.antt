@@ -1,21 +1,20 @@
 -- The invariant of the plain pool: every descriptor, every region and every block has one place.
--- Assumes nothing.
 use mathlib.Core.Path.{_≡_}
-use mathlib.Core.List.{List, [], _∷_}
+use mathlib.Core.List.{List, _∷_, []}
 use Prim.Native.Nat.{ℕ, suc, _+_, _≤_, _<_}
 use lib.ListN.{length}
+use Rattle.limits.specs.Limits.{REGIONS, TASKS, CLASSES, DESCRIPTORS, SPARE-DESCRIPTORS, SPARE-REGIONS}
 use Rattle.rows.specs.Weights.{one, below}
 use Rattle.rows.specs.Counting.{count}
 use Rattle.rows.specs.Totals.{total}
 use Rattle.classes.specs.Classes.{perRegion}
-use Rattle.plain.specs.State.{State, EMPTY, PARTIAL, FULL, Descriptor, SPARES, REGIONS, Mem}
-use Rattle.plain.specs.Calls.{Pool, Call, call}
+use Rattle.plain.specs.State.{State, EMPTY, PARTIAL, FULL, Descriptor, Mem}
+use Rattle.plain.specs.Calls.{Pool, Call, call, Lengths}
 use Rattle.plain.specs.Blocks.{isBlock}
 use Rattle.plain.specs.States.{IfOpen, IfEmpty, isEmpty}
-use Rattle.plain.specs.Weights.{rowWeight, insideWeight, insideClassWeight, chainWeight}
-use Rattle.plain.specs.Weights.{chainClassWeight, openWeight, fullWeight, blockWeight}
-use Rattle.plain.specs.Weights.{blockClassWeight, descriptorWeight, descriptorClassWeight}
-use Rattle.plain.specs.Weights.{spareWeight, regionWeight, unmappedWeight}
+use Rattle.plain.specs.Weights.{rowWeight, insideWeight, insideClassWeight, chainWeight, chainClassWeight}
+use Rattle.plain.specs.Weights.{openWeight, fullWeight, blockWeight, blockClassWeight, descriptorWeight}
+use Rattle.plain.specs.Weights.{descriptorClassWeight, spareWeight, regionWeight, unmappedWeight}
 use Rattle.plain.specs.Places.{TaskHolds}
 
 -- how many blocks a chain has in each state, where a region has n
@@ -24,64 +23,64 @@ ChainLength EMPTY n l = Unit {0}
 ChainLength PARTIAL n l = (1 ≤ l) × (l < n)
 ChainLength FULL n l = l ≡ 0
 
--- an open region's descriptor: its class is one of the sixteen, its chain has blocks of its region, each once,
+-- an open region's descriptor: its class is one of the paper's, its chain has blocks of its region, each once,
 -- and as many as its state says
 pub record OpenDescriptor (D : Descriptor) : Type 0 where
-  pub fits : D .class < 16
+  pub fits : D .class < CLASSES
   pub inside : (v : ℕ) → count v (D .chain) ≤ isBlock v (D .region) (D .class)
   pub sized : ChainLength (D .state) (perRegion (D .class)) (length (D .chain))
 
 -- an EMPTY descriptor: it has no chain, as at the start, or its chain has all the blocks of the region that it opened
 pub data ClosedDescriptor (D : Descriptor) : Type 0 where
   never-opened : D .chain ≡ [] → ClosedDescriptor D
-  all-returned : D .class < 16 → ((v : ℕ) → count v (D .chain) ≡ isBlock v (D .region) (D .class))
+  all-returned : D .class < CLASSES → ((v : ℕ) → count v (D .chain) ≡ isBlock v (D .region) (D .class))
       → length (D .chain) ≡ perRegion (D .class) → ClosedDescriptor D
 
 -- the pool's memory, with an area of `area` regions
 pub record Invariant (area : ℕ) (m : Mem) : Type 0 where
   -- each of the 64 descriptors is once on a list of descriptors, or held by a task, or FULL; there is no other
   pub descriptors : (d : ℕ)
-      → total 17 (rowWeight d) (m .row) + total 8 (descriptorWeight d) (m .task)
-      + total 64 (fullWeight d) (m .descriptor) ≡ below d 64
+      → total SPARE-REGIONS (rowWeight d) (m .row) + total TASKS (descriptorWeight d) (m .task)
+      + total DESCRIPTORS (fullWeight d) (m .descriptor) ≡ below d DESCRIPTORS
   -- each region of the area is once on the list of spare regions, or held by a task, or open; there is no other
   pub regions : (r : ℕ)
-      → count r (m .row REGIONS) + total 8 (regionWeight r) (m .task) + total 64 (openWeight r) (m .descriptor)
+      → count r (m .row SPARE-REGIONS) + total TASKS (regionWeight r) (m .task) + total DESCRIPTORS (openWeight r) (m .descriptor)
       ≡ below r area
   -- a descriptor on the partial list of a class, or held for it, is of that class
-  pub classes : (c d : ℕ) → c < 16
-      → count d (m .row c) + total 8 (descriptorClassWeight c d) (m .task) ≤ one c (m .descriptor d .class)
+  pub classes : (c d : ℕ) → c < CLASSES
+      → count d (m .row c) + total TASKS (descriptorClassWeight c d) (m .task) ≤ one c (m .descriptor d .class)
   -- a descriptor on the list of spare descriptors, or held as spare, is EMPTY
   pub spares : (d : ℕ)
-      → count d (m .row SPARES) + total 8 (spareWeight d) (m .task) ≤ isEmpty (m .descriptor d .state)
+      → count d (m .row SPARE-DESCRIPTORS) + total TASKS (spareWeight d) (m .task) ≤ isEmpty (m .descriptor d .state)
   -- each block of an open region is once in a user's hands, or with a task, or in a chain; and no other unit is
   pub blocks : (v : ℕ)
-      → m .hands v + total 8 (blockWeight v) (m .task) + total 64 (chainWeight v) (m .descriptor)
-      ≡ total 64 (insideWeight v) (m .descriptor)
+      → m .hands v + total TASKS (blockWeight v) (m .task) + total DESCRIPTORS (chainWeight v) (m .descriptor)
+      ≡ total DESCRIPTORS (insideWeight v) (m .descriptor)
   -- what a task has for a class, and what is in a chain of the class, is a block of an open region of the class
   pub blockClasses : (c v : ℕ)
-      → total 8 (blockClassWeight c v) (m .task) + total 64 (chainClassWeight c v) (m .descriptor)
-      ≤ total 64 (insideClassWeight c v) (m .descriptor)
+      → total TASKS (blockClassWeight c v) (m .task) + total DESCRIPTORS (chainClassWeight c v) (m .descriptor)
+      ≤ total DESCRIPTORS (insideClassWeight c v) (m .descriptor)
   -- what holds of the descriptor of an open region
-  pub chains : (d : ℕ) → d < 64 → IfOpen (m .descriptor d .state) (OpenDescriptor (m .descriptor d))
+  pub chains : (d : ℕ) → d < DESCRIPTORS → IfOpen (m .descriptor d .state) (OpenDescriptor (m .descriptor d))
   -- what holds of an EMPTY descriptor
-  pub closed : (d : ℕ) → d < 64 → IfEmpty (m .descriptor d .state) (ClosedDescriptor (m .descriptor d))
+  pub closed : (d : ℕ) → d < DESCRIPTORS → IfEmpty (m .descriptor d .state) (ClosedDescriptor (m .descriptor d))
   -- the map names an open region's descriptor
-  pub maps : (d : ℕ) → d < 64 → IfOpen (m .descriptor d .state) (m .map (m .descriptor d .region) ≡ suc d)
+  pub maps : (d : ℕ) → d < DESCRIPTORS → IfOpen (m .descriptor d .state) (m .map (m .descriptor d .region) ≡ suc d)
   -- an entry of the map names one of the 64 descriptors, or none
-  pub entries : (r : ℕ) → m .map r ≤ 64
+  pub entries : (r : ℕ) → m .map r ≤ DESCRIPTORS
   -- a region that is spare, or held by a task that is not about to clear its entry, has no entry in the map
-  pub unmapped : (r : ℕ) → 1 ≤ count r (m .row REGIONS) + total 8 (unmappedWeight r) (m .task) → m .map r ≡ 0
+  pub unmapped : (r : ℕ) → 1 ≤ count r (m .row SPARE-REGIONS) + total TASKS (unmappedWeight r) (m .task) → m .map r ≡ 0
   -- what holds of each task at its place
-  pub tasks : (t : ℕ) → t < 8 → TaskHolds m (m .task t)
+  pub tasks : (t : ℕ) → t < TASKS → TaskHolds m (m .task t)
 
 -- the invariant of the pool: at most 8 tasks, and, once it is started, at most 16 regions, and its memory's
 -- invariant
 pub record Good (s : Pool) : Type 0 where
-  pub few : s .tasks ≤ 8
-  pub small : 1 ≤ s .tasks → s .regions ≤ 16
+  pub few : s .tasks ≤ TASKS
+  pub small : 1 ≤ s .tasks → s .regions ≤ REGIONS
   pub inv : 1 ≤ s .tasks → Invariant (s .regions) (s .mem)
 
--- the pool after a list of calls
-unfoldable pub run : List Call → Pool → Pool
+-- the pool after a list of calls, each with the lengths that it is lent
+unfoldable pub run : List (Call × Lengths) → Pool → Pool
 run [] s = s
-run (c ∷ cs) s = run cs (call c s .0)
+run (c ∷ cs) s = run cs (call (c .0) (c .1) s .0)

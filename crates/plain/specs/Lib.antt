@@ -6,6 +6,7 @@ pub mod Calls
 pub mod Blocks
 pub mod States
 pub mod Held
+pub mod Noted
 pub mod Weights
 pub mod Places
 pub mod Invariant

@@ -1,5 +1,4 @@
 -- What a call decides and what it answers.
--- Assumes nothing.
 use Prim.Native.Nat.{ℕ}
 
 -- "The deciding step of a move is its won exchange, or the read by which a pop finds its list empty or an allocate an

@@ -1,16 +1,17 @@
 -- What never happens, though the plain pool's definitions say what would be done there.
--- Assumes nothing.
 use mathlib.Core.Path.{_≡_}
 use mathlib.Core.Logic.{_≢_}
-use mathlib.Core.List.{List, [], _∷_, _++_}
+use mathlib.Core.List.{List, _∷_, _++_, []}
 use Prim.Native.Nat.{ℕ, suc, _+_, _≤_, _<_}
 use lib.ListN.{length}
+use Rattle.limits.specs.Limits.{DESCRIPTORS}
 use Rattle.classes.specs.Classes.{perRegion}
 use Rattle.classes.specs.Places.{regionOf}
 use Rattle.plain.specs.State.{PARTIAL, FULL, Note, exchange, Pop, popping, a3-read, a3-exchange, f2, f3-read}
-use Rattle.plain.specs.State.{f3-link, f3-exchange, Mem}
-use Rattle.plain.specs.Steps.{popList, item, noted, AsNoted}
+use Rattle.plain.specs.State.{f3-link, f3-exchange, Mem, working}
+use Rattle.plain.specs.Steps.{popList, item, AsNoted}
 use Rattle.plain.specs.Calls.{Opens}
+use Rattle.plain.specs.Noted.{noted}
 
 -- a row that is not empty: its top item and the others
 pub record Top (q : List ℕ) : Type 0 where
@@ -27,7 +28,7 @@ pub record GroupFits (m : Mem) (c y : ℕ) (g : List ℕ) (d noted : ℕ) : Type
 -- the map names a descriptor that opens the region of the group, for the class; and the count will not pass n
 pub record GroupNamed (m : Mem) (c y : ℕ) (g : List ℕ) : Type 0 where
   pub d : ℕ
-  pub fits : d < 64
+  pub fits : d < DESCRIPTORS
   pub entry : m .map (regionOf y) ≡ suc d
   pub opens : Opens (m .descriptor d) (regionOf y)
   pub class : m .descriptor d .class ≡ c
@@ -36,19 +37,19 @@ pub record GroupNamed (m : Mem) (c y : ℕ) (g : List ℕ) : Type 0 where
 -- what never happens at a step of the task t
 pub record NeverHappens (m : Mem) (t : ℕ) : Type 0 where
   -- a pop's exchange whose list has the noted number finds a top item
-  pub popExchange : (p : Pop) (n : ℕ) → m .task t .place ≡ popping p (exchange n) → m .won (popList p) ≡ n
+  pub popExchange : (p : Pop) (n : ℕ) → m .task t .place ≡ working (popping p (exchange n)) → m .won (popList p) ≡ n
       → Top (m .row (popList p))
   -- a group step with the cache empty has a group to close
-  pub groupStep : (c u : ℕ) (g : List ℕ) → m .task t .place ≡ f2 c u g → m .task t .cache c ≡ [] → Top g
+  pub groupStep : (c u : ℕ) (g : List ℕ) → m .task t .place ≡ working (f2 c u g) → m .task t .cache c ≡ [] → Top g
   -- the anchor read of a free finds an open region's descriptor
-  pub freeReads : (c u y : ℕ) (g : List ℕ) → m .task t .place ≡ f3-read c u y g → GroupNamed m c y g
+  pub freeReads : (c u y : ℕ) (g : List ℕ) → m .task t .place ≡ working (f3-read c u y g) → GroupNamed m c y g
   -- the anchor read of an allocate never finds FULL
-  pub allocateReads : (c d : ℕ) → m .task t .place ≡ a3-read c d → m .descriptor d .state ≢ FULL
+  pub allocateReads : (c d : ℕ) → m .task t .place ≡ working (a3-read c d) → m .descriptor d .state ≢ FULL
   -- the won anchor exchange of an allocate had noted PARTIAL, and takes a chain that is not empty
-  pub allocateTakes : (c d : ℕ) (n : Note) → m .task t .place ≡ a3-exchange c d n → AsNoted (m .descriptor d) n
+  pub allocateTakes : (c d : ℕ) (n : Note) → m .task t .place ≡ working (a3-exchange c d n) → AsNoted (m .descriptor d) n
       → (n .state ≡ PARTIAL) × Top (m .descriptor d .chain)
   -- no count of a free passes n
-  pub freeLinks : (c u y : ℕ) (g : List ℕ) (d : ℕ) (n : Note) → m .task t .place ≡ f3-link c u y g d n
+  pub freeLinks : (c u y : ℕ) (g : List ℕ) (d : ℕ) (n : Note) → m .task t .place ≡ working (f3-link c u y g d n)
       → GroupFits m c y g d (n .length)
-  pub freeReturns : (c u y : ℕ) (g : List ℕ) (d : ℕ) (n : Note) → m .task t .place ≡ f3-exchange c u y g d n
+  pub freeReturns : (c u y : ℕ) (g : List ℕ) (d : ℕ) (n : Note) → m .task t .place ≡ working (f3-exchange c u y g d n)
       → GroupFits m c y g d (n .length)

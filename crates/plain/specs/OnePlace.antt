@@ -1,12 +1,12 @@
 -- The one place of each block, and of each item of a list.
--- Assumes nothing.
 use mathlib.Core.Path.{_≡_}
 use mathlib.Core.Logic.{_≢_}
 use Prim.Native.Nat.{ℕ, suc, _+_, _≤_, _<_}
+use Rattle.limits.specs.Limits.{TASKS, DESCRIPTORS, SPARE-REGIONS}
 use Rattle.rows.specs.Counting.{count}
 use Rattle.rows.specs.Totals.{total}
 use Rattle.classes.specs.Places.{regionOf}
-use Rattle.plain.specs.State.{REGIONS, Mem}
+use Rattle.plain.specs.State.{Mem}
 use Rattle.plain.specs.Calls.{Opens, First}
 use Rattle.plain.specs.Weights.{rowWeight, chainWeight, blockWeight, blockClassWeight}
 
@@ -22,24 +22,24 @@ pub record OpenBlock (m : Mem) (v d : ℕ) : Type 0 where
 pub record OnePlace (m : Mem) (v : ℕ) : Type 0 where
   -- a block of an open region is once in a user's hands, or with a task, or in the region's chain
   pub once : (d : ℕ) → OpenBlock m v d
-      → m .hands v + total 8 (blockWeight v) (m .task) + count v (m .descriptor d .chain) ≡ 1
+      → m .hands v + total TASKS (blockWeight v) (m .task) + count v (m .descriptor d .chain) ≡ 1
   -- .. and it is with a task for its class alone
   pub class : (d : ℕ) → OpenBlock m v d → (c : ℕ) → c ≢ m .descriptor d .class
-      → total 8 (blockClassWeight c v) (m .task) ≡ 0
+      → total TASKS (blockClassWeight c v) (m .task) ≡ 0
   -- a unit that is no such block is nowhere
   pub nowhere : ((d : ℕ) → ¬ OpenBlock m v d)
-      → (m .hands v ≡ 0) × (total 8 (blockWeight v) (m .task) ≡ 0)
-      × (total 64 (chainWeight v) (m .descriptor) ≡ 0)
+      → (m .hands v ≡ 0) × (total TASKS (blockWeight v) (m .task) ≡ 0)
+      × (total DESCRIPTORS (chainWeight v) (m .descriptor) ≡ 0)
 
 -- the items of the lists, in an area of `area` regions
 pub record OnceListed (area : ℕ) (m : Mem) : Type 0 where
   -- a descriptor is at most once on all the lists of descriptors together
-  pub descriptors : (d : ℕ) → total 17 (rowWeight d) (m .row) ≤ 1
+  pub descriptors : (d : ℕ) → total SPARE-REGIONS (rowWeight d) (m .row) ≤ 1
   -- .. and so on each
-  pub descriptor : (ℓ d : ℕ) → ℓ < 17 → count d (m .row ℓ) ≤ 1
+  pub descriptor : (ℓ d : ℕ) → ℓ < SPARE-REGIONS → count d (m .row ℓ) ≤ 1
   -- it is one of the 64
-  pub below : (ℓ d : ℕ) → ℓ < 17 → 1 ≤ count d (m .row ℓ) → d < 64
+  pub below : (ℓ d : ℕ) → ℓ < SPARE-REGIONS → 1 ≤ count d (m .row ℓ) → d < DESCRIPTORS
   -- a region is at most once on the list of spare regions, ..
-  pub region : (r : ℕ) → count r (m .row REGIONS) ≤ 1
+  pub region : (r : ℕ) → count r (m .row SPARE-REGIONS) ≤ 1
   -- .. and one of the area's
-  pub inArea : (r : ℕ) → 1 ≤ count r (m .row REGIONS) → r < area
+  pub inArea : (r : ℕ) → 1 ≤ count r (m .row SPARE-REGIONS) → r < area

@@ -1,5 +1,4 @@
 -- What the plain pool keeps: rows and plain numbers, no links and no head words.
--- Assumes nothing.
 use mathlib.Core.List.{List}
 use Prim.Native.Nat.{ℕ, _+_}
 use Rattle.rows.specs.Update.{update}
@@ -54,39 +53,36 @@ pub data Push : Type 0 where
   -- free, step 5: "push the descriptor on the partial list"
   offer : (c u d : ℕ) → Push
 
--- "each task's request, place in the step list, what it noted and what it has under way". A place is named by its pop or push,
--- or by its step: a of Allocate, f of Free. y is the first block of a group and g the others.
+-- "place in the step list, what it noted and what it has under way", of a task at work. A place is named by its pop or push, or by
+-- its step: a of Allocate, f of Free. y is the first block of a group and g the others.
+pub data Work : Type 0 where
+  a1 : (c : ℕ) → Work
+  popping : Pop → Phase → Work
+  pushing : Push → Phase → Work
+  a3-read : (c d : ℕ) → Work
+  a3-exchange : (c d : ℕ) (n : Note) → Work
+  -- what is left of the chain that was taken: its first block x, which is moved next, and the others
+  a4 : (c x : ℕ) (q : List ℕ) → Work
+  a7 : (c d r : ℕ) → Work
+  -- block i of the region r is carved next
+  a8 : (c r i : ℕ) → Work
+  f1 : (c u : ℕ) → Work
+  -- the group so far
+  f2 : (c u : ℕ) (g : List ℕ) → Work
+  f3-read : (c u y : ℕ) (g : List ℕ) → Work
+  f3-link : (c u y : ℕ) (g : List ℕ) (d : ℕ) (n : Note) → Work
+  f3-exchange : (c u y : ℕ) (g : List ℕ) (d : ℕ) (n : Note) → Work
+  f4-clear : (c u d : ℕ) (w : State) (r : ℕ) → Work
+
+-- "each task's request": none, or one that it is at work on
 pub data Place : Type 0 where
   idle : Place
-  a1 : (c : ℕ) → Place
-  popping : Pop → Phase → Place
-  pushing : Push → Phase → Place
-  a3-read : (c d : ℕ) → Place
-  a3-exchange : (c d : ℕ) (n : Note) → Place
-  -- what is left of the chain that was taken: its first block x, which is moved next, and the others
-  a4 : (c x : ℕ) (q : List ℕ) → Place
-  a7 : (c d r : ℕ) → Place
-  -- block i of the region r is carved next
-  a8 : (c r i : ℕ) → Place
-  f1 : (c u : ℕ) → Place
-  -- the group so far
-  f2 : (c u : ℕ) (g : List ℕ) → Place
-  f3-read : (c u y : ℕ) (g : List ℕ) → Place
-  f3-link : (c u y : ℕ) (g : List ℕ) (d : ℕ) (n : Note) → Place
-  f3-exchange : (c u y : ℕ) (g : List ℕ) (d : ℕ) (n : Note) → Place
-  f4-clear : (c u d : ℕ) (w : State) (r : ℕ) → Place
+  working : Work → Place
 
 -- a task: its place, and "the caches as rows", one for each class
 pub record Task : Type 0 where
   pub place : Place
   pub cache : ℕ → List ℕ
-
--- The lists by number: 0 to 15 the partial descriptors of each class, then these two.
-abbrev pub SPARES : ℕ
-SPARES = 16
-
-abbrev pub REGIONS : ℕ
-REGIONS = 17
 
 -- "each list as a row from the top, with the number of its won exchanges since the start, never wrapping; .. the map; the
 -- caches as rows; the blocks in users' hands", with the descriptors and the tasks above
@@ -101,8 +97,14 @@ pub record Mem : Type 0 where
   pub task : ℕ → Task
 
 abbrev pub setTask : ℕ → Task → Mem → Mem
-setTask t T m =
-    record { row = m .row; won = m .won; descriptor = m .descriptor; map = m .map; hands = m .hands; task = update (m .task) t T }
+setTask t T m = record {
+  row = m .row;
+  won = m .won;
+  descriptor = m .descriptor;
+  map = m .map;
+  hands = m .hands;
+  task = update (m .task) t T;
+}
 
 -- a won exchange of the list ℓ, after which its row is q: "takes or puts the top item and adds one"
 abbrev pub setRow : ℕ → List ℕ → Mem → Mem
@@ -116,13 +118,31 @@ setRow ℓ q m = record {
 }
 
 abbrev pub setDescriptor : ℕ → Descriptor → Mem → Mem
-setDescriptor d D m =
-    record { row = m .row; won = m .won; descriptor = update (m .descriptor) d D; map = m .map; hands = m .hands; task = m .task }
+setDescriptor d D m = record {
+  row = m .row;
+  won = m .won;
+  descriptor = update (m .descriptor) d D;
+  map = m .map;
+  hands = m .hands;
+  task = m .task;
+}
 
 abbrev pub setMap : ℕ → ℕ → Mem → Mem
-setMap r z m =
-    record { row = m .row; won = m .won; descriptor = m .descriptor; map = update (m .map) r z; hands = m .hands; task = m .task }
+setMap r z m = record {
+  row = m .row;
+  won = m .won;
+  descriptor = m .descriptor;
+  map = update (m .map) r z;
+  hands = m .hands;
+  task = m .task;
+}
 
 abbrev pub setHands : ℕ → ℕ → Mem → Mem
-setHands u b m =
-    record { row = m .row; won = m .won; descriptor = m .descriptor; map = m .map; hands = update (m .hands) u b; task = m .task }
+setHands u b m = record {
+  row = m .row;
+  won = m .won;
+  descriptor = m .descriptor;
+  map = m .map;
+  hands = update (m .hands) u b;
+  task = m .task;
+}

@@ -1,5 +1,4 @@
 -- What counts only in some states of an anchor.
--- Assumes nothing.
 use mathlib.Core.Path.{_≡_}
 use Prim.Native.Nat.{ℕ}
 use Rattle.plain.specs.State.{State, EMPTY, PARTIAL, FULL}

@@ -1,20 +1,22 @@
 -- The steps of the plain pool. "In the whole run a move happens in full at its deciding step and its other steps change
 -- no list or chain."
--- Assumes nothing.
 use mathlib.Core.Path.{_≡_}
-use mathlib.Core.List.{List, [], _∷_, _++_}
+use mathlib.Core.List.{List, _∷_, _++_, []}
 use Prim.Native.Nat.{ℕ, zero, suc}
 use native.Mathlib.Decide.{ℕ-discrete, decLt}
 use lib.ListN.{length}
+use Rattle.limits.specs.Limits.{SPARE-DESCRIPTORS, SPARE-REGIONS}
 use Rattle.rows.specs.Branch.{if, both}
 use Rattle.rows.specs.Update.{update}
 use Rattle.classes.specs.Classes.{perRegion}
 use Rattle.classes.specs.Places.{unitOf, regionOf}
-use Rattle.plain.specs.State.{State, EMPTY, PARTIAL, FULL, numberOf, Descriptor, Note, Phase, read, next, exchange}
-use Rattle.plain.specs.State.{Pop, partial, spare, region, Push, retire, back, release, offer, SPARES, REGIONS}
-use Rattle.plain.specs.State.{Place, idle, a1, popping, pushing, a3-read, a3-exchange, a4, a7, a8, f1, f2, f3-read, f3-link, f3-exchange, f4-clear}
-use Rattle.plain.specs.State.{Mem, setTask, setRow, setDescriptor, setMap, setHands}
-use Rattle.plain.specs.Moves.{Decided, nothing, found-empty, popped, pushed, lost, anchor-empty, took, gave, anchor-lost, Answer, going, finished, ended, refused}
+use Rattle.plain.specs.State.{State, EMPTY, PARTIAL, FULL, numberOf, Descriptor, Note, Phase, read, next}
+use Rattle.plain.specs.State.{exchange, Pop, partial, spare, region, Push, retire, back, release, offer, Place}
+use Rattle.plain.specs.State.{idle, a1, popping, pushing, a3-read, a3-exchange, a4, a7, a8, f1, f2, f3-read}
+use Rattle.plain.specs.State.{f3-link, f3-exchange, f4-clear, Mem, setTask, setRow, setDescriptor, setMap}
+use Rattle.plain.specs.State.{setHands, Work, working}
+use Rattle.plain.specs.Moves.{Decided, nothing, found-empty, popped, pushed, lost, anchor-empty, took, gave}
+use Rattle.plain.specs.Moves.{anchor-lost, Answer, going, finished, ended, refused}
 
 -- a step gives the pool after it and the answer
 abbrev pub Result : Type 0
@@ -29,13 +31,13 @@ top (x ∷ q) = suc x
 
 abbrev pub popList : Pop → ℕ
 popList (partial c) = c
-popList (spare c) = SPARES
-popList (region c d) = REGIONS
+popList (spare c) = SPARE-DESCRIPTORS
+popList (region c d) = SPARE-REGIONS
 
 abbrev pub pushList : Push → ℕ
-pushList (retire c d) = SPARES
-pushList (back c d) = SPARES
-pushList (release c u d w r) = REGIONS
+pushList (retire c d) = SPARE-DESCRIPTORS
+pushList (back c d) = SPARE-DESCRIPTORS
+pushList (release c u d w r) = SPARE-REGIONS
 pushList (offer c u d) = c
 
 abbrev pub item : Push → ℕ
@@ -47,47 +49,47 @@ item (offer c u d) = d
 -- ---- where a decided move leads: "a branch on what was read is no step"
 
 -- free, step 6: "Cache not empty: 2. Else 1."
-abbrev pub f6 : List ℕ → ℕ → ℕ → Place
+abbrev pub f6 : List ℕ → ℕ → ℕ → Work
 f6 [] c u = f1 c u
 f6 (x ∷ q) c u = f2 c u []
 
 -- free, step 5: "If it was FULL: push the descriptor on the partial list"; cache is the class's
-abbrev pub f5 : State → List ℕ → ℕ → ℕ → ℕ → Place
+abbrev pub f5 : State → List ℕ → ℕ → ℕ → ℕ → Work
 f5 EMPTY cache c u d = f6 cache c u
 f5 PARTIAL cache c u d = f6 cache c u
 f5 FULL cache c u d = pushing (offer c u d) read
 
 -- allocate, step 4: "Move the taken chain to the cache, .. ; after the last, 1"; of an empty chain nothing is moved (nor is one
 -- ever taken: the anchor was PARTIAL)
-abbrev pub moving : ℕ → List ℕ → Place
+abbrev pub moving : ℕ → List ℕ → Work
 moving c [] = a1 c
 moving c (x ∷ q) = a4 c x q
 
 -- a pop that found its list empty: step 2 "Empty: go to 5", step 5 "Empty: end with 12", step 6 "Empty: push the
 -- descriptor back"
 abbrev pub whenEmpty : Pop → Decided → Place × Answer
-whenEmpty (partial c) e = (popping (spare c) read, going e)
+whenEmpty (partial c) e = (working (popping (spare c) read), going e)
 whenEmpty (spare c) e = (idle, ended 12 e)
-whenEmpty (region c d) e = (pushing (back c d) read, going e)
+whenEmpty (region c d) e = (working (pushing (back c d) read), going e)
 
 -- a pop that was won with the item x
-abbrev pub whenPopped : Pop → ℕ → Place
+abbrev pub whenPopped : Pop → ℕ → Work
 whenPopped (partial c) x = a3-read c x
 whenPopped (spare c) x = popping (region c x) read
 whenPopped (region c d) x = a7 c d x
 
 -- a push that was won: step 3 "then 2", step 6 "the request ends with 13 at that won exchange", free's 4 and 5
 abbrev pub whenPushed : Push → (ℕ → List ℕ) → Decided → Place × Answer
-whenPushed (retire c d) k e = (popping (partial c) read, going e)
+whenPushed (retire c d) k e = (working (popping (partial c) read), going e)
 whenPushed (back c d) k e = (idle, ended 13 e)
-whenPushed (release c u d w r) k e = (f5 w (k c) c u d, going e)
-whenPushed (offer c u d) k e = (f6 (k c) c u, going e)
+whenPushed (release c u d w r) k e = (working (f5 w (k c) c u d), going e)
+whenPushed (offer c u d) k e = (working (f6 (k c) c u), going e)
 
 -- ---- anchors
 
 -- "An anchor read notes the state and the chain's first block, if any, and length."
-abbrev pub noted : Descriptor → Note
-noted D = record { state = D .state; first = top (D .chain); length = length (D .chain) }
+abbrev pub noteOf : Descriptor → Note
+noteOf D = record { state = D .state; first = top (D .chain); length = length (D .chain) }
 
 -- "The exchange is won exactly if all three are as noted."
 abbrev pub AsNoted : Descriptor → Note → Type 0
@@ -111,6 +113,10 @@ module _ (t : ℕ) (k : ℕ → List ℕ) where
   abbrev pub at : Place → Mem → Mem
   at p m = setTask t (record { place = p; cache = k }) m
 
+  -- the task goes on, at the place w
+  abbrev pub to : Work → Mem → Mem
+  to w m = at (working w) m
+
   -- the task goes to the place p, and its cache of the class c is now q
   abbrev pub cached : ℕ → List ℕ → Place → Mem → Mem
   cached c q p m = setTask t (record { place = p; cache = update k c q }) m
@@ -120,22 +126,22 @@ module _ (t : ℕ) (k : ℕ → List ℕ) where
   popRead p [] m =
       let w = whenEmpty p (found-empty (popList p)) in
       (at (w .0) m, w .1)
-  popRead p (x ∷ q) m = (at (popping p (next (m .won (popList p)))) m, going nothing)
+  popRead p (x ∷ q) m = (to (popping p (next (m .won (popList p)))) m, going nothing)
 
   -- "A lost exchange goes back to the head read."
   abbrev pub popLost : Pop → Mem → Result
-  popLost p m = (at (popping p read) m, going (lost (popList p)))
+  popLost p m = (to (popping p read) m, going (lost (popList p)))
 
   -- "a won one takes .. the top item"; an empty row has none, so that nothing is won there (nor ever tried: the row was not
   -- empty when it was read, and its number is the same)
   abbrev pub popTake : Pop → List ℕ → Mem → Result
   popTake p [] m = popLost p m
-  popTake p (x ∷ q) m = (at (whenPopped p x) (setRow (popList p) q m), going (popped (popList p) x))
+  popTake p (x ∷ q) m = (to (whenPopped p x) (setRow (popList p) q m), going (popped (popList p) x))
 
   -- "The exchange is won exactly if the number is still the one noted"
   abbrev pub popStep : Pop → Phase → Mem → Result
   popStep p read m = popRead p (m .row (popList p)) m
-  popStep p (next n) m = (at (popping p (exchange n)) m, going nothing)
+  popStep p (next n) m = (to (popping p (exchange n)) m, going nothing)
   popStep p (exchange n) m =
       if (ℕ-discrete (m .won (popList p)) n) (popTake p (m .row (popList p)) m) (popLost p m)
 
@@ -146,76 +152,78 @@ module _ (t : ℕ) (k : ℕ → List ℕ) where
       (at (w .0) (setRow ℓ (item p ∷ m .row ℓ) m), w .1)
 
   abbrev pub pushStep : Push → Phase → Mem → Result
-  pushStep p read m = (at (pushing p (next (m .won (pushList p)))) m, going nothing)
-  pushStep p (next n) m = (at (pushing p (exchange n)) m, going nothing)
+  pushStep p read m = (to (pushing p (next (m .won (pushList p)))) m, going nothing)
+  pushStep p (next n) m = (to (pushing p (exchange n)) m, going nothing)
   pushStep p (exchange n) m =
-      if (ℕ-discrete (m .won (pushList p)) n) (pushPut p m) (at (pushing p read) m, going (lost (pushList p)))
+      if (ℕ-discrete (m .won (pushList p)) n) (pushPut p m) (to (pushing p read) m, going (lost (pushList p)))
 
   -- allocate, step 1: "If the cache has a block, take the top, set its mark and finish. Else go on."
   abbrev pub a1Step : ℕ → List ℕ → Mem → Result
-  a1Step c [] m = (at (popping (partial c) read) m, going nothing)
+  a1Step c [] m = (to (popping (partial c) read) m, going nothing)
   a1Step c (x ∷ q) m = (cached c q idle (setHands x 1 m), finished x)
 
   -- allocate, step 3: "Read the anchor. EMPTY: push the descriptor on the spare list, then 2. Else exchange it" (it is never
   -- FULL: a descriptor on a partial list is PARTIAL or EMPTY)
   abbrev pub a3Read : ℕ → ℕ → State → Mem → Result
-  a3Read c d EMPTY m = (at (pushing (retire c d) read) m, going (anchor-empty d))
-  a3Read c d PARTIAL m = (at (a3-exchange c d (noted (m .descriptor d))) m, going nothing)
-  a3Read c d FULL m = (at (a3-exchange c d (noted (m .descriptor d))) m, going nothing)
+  a3Read c d EMPTY m = (to (pushing (retire c d) read) m, going (anchor-empty d))
+  a3Read c d PARTIAL m = (to (a3-exchange c d (noteOf (m .descriptor d))) m, going nothing)
+  a3Read c d FULL m = (to (a3-exchange c d (noteOf (m .descriptor d))) m, going nothing)
 
   -- "Allocate then takes the whole chain and leaves FULL with none"; "lost: read again"
   abbrev pub a3Exchange : ℕ → ℕ → Note → Mem → Result
   a3Exchange c d n m =
       let D = m .descriptor d in
       if (asNoted? D n)
-      (at (moving c (D .chain)) (setDescriptor d (chained D FULL []) m), going (took d))
-      (at (a3-read c d) m, going (anchor-lost d))
+      (to (moving c (D .chain)) (setDescriptor d (chained D FULL []) m), going (took d))
+      (to (a3-read c d) m, going (anchor-lost d))
 
   -- allocate, step 7: "One step writes the descriptor (FULL, n, 0) and the map"
   abbrev pub a7Step : ℕ → ℕ → ℕ → Mem → Result
   a7Step c d r m =
-      (at (a8 c r 0) (setMap r (suc d) (setDescriptor d (record { state = FULL; region = r; class = c; chain = [] }) m)), going nothing)
+      let D : Descriptor = record { state = FULL; region = r; class = c; chain = [] } in
+      (to (a8 c r 0) (setMap r (suc d) (setDescriptor d D m)), going nothing)
 
   -- allocate, step 8: "Put blocks 0 to n − 1 on the cache, one a step; then 1"
   abbrev pub a8Step : ℕ → ℕ → ℕ → Mem → Result
   a8Step c r i m =
-      (cached c (unitOf r c i ∷ k c) (if (ℕ-discrete (suc i) (perRegion c)) (a1 c) (a8 c r (suc i))) m, going nothing)
+      let w = if (ℕ-discrete (suc i) (perRegion c)) (a1 c) (a8 c r (suc i)) in
+      (cached c (unitOf r c i ∷ k c) (working w) m, going nothing)
 
   -- free, step 1: "If the cache holds fewer than n, push the block and finish. Else go on."
   abbrev pub f1Step : ℕ → ℕ → Mem → Result
   f1Step c u m =
-      if (decLt (length (k c)) (perRegion c)) (cached c (u ∷ k c) idle m, finished 0) (at (f2 c u []) m, going nothing)
+      if (decLt (length (k c)) (perRegion c)) (cached c (u ∷ k c) idle m, finished 0) (to (f2 c u []) m, going nothing)
 
   -- the step "closes the group"; a group of none has nothing to return (nor does it ever close: the cache was not empty)
-  abbrev pub closed : ℕ → ℕ → List ℕ → Place
+  abbrev pub closed : ℕ → ℕ → List ℕ → Work
   closed c u [] = f6 (k c) c u
   closed c u (y ∷ g) = f3-read c u y g
 
   -- free, step 2: "A step takes the cache's top into the group, if the group is empty or the top is of the same region.
   -- Otherwise, or with the cache empty, that step closes the group." The rows are the cache and the group.
   abbrev pub f2Step : ℕ → ℕ → List ℕ → List ℕ → Mem → Result
-  f2Step c u [] g m = (at (closed c u g) m, going nothing)
-  f2Step c u (x ∷ q) [] m = (cached c q (f2 c u (x ∷ [])) m, going nothing)
+  f2Step c u [] g m = (to (closed c u g) m, going nothing)
+  f2Step c u (x ∷ q) [] m = (cached c q (working (f2 c u (x ∷ []))) m, going nothing)
   f2Step c u (x ∷ q) (y ∷ g) m =
       if (ℕ-discrete (regionOf x) (regionOf y))
-      (cached c q (f2 c u (y ∷ (g ++ (x ∷ [])))) m, going nothing)
-      (at (closed c u (y ∷ g)) m, going nothing)
+      (cached c q (working (f2 c u (y ∷ (g ++ (x ∷ []))))) m, going nothing)
+      (to (closed c u (y ∷ g)) m, going nothing)
 
   -- free, step 3: "Read the anchor", that of the descriptor that the map names for the group's region; with no such entry the
   -- task stays where it is (nor is there ever none: the group's blocks are of an open region)
   abbrev pub f3Read : ℕ → ℕ → ℕ → ℕ → List ℕ → Mem → Result
   f3Read zero c u y g m = (m, going nothing)
-  f3Read (suc d) c u y g m = (at (f3-link c u y g d (noted (m .descriptor d))) m, going nothing)
+  f3Read (suc d) c u y g m = (to (f3-link c u y g d (noteOf (m .descriptor d))) m, going nothing)
 
   -- "free puts the group, in its order, before the chain, and the state is EMPTY at n blocks, else PARTIAL" (there are never
   -- more); step 4 follows if it is now EMPTY, and step 5 by the state w before
   abbrev pub returned : {P : Type 0} → Dec P → ℕ → ℕ → ℕ → List ℕ → ℕ → State → Mem → Result
   returned (yes e) c u y g d w m =
       let D = m .descriptor d in
-      (at (f4-clear c u d w (regionOf y)) (setDescriptor d (chained D EMPTY (y ∷ (g ++ D .chain))) m), going (gave d))
+      (to (f4-clear c u d w (regionOf y)) (setDescriptor d (chained D EMPTY (y ∷ (g ++ D .chain))) m), going (gave d))
   returned (no e) c u y g d w m =
       let D = m .descriptor d in
-      (at (f5 w (k c) c u d) (setDescriptor d (chained D PARTIAL (y ∷ (g ++ D .chain))) m), going (gave d))
+      (to (f5 w (k c) c u d) (setDescriptor d (chained D PARTIAL (y ∷ (g ++ D .chain))) m), going (gave d))
 
   -- "The exchange is won exactly if all three are as noted"; "Lost: read again"
   abbrev pub f3Exchange : ℕ → ℕ → ℕ → List ℕ → ℕ → Note → Mem → Result
@@ -223,27 +231,31 @@ module _ (t : ℕ) (k : ℕ → List ℕ) where
       let D = m .descriptor d in
       if (asNoted? D n)
       (returned (ℕ-discrete (length (y ∷ (g ++ D .chain))) (perRegion c)) c u y g d (n .state) m)
-      (at (f3-read c u y g) m, going (anchor-lost d))
+      (to (f3-read c u y g) m, going (anchor-lost d))
 
-  -- the step list, by place; test 7 refuses a step without a request
-  abbrev pub stepAt : Place → Mem → Result
-  stepAt idle m = (m, refused 7)
+  -- the step list, by place
+  abbrev pub stepAt : Work → Mem → Result
   stepAt (a1 c) m = a1Step c (k c) m
   stepAt (popping p φ) m = popStep p φ m
   stepAt (pushing p φ) m = pushStep p φ m
   stepAt (a3-read c d) m = a3Read c d (m .descriptor d .state) m
   stepAt (a3-exchange c d n) m = a3Exchange c d n m
-  stepAt (a4 c x q) m = (cached c (x ∷ k c) (moving c q) m, going nothing)
+  stepAt (a4 c x q) m = (cached c (x ∷ k c) (working (moving c q)) m, going nothing)
   stepAt (a7 c d r) m = a7Step c d r m
   stepAt (a8 c r i) m = a8Step c r i m
   stepAt (f1 c u) m = f1Step c u m
   stepAt (f2 c u g) m = f2Step c u (k c) g m
   stepAt (f3-read c u y g) m = f3Read (m .map (regionOf y)) c u y g m
-  stepAt (f3-link c u y g d n) m = (at (f3-exchange c u y g d n) m, going nothing)
+  stepAt (f3-link c u y g d n) m = (to (f3-exchange c u y g d n) m, going nothing)
   stepAt (f3-exchange c u y g d n) m = f3Exchange c u y g d n m
   -- free, step 4: "one step clears the map entry of the group's region"
-  stepAt (f4-clear c u d w r) m = (at (pushing (release c u d w r) read) (setMap r 0 m), going nothing)
+  stepAt (f4-clear c u d w r) m = (to (pushing (release c u d w r) read) (setMap r 0 m), going nothing)
+
+-- "7 step without one": a task that is idle makes no step
+abbrev pub whenWorking : Place → (Work → Result) → Mem → Result
+whenWorking idle f m = (m, refused 7)
+whenWorking (working w) f m = f w
 
 -- "one call is one step of one task"
-unfoldable pub step : ℕ → Mem → Result
-step t m = stepAt t (m .task t .cache) (m .task t .place) m
+unfoldable pub stepOf : ℕ → Mem → Result
+stepOf t m = whenWorking (m .task t .place) (λ w. stepAt t (m .task t .cache) w m) m

@@ -1,16 +1,16 @@
 -- What each holder weighs. The first numbers are what is asked about, the last one is the holder's own; the
 -- totals over all holders are what the invariant speaks of.
--- Assumes nothing.
 use mathlib.Core.List.{List}
 use Prim.Native.Nat.{ℕ, _+_}
+use Rattle.limits.specs.Limits.{CLASSES}
 use Rattle.rows.specs.Weights.{when, one}
 use Rattle.rows.specs.Counting.{count}
 use Rattle.rows.specs.Totals.{total}
 use Rattle.plain.specs.State.{Descriptor, Task}
 use Rattle.plain.specs.Blocks.{isBlock}
 use Rattle.plain.specs.States.{ifOpen, isFull}
-use Rattle.plain.specs.Held.{classAt, underWay, holdsDescriptor, holdsSpare, holdsForClass}
-use Rattle.plain.specs.Held.{holdsRegion, holdsUnmapped}
+use Rattle.plain.specs.Held.{classAt, underWay, holdsDescriptor, holdsSpare, holdsForClass, holdsRegion}
+use Rattle.plain.specs.Held.{holdsUnmapped}
 
 -- ---- a row
 
@@ -48,7 +48,7 @@ fullWeight d i D = when d i (isFull (D .state))
 
 -- how often it has the block v, in its caches or under way
 abbrev pub blockWeight : ℕ → ℕ → Task → ℕ
-blockWeight v i T = total 16 (rowWeight v) (T .cache) + count v (underWay (T .place))
+blockWeight v i T = total CLASSES (rowWeight v) (T .cache) + count v (underWay (T .place))
 
 -- .. for the class c
 abbrev pub blockClassWeight : ℕ → ℕ → ℕ → Task → ℕ
