@@ -63,7 +63,8 @@ module _ {area : ℕ} {m : Mem} (I : Invariant area m) (d u : ℕ) (l : d < DESC
 
   -- It is nowhere else.
   in-hands : m .hands u ≢ 0
-      → (m .hands u ≡ 1) × (total TASKS (blockWeight u) (m .task) ≡ 0) × (total DESCRIPTORS (chainWeight u) (m .descriptor) ≡ 0)
+      → (m .hands u ≡ 1) × (total TASKS (blockWeight u) (m .task) ≡ 0)
+      × (total DESCRIPTORS (chainWeight u) (m .descriptor) ≡ 0)
   in-hands n = omega (arith, I .blocks u, inside-open I u)
 
   -- So no task has it for the class, nor is it in a chain of the class.
@@ -84,7 +85,8 @@ module _ {area : ℕ} {m : Mem} (I : Invariant area m) (d u : ℕ) (l : d < DESC
   -- One more block of the class may be under way.
   one-under-way : m .hands u ≢ 0 → (f v : ℕ) → Same v u → Same f (m .descriptor d .class)
       → total TASKS (blockClassWeight f v) (m .task) + when f (m .descriptor d .class) (one v u + 0)
-      + total DESCRIPTORS (chainClassWeight f v) (m .descriptor) ≤ total DESCRIPTORS (insideClassWeight f v) (m .descriptor)
+      + total DESCRIPTORS (chainClassWeight f v) (m .descriptor)
+      ≤ total DESCRIPTORS (insideClassWeight f v) (m .descriptor)
   one-under-way n f v (same x) (same z) =
       let c = m .descriptor d .class in
       rw (x, z) (omega (arith, is-block, for-no-class n, when-max c c (one u u + 0), when-same u 1))

@@ -134,7 +134,8 @@ module _ {area : ℕ} {m : Mem} {t : ℕ} {k : ℕ → List ℕ} where
       cached-out v = omega (arith, total-update CLASSES (rowWeight v) k c q (placeHolds w), ap (count v) e)
 
   -- Step 4: a block of the taken chain goes to the cache.
-  pub a4-inv : (c x : ℕ) (q : List ℕ) → Turn area m t (taskOf (working (a4 c x q)) k) → Kept area (stepAt t k (a4 c x q) m)
+  pub a4-inv : (c x : ℕ) (q : List ℕ) → Turn area m t (taskOf (working (a4 c x q)) k)
+      → Kept area (stepAt t k (a4 c x q) m)
   a4-inv c x [] w =
       let o = placeHolds w in
       recached w _ c _ refl refl (o .0) (λ v. omega arith) (omega arith) (o .0) tt

@@ -125,7 +125,8 @@ module _ (t : ℕ) (m : Mem) where
   }
 
   -- The place that a push back is at names its class, descriptor and phase.
-  to-back : {c d : ℕ} {ψ : Phase} {e f : ℕ} {φ : Phase} → working (pushing (back c d) ψ) ≡ working (pushing (back e f) φ)
+  to-back : {c d : ℕ} {ψ : Phase} {e f : ℕ} {φ : Phase}
+      → working (pushing (back c d) ψ) ≡ working (pushing (back e f) φ)
       → WayBack t m c d ψ → WayBack t m e f φ
   to-back {c} {d} {ψ} {e} {f} {φ} h w =
       let a : c ≡ e = cc in

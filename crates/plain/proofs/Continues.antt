@@ -47,7 +47,8 @@ f6-note row won map c u [] = tt
 f6-note row won map c u (x ∷ q) = tt
 
 -- .. nor at step 5.
-pub f5-note : (row : ℕ → List ℕ) (won map : ℕ → ℕ) (s : State) (c u d : ℕ) (q : List ℕ) → NoteHolds row won map (working (f5 s q c u d))
+pub f5-note : (row : ℕ → List ℕ) (won map : ℕ → ℕ) (s : State) (c u d : ℕ) (q : List ℕ)
+    → NoteHolds row won map (working (f5 s q c u d))
 f5-note row won map EMPTY c u d q = f6-note row won map c u q
 f5-note row won map PARTIAL c u d q = f6-note row won map c u q
 f5-note row won map FULL c u d q = tt

@@ -59,7 +59,12 @@ module _ {area : ℕ} {m : Mem} {t : ℕ} {p : Place} {k : ℕ → List ℕ} (w 
     descriptors = λ x.
         omega (arith, s .descriptors x, ap (descriptorIn x) e, total-update SPARE-REGIONS (rowWeight x) (m .row) ℓ q l);
     regions = λ x.
-        omega (arith, s .regions x, ap (regionIn x) e, ap (count x) (update-other (m .row) ℓ q SPARE-REGIONS (omega arith)));
+        omega (
+          arith,
+          s .regions x,
+          ap (regionIn x) e,
+          ap (count x) (update-other (m .row) ℓ q SPARE-REGIONS (omega arith)),
+        );
     classes = λ c x h.
         fewer (omega (arith, s .classes c x h, ap (listedIn c x) e, weight-update (count x) (m .row) ℓ q c));
     spares = λ x.
@@ -84,7 +89,8 @@ module _ {area : ℕ} {m : Mem} {t : ℕ} {p : Place} {k : ℕ → List ℕ} (w 
   -- So does one of the list of spare regions.
   pub released : {h′ : Held} (p′ : Place) (q : List ℕ) → held p′ ≡ h′ → Released (m .row SPARE-REGIONS) q (held p) h′
       → Holds k p′
-      → NoteHolds (update (m .row) SPARE-REGIONS q) (update (m .won) SPARE-REGIONS (m .won SPARE-REGIONS + 1)) (m .map) p′
+      → NoteHolds (update (m .row) SPARE-REGIONS q)
+      (update (m .won) SPARE-REGIONS (m .won SPARE-REGIONS + 1)) (m .map) p′
       → Invariant area (at t k p′ (setRow SPARE-REGIONS q m))
   released p′ q e s o n = turn-inv w _ (taskOf p′ k) refl (record {
     descriptors = λ x. omega (

@@ -50,7 +50,8 @@ module _ {area : ℕ} {m : Mem} (I : Invariant area m) where
 
   -- A unit is a block of an open region only if its own region is open, and that by one descriptor.
   pub inside-open : (v : ℕ)
-      → (total DESCRIPTORS (insideWeight v) (m .descriptor) ≤ total DESCRIPTORS (openWeight (regionOf v)) (m .descriptor))
+      → (total DESCRIPTORS (insideWeight v) (m .descriptor)
+      ≤ total DESCRIPTORS (openWeight (regionOf v)) (m .descriptor))
       × (total DESCRIPTORS (openWeight (regionOf v)) (m .descriptor) ≤ 1)
   inside-open v = (
     total-le DESCRIPTORS (insideWeight v) (openWeight (regionOf v)) (m .descriptor) (λ i l.

@@ -33,7 +33,8 @@ module _ {area : ℕ} {m : Mem} {t : ℕ} {k : ℕ → List ℕ} where
   lost-inv p φ w = placed w _ refl (placeHolds w) tt
 
   -- A won exchange takes the top item.
-  take-inv : (p : Pop) (φ : Phase) (q : List ℕ) → m .row (popList p) ≡ q → Turn area m t (taskOf (working (popping p φ)) k)
+  take-inv : (p : Pop) (φ : Phase) (q : List ℕ) → m .row (popList p) ≡ q
+      → Turn area m t (taskOf (working (popping p φ)) k)
       → Kept area (popTake t k p q m)
   take-inv p φ [] e w = lost-inv p φ w
   take-inv (partial c) φ (y ∷ q) e w =
@@ -52,7 +53,8 @@ module _ {area : ℕ} {m : Mem} {t : ℕ} {k : ℕ → List ℕ} where
         blockClasses = λ f v. omega arith;
         descriptors = λ x. omega arith;
         classes = λ f x l. omega (arith, when-add f SPARE-DESCRIPTORS (one x y) (count x q));
-        spares = λ x. omega (arith, when-same SPARE-DESCRIPTORS (one x y + count x q), when-same SPARE-DESCRIPTORS (count x q));
+        spares = λ x.
+            omega (arith, when-same SPARE-DESCRIPTORS (one x y + count x q), when-same SPARE-DESCRIPTORS (count x q));
         regions = λ x. refl;
         unmapped = λ x. omega arith;
       })) (placeHolds w) tt
@@ -90,7 +92,8 @@ module _ {area : ℕ} {m : Mem} {t : ℕ} {k : ℕ → List ℕ} where
         blockClasses = λ f v. omega arith;
         descriptors = λ x. omega arith;
         classes = λ f x l. omega (arith, when-other f SPARE-DESCRIPTORS (one x d + count x q) (omega arith));
-        spares = λ x. omega (arith, when-same SPARE-DESCRIPTORS (one x d + count x q), when-same SPARE-DESCRIPTORS (count x q));
+        spares = λ x.
+            omega (arith, when-same SPARE-DESCRIPTORS (one x d + count x q), when-same SPARE-DESCRIPTORS (count x q));
         regions = λ x. refl;
         unmapped = λ x. omega arith;
       }) (placeHolds w) tt
@@ -100,8 +103,10 @@ module _ {area : ℕ} {m : Mem} {t : ℕ} {k : ℕ → List ℕ} where
         blocks = λ v. refl;
         blockClasses = λ f v. omega (arith, when-zero f 0);
         descriptors = λ x. omega arith;
-        classes = λ f x l. omega (arith, when-other f SPARE-DESCRIPTORS (one x d + count x q) (omega arith), when-zero f 0);
-        spares = λ x. omega (arith, when-same SPARE-DESCRIPTORS (one x d + count x q), when-same SPARE-DESCRIPTORS (count x q));
+        classes = λ f x l.
+            omega (arith, when-other f SPARE-DESCRIPTORS (one x d + count x q) (omega arith), when-zero f 0);
+        spares = λ x.
+            omega (arith, when-same SPARE-DESCRIPTORS (one x d + count x q), when-same SPARE-DESCRIPTORS (count x q));
         regions = λ x. refl;
         unmapped = λ x. omega arith;
       }) tt tt

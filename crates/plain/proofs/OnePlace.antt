@@ -139,8 +139,10 @@ module _ {area : ℕ} {m : Mem} (I : Invariant area m) where
   pub once-listed : OnceListed area m
   once-listed = record {
     descriptors = λ d. omega (arith, I .descriptors d, below-max d DESCRIPTORS);
-    descriptor = λ ℓ d l. omega (arith, I .descriptors d, below-max d DESCRIPTORS, total-one SPARE-REGIONS (rowWeight d) (m .row) ℓ l);
-    below = λ ℓ d l h. below-is d DESCRIPTORS (omega (arith, I .descriptors d, total-one SPARE-REGIONS (rowWeight d) (m .row) ℓ l));
+    descriptor = λ ℓ d l.
+        omega (arith, I .descriptors d, below-max d DESCRIPTORS, total-one SPARE-REGIONS (rowWeight d) (m .row) ℓ l);
+    below = λ ℓ d l h.
+        below-is d DESCRIPTORS (omega (arith, I .descriptors d, total-one SPARE-REGIONS (rowWeight d) (m .row) ℓ l));
     region = λ r. omega (arith, I .regions r, below-max r area);
     inArea = λ r h. below-is r area (omega (arith, I .regions r));
   }

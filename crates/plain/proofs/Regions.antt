@@ -47,7 +47,8 @@ no-open {area} {m} {t} w r h = omega (
 
 -- So its entry in the map may be written: the entries of open regions still name their descriptors, ..
 maps-kept : {area : ℕ} {m : Mem} (I : Invariant area m) (r z : ℕ) → total DESCRIPTORS (openWeight r) (m .descriptor) ≡ 0
-    → (j : ℕ) → j < DESCRIPTORS → IfOpen (m .descriptor j .state) (update (m .map) r z (m .descriptor j .region) ≡ suc j)
+    → (j : ℕ) → j < DESCRIPTORS
+    → IfOpen (m .descriptor j .state) (update (m .map) r z (m .descriptor j .region) ≡ suc j)
 maps-kept {m = m} I r z h j l =
     open-map (m .descriptor j .state)
     (λ g e. update-other (m .map) r z (m .descriptor j .region) (other-region g) ∙ e) (I .maps j l)
@@ -141,7 +142,8 @@ module _ {area : ℕ} {m : Mem} {t : ℕ} {k : ℕ → List ℕ} where
             (λ h. record { fits = o .0; inside = λ v. omega arith; sized = refl }) (λ j n. w .inv .chains j);
         closed = update-all (λ j G. j < DESCRIPTORS → IfEmpty (G .state) (ClosedDescriptor G)) F d E
             (λ h. tt) (λ j n. w .inv .closed j);
-        maps = update-all (λ j G. j < DESCRIPTORS → IfOpen (G .state) (update (m .map) r (suc d) (G .region) ≡ suc j)) F d E
+        maps = update-all
+            (λ j G. j < DESCRIPTORS → IfOpen (G .state) (update (m .map) r (suc d) (G .region) ≡ suc j)) F d E
             (λ h. update-same (m .map) r (suc d)) (λ j n. maps-kept (w .inv) r (suc d) z j);
         entries = update-all (λ j x. x ≤ DESCRIPTORS) (m .map) r (suc d) fits (λ j n. w .inv .entries j);
         unmapped = λ x. elim (same? x r) [

@@ -62,7 +62,8 @@ taken {m = m} {c = c} {d = d} {n = n} w s = by (state? (m .descriptor d .state))
 
 module _ {area : ℕ} {m : Mem} {t : ℕ} {k : ℕ → List ℕ} where
   -- The anchor read: an EMPTY descriptor is held as spare from now on, any other is exchanged next.
-  pub a3-read-inv : (c d : ℕ) (s : State) → m .descriptor d .state ≡ s → Turn area m t (taskOf (working (a3-read c d)) k)
+  pub a3-read-inv : (c d : ℕ) (s : State) → m .descriptor d .state ≡ s
+      → Turn area m t (taskOf (working (a3-read c d)) k)
       → Kept area (a3Read t k c d s m)
   a3-read-inv c d EMPTY e w = turn-inv w _ (taskOf (working (pushing (retire c d) read)) k) refl (record {
     descriptors = λ x. omega arith;

@@ -48,8 +48,10 @@ pub data Unmapped (n n′ z z′ o′ : ℕ) : Type 0 where
 -- what a step has to show, after which the memory is m′, and the task T′
 pub record Shown (m : Mem) (t : ℕ) (T : Task) (m′ : Mem) (T′ : Task) : Type 0 where
   pub descriptors : (x : ℕ)
-      → total SPARE-REGIONS (rowWeight x) (m′ .row) + descriptorWeight x t T′ + total DESCRIPTORS (fullWeight x) (m′ .descriptor)
-      ≡ total SPARE-REGIONS (rowWeight x) (m .row) + descriptorWeight x t T + total DESCRIPTORS (fullWeight x) (m .descriptor)
+      → total SPARE-REGIONS (rowWeight x) (m′ .row) + descriptorWeight x t T′
+      + total DESCRIPTORS (fullWeight x) (m′ .descriptor)
+      ≡ total SPARE-REGIONS (rowWeight x) (m .row) + descriptorWeight x t T
+      + total DESCRIPTORS (fullWeight x) (m .descriptor)
   pub regions : (r : ℕ)
       → count r (m′ .row SPARE-REGIONS) + regionWeight r t T′ + total DESCRIPTORS (openWeight r) (m′ .descriptor)
       ≡ count r (m .row SPARE-REGIONS) + regionWeight r t T + total DESCRIPTORS (openWeight r) (m .descriptor)
@@ -160,7 +162,8 @@ module _ {area : ℕ} {m : Mem} {t : ℕ} {T : Task} (w : Turn area m t T) where
           (isEmpty (m .descriptor x .state))
           (isEmpty (m′ .descriptor x .state))
           (total DESCRIPTORS (fullWeight x) (m′ .descriptor))
-          → count x (m′ .row SPARE-DESCRIPTORS) + total TASKS (spareWeight x) (m′ .task) ≤ isEmpty (m′ .descriptor x .state)
+          → count x (m′ .row SPARE-DESCRIPTORS) + total TASKS (spareWeight x) (m′ .task)
+          ≤ isEmpty (m′ .descriptor x .state)
       spares x (fewer h) = omega (arith, w .inv .spares x, retask (spareWeight x))
       spares x (enough h) =
           omega (arith, once (spareWeight x) x SPARE-DESCRIPTORS (omega arith) (λ i. spare-held x (m′ .task i .place)))

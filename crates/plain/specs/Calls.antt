@@ -1,5 +1,5 @@
--- The calls of the plain pool, with their refusals in the paper's order: "Start tests 1, 2, 3. Other calls test 1, 4, 2, 5,
--- then 6 or 7, then 8, 9 or 10, 11." It "is fed only each call's numbers and the lengths lent".
+-- The calls of the plain pool, with their refusals in the paper's order: "Start tests 1, 2, 3. Other calls test 1, 4,
+-- 2, 5, then 6 or 7, then 8, 9 or 10, 11." It "is fed only each call's numbers and the lengths lent".
 use mathlib.Core.Path.{_≡_}
 use mathlib.Core.List.{List, _∷_, []}
 use Prim.Native.Nat.{ℕ, zero, suc, _*_, _/_, _%_, _≤_, _<_}
@@ -10,8 +10,8 @@ use Rattle.rows.specs.Branch.{if, both}
 use Rattle.classes.specs.Classes.{units, perRegion}
 use Rattle.classes.specs.Sizes.{classOf}
 use Rattle.classes.specs.Places.{regionOf, indexOf}
-use Rattle.plain.specs.State.{State, EMPTY, PARTIAL, FULL, Descriptor, Mem, setTask, setHands, Place, idle, a1}
-use Rattle.plain.specs.State.{f1, working}
+use Rattle.plain.specs.State.{State, EMPTY, PARTIAL, FULL, Descriptor, Task, Mem, setTask, setHands, Place, idle}
+use Rattle.plain.specs.State.{a1, f1, working}
 use Rattle.plain.specs.Moves.{Answer, going, nothing, refused}
 use Rattle.plain.specs.Steps.{Result, stepOf, stepOf}
 
@@ -50,8 +50,8 @@ startRow regions ℓ =
     if (ℕ-discrete ℓ SPARE-DESCRIPTORS) (rising DESCRIPTORS 0)
     (if (ℕ-discrete ℓ SPARE-REGIONS) (rising regions 0) [])
 
--- "begins a new run: tasks idle, caches and partial lists empty, tags 0, marks clear, map entries none". The paper names no
--- descriptor's state here; no step reads one before step 7 of an allocation writes it.
+-- "begins a new run: tasks idle, caches and partial lists empty, tags 0, marks clear, map entries none". The paper
+-- names no descriptor's state here; no step reads one before step 7 of an allocation writes it.
 unfoldable pub startMem : ℕ → Mem
 startMem regions = record {
   row = startRow regions;
@@ -99,7 +99,8 @@ notEmpty? EMPTY = no (λ x. x)
 notEmpty? PARTIAL = yes tt
 notEmpty? FULL = yes tt
 
--- "A region is open while that descriptor names it back and its anchor is not EMPTY": D is the one that its map entry names.
+-- "A region is open while that descriptor names it back and its anchor is not EMPTY": D is the one that its map entry
+-- names.
 abbrev pub Opens : Descriptor → ℕ → Type 0
 Opens D r = (D .region ≡ r) × NotEmpty (D .state)
 
@@ -117,12 +118,9 @@ first? c u = both (ℕ-discrete (u % REGION-UNITS % units c) 0) (decLt (indexOf 
 -- the block's mark; any task may free". D is the descriptor that the map names for the unit's region.
 abbrev pub freeIn : Descriptor → ℕ → ℕ → Mem → Result
 freeIn D t u m =
+    let T : Task = record { place = working (f1 (D .class) u); cache = m .task t .cache } in
     if (both (opens? D (regionOf u)) (first? (D .class) u))
-    (if (ℕ-discrete (m .hands u) 0) (m, refused 11) (
-      setTask t (record { place = working (f1 (D .class) u); cache = m .task t .cache })
-          (setHands u 0 m),
-      going nothing,
-    ))
+    (if (ℕ-discrete (m .hands u) 0) (m, refused 11) (setTask t T (setHands u 0 m), going nothing))
     (m, refused 10)
 
 -- the map's entry of the unit's region
@@ -147,8 +145,8 @@ refuse code s = (s, refused code)
 abbrev pub became : Pool → Result → Pool × Answer
 became s x = (record { tasks = s .tasks; regions = s .regions; mem = x .0 }, x .1)
 
--- tests 1, 4, 2, 5 of a call that is no start, then x: "1 control not 8,192 bytes", "4 pool not started", "2 area length .. not
--- the started one", "5 no such task"
+-- tests 1, 4, 2, 5 of a call that is no start, then x: "1 control not 8,192 bytes", "4 pool not started", "2 area
+-- length .. not the started one", "5 no such task"
 abbrev pub tested : ℕ → Lengths → Pool → Result → Pool × Answer
 tested t lent s x =
     if (ℕ-discrete (lent .control) CONTROL-BYTES)

@@ -44,7 +44,8 @@ pub record Invariant (area : ℕ) (m : Mem) : Type 0 where
       + total DESCRIPTORS (fullWeight d) (m .descriptor) ≡ below d DESCRIPTORS
   -- each region of the area is once on the list of spare regions, or held by a task, or open; there is no other
   pub regions : (r : ℕ)
-      → count r (m .row SPARE-REGIONS) + total TASKS (regionWeight r) (m .task) + total DESCRIPTORS (openWeight r) (m .descriptor)
+      → count r (m .row SPARE-REGIONS) + total TASKS (regionWeight r) (m .task)
+      + total DESCRIPTORS (openWeight r) (m .descriptor)
       ≡ below r area
   -- a descriptor on the partial list of a class, or held for it, is of that class
   pub classes : (c d : ℕ) → c < CLASSES

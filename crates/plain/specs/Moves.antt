@@ -2,8 +2,8 @@
 use Prim.Native.Nat.{ℕ}
 
 -- "The deciding step of a move is its won exchange, or the read by which a pop finds its list empty or an allocate an
--- anchor EMPTY." Lost exchanges are named too, though they decide nothing, so that two runs which are shown to decide alike are
--- shown to lose alike. ℓ is a list, x the item that was popped or pushed, d a descriptor.
+-- anchor EMPTY." Lost exchanges are named too, though they decide nothing, so that two runs which are shown to decide
+-- alike are shown to lose alike. ℓ is a list, x the item that was popped or pushed, d a descriptor.
 pub data Decided : Type 0 where
   nothing : Decided
   found-empty : (ℓ : ℕ) → Decided
@@ -25,7 +25,8 @@ going e = record { code = 0; value = 0; decided = e }
 abbrev pub finished : ℕ → Answer
 finished value = record { code = 20; value = value; decided = nothing }
 
--- "12 and 13 refuse no call: they are a request's end, with value 0, make the change of their step and leave the task idle."
+-- "12 and 13 refuse no call: they are a request's end, with value 0, make the change of their step and leave the task
+-- idle."
 abbrev pub ended : ℕ → Decided → Answer
 ended code e = record { code = code; value = 0; decided = e }
 

@@ -46,7 +46,8 @@ pub record NeverHappens (m : Mem) (t : ℕ) : Type 0 where
   -- the anchor read of an allocate never finds FULL
   pub allocateReads : (c d : ℕ) → m .task t .place ≡ working (a3-read c d) → m .descriptor d .state ≢ FULL
   -- the won anchor exchange of an allocate had noted PARTIAL, and takes a chain that is not empty
-  pub allocateTakes : (c d : ℕ) (n : Note) → m .task t .place ≡ working (a3-exchange c d n) → AsNoted (m .descriptor d) n
+  pub allocateTakes : (c d : ℕ) (n : Note) → m .task t .place ≡ working (a3-exchange c d n)
+      → AsNoted (m .descriptor d) n
       → (n .state ≡ PARTIAL) × Top (m .descriptor d .chain)
   -- no count of a free passes n
   pub freeLinks : (c u y : ℕ) (g : List ℕ) (d : ℕ) (n : Note) → m .task t .place ≡ working (f3-link c u y g d n)

@@ -40,9 +40,9 @@ PushHolds k (offer c u d) = RoomInCache k c
 
 -- What holds of the caches k at each place. The class is one of the paper's. In an allocate, from the pop of step 2 to
 -- step 7, its cache is empty; an anchor that is to be exchanged was not noted as EMPTY; the taken chain and the cache
--- have fewer than n blocks; as many blocks are cached as carved. In a free, group and cache are not both empty, and have
--- at most n blocks; the group lies in one region, and has at most n blocks with the chain that was noted; after its
--- return the cache has fewer than n.
+-- have fewer than n blocks; as many blocks are cached as carved. In a free, group and cache are not both empty, and
+-- have at most n blocks; the group lies in one region, and has at most n blocks with the chain that was noted; after
+-- its return the cache has fewer than n.
 abbrev pub HoldsAt : (ℕ → List ℕ) → Work → Type 0
 HoldsAt k (a1 c) = c < CLASSES
 HoldsAt k (popping p φ) = EmptyCache k (popHeld p .class)
@@ -81,8 +81,8 @@ PushNote won read = Unit {0}
 PushNote won (next n) = n ≤ won
 PushNote won (exchange n) = n ≤ won
 
--- What holds of the note of a task that has the blocks b under way. Where a free noted the anchor of a descriptor, the map
--- still names it for the region of a block under way.
+-- What holds of the note of a task that has the blocks b under way. Where a free noted the anchor of a descriptor, the
+-- map still names it for the region of a block under way.
 abbrev pub NotedHolds : (ℕ → List ℕ) → (won map : ℕ → ℕ) → List ℕ → Noted → Type 0
 NotedHolds row won map b unnoted = Unit {0}
 NotedHolds row won map b (pop-noted p φ) = PopNote (row (popList p)) (won (popList p)) φ

@@ -19,15 +19,16 @@ pub record Descriptor : Type 0 where
   pub class : ℕ
   pub chain : List ℕ
 
--- "An anchor read notes the state and the chain's first block, if any, and length": the block's unit plus one, 0 for none
+-- "An anchor read notes the state and the chain's first block, if any, and length": the block's unit plus one, 0 for
+-- none
 pub record Note : Type 0 where
   pub state : State
   pub first : ℕ
   pub length : ℕ
 
--- The three steps of a pop and of a push: "read head .. ; read the item's next; exchange" and "read head; write the item's
--- next; exchange". "A head read notes the list's number of won exchanges, whether or not the row is empty": the number stays
--- noted until the exchange. A pop that finds its list empty is over, and keeps no note.
+-- The three steps of a pop and of a push: "read head .. ; read the item's next; exchange" and "read head; write the
+-- item's next; exchange". "A head read notes the list's number of won exchanges, whether or not the row is empty": the
+-- number stays noted until the exchange. A pop that finds its list empty is over, and keeps no note.
 pub data Phase : Type 0 where
   read : Phase
   next : ℕ → Phase
@@ -53,8 +54,8 @@ pub data Push : Type 0 where
   -- free, step 5: "push the descriptor on the partial list"
   offer : (c u d : ℕ) → Push
 
--- "place in the step list, what it noted and what it has under way", of a task at work. A place is named by its pop or push, or by
--- its step: a of Allocate, f of Free. y is the first block of a group and g the others.
+-- "place in the step list, what it noted and what it has under way", of a task at work. A place is named by its pop or
+-- push, or by its step: a of Allocate, f of Free. y is the first block of a group and g the others.
 pub data Work : Type 0 where
   a1 : (c : ℕ) → Work
   popping : Pop → Phase → Work
@@ -84,8 +85,8 @@ pub record Task : Type 0 where
   pub place : Place
   pub cache : ℕ → List ℕ
 
--- "each list as a row from the top, with the number of its won exchanges since the start, never wrapping; .. the map; the
--- caches as rows; the blocks in users' hands", with the descriptors and the tasks above
+-- "each list as a row from the top, with the number of its won exchanges since the start, never wrapping; .. the map;
+-- the caches as rows; the blocks in users' hands", with the descriptors and the tasks above
 pub record Mem : Type 0 where
   pub row : ℕ → List ℕ
   pub won : ℕ → ℕ

@@ -59,8 +59,8 @@ f5 EMPTY cache c u d = f6 cache c u
 f5 PARTIAL cache c u d = f6 cache c u
 f5 FULL cache c u d = pushing (offer c u d) read
 
--- allocate, step 4: "Move the taken chain to the cache, .. ; after the last, 1"; of an empty chain nothing is moved (nor is one
--- ever taken: the anchor was PARTIAL)
+-- allocate, step 4: "Move the taken chain to the cache, .. ; after the last, 1"; of an empty chain nothing is moved
+-- (nor is one ever taken: the anchor was PARTIAL)
 abbrev pub moving : ℕ → List ℕ → Work
 moving c [] = a1 c
 moving c (x ∷ q) = a4 c x q
@@ -132,8 +132,8 @@ module _ (t : ℕ) (k : ℕ → List ℕ) where
   abbrev pub popLost : Pop → Mem → Result
   popLost p m = (to (popping p read) m, going (lost (popList p)))
 
-  -- "a won one takes .. the top item"; an empty row has none, so that nothing is won there (nor ever tried: the row was not
-  -- empty when it was read, and its number is the same)
+  -- "a won one takes .. the top item"; an empty row has none, so that nothing is won there (nor ever tried: the row was
+  -- not empty when it was read, and its number is the same)
   abbrev pub popTake : Pop → List ℕ → Mem → Result
   popTake p [] m = popLost p m
   popTake p (x ∷ q) m = (to (whenPopped p x) (setRow (popList p) q m), going (popped (popList p) x))
@@ -162,8 +162,8 @@ module _ (t : ℕ) (k : ℕ → List ℕ) where
   a1Step c [] m = (to (popping (partial c) read) m, going nothing)
   a1Step c (x ∷ q) m = (cached c q idle (setHands x 1 m), finished x)
 
-  -- allocate, step 3: "Read the anchor. EMPTY: push the descriptor on the spare list, then 2. Else exchange it" (it is never
-  -- FULL: a descriptor on a partial list is PARTIAL or EMPTY)
+  -- allocate, step 3: "Read the anchor. EMPTY: push the descriptor on the spare list, then 2. Else exchange it" (it is
+  -- never FULL: a descriptor on a partial list is PARTIAL or EMPTY)
   abbrev pub a3Read : ℕ → ℕ → State → Mem → Result
   a3Read c d EMPTY m = (to (pushing (retire c d) read) m, going (anchor-empty d))
   a3Read c d PARTIAL m = (to (a3-exchange c d (noteOf (m .descriptor d))) m, going nothing)
@@ -194,7 +194,8 @@ module _ (t : ℕ) (k : ℕ → List ℕ) where
   f1Step c u m =
       if (decLt (length (k c)) (perRegion c)) (cached c (u ∷ k c) idle m, finished 0) (to (f2 c u []) m, going nothing)
 
-  -- the step "closes the group"; a group of none has nothing to return (nor does it ever close: the cache was not empty)
+  -- the step "closes the group"; a group of none has nothing to return (nor does it ever close: the cache was not
+  -- empty)
   abbrev pub closed : ℕ → ℕ → List ℕ → Work
   closed c u [] = f6 (k c) c u
   closed c u (y ∷ g) = f3-read c u y g
@@ -209,14 +210,14 @@ module _ (t : ℕ) (k : ℕ → List ℕ) where
       (cached c q (working (f2 c u (y ∷ (g ++ (x ∷ []))))) m, going nothing)
       (to (closed c u (y ∷ g)) m, going nothing)
 
-  -- free, step 3: "Read the anchor", that of the descriptor that the map names for the group's region; with no such entry the
-  -- task stays where it is (nor is there ever none: the group's blocks are of an open region)
+  -- free, step 3: "Read the anchor", that of the descriptor that the map names for the group's region; with no such
+  -- entry the task stays where it is (nor is there ever none: the group's blocks are of an open region)
   abbrev pub f3Read : ℕ → ℕ → ℕ → ℕ → List ℕ → Mem → Result
   f3Read zero c u y g m = (m, going nothing)
   f3Read (suc d) c u y g m = (to (f3-link c u y g d (noteOf (m .descriptor d))) m, going nothing)
 
-  -- "free puts the group, in its order, before the chain, and the state is EMPTY at n blocks, else PARTIAL" (there are never
-  -- more); step 4 follows if it is now EMPTY, and step 5 by the state w before
+  -- "free puts the group, in its order, before the chain, and the state is EMPTY at n blocks, else PARTIAL" (there are
+  -- never more); step 4 follows if it is now EMPTY, and step 5 by the state w before
   abbrev pub returned : {P : Type 0} → Dec P → ℕ → ℕ → ℕ → List ℕ → ℕ → State → Mem → Result
   returned (yes e) c u y g d w m =
       let D = m .descriptor d in
