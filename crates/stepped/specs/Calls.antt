@@ -15,13 +15,14 @@ use Rattle.words.specs.Mark.{isSet, withClear}
 use Rattle.classes.specs.Sizes.{classOf}
 use Rattle.classes.specs.Places.{regionOf, isFirst}
 use Rattle.plain.specs.Moves.{nothing}
+use Rattle.plain.specs.Calls.{Call, start, allocate, free, step, Lengths}
 use Rattle.control.specs.Layout.{Anchor, Marks, TaskUnit, TaskPlace, TaskClass, DescriptorRegion, DescriptorClass}
 use Rattle.control.specs.Layout.{Map, Tasks, Regions, seen}
 use Rattle.control.specs.Places.{IDLE, A1, F1, PLACES}
 use Rattle.control.specs.declared.answer.Answer.the-variants.{Accepted}
-use Rattle.stepped.specs.Outcome.{Outcome, refuse, bad, accept, Effect, effect}
+use Rattle.stepped.specs.Outcome.{Outcome, refuse, bad, accept, Memories, Effect, effect}
 use Rattle.stepped.specs.Ranges.{oneTo, isAnchor}
-use Rattle.stepped.specs.Steps.{step}
+use Rattle.stepped.specs.Steps as Steps
 use Rattle.stepped.specs.Start.{startImage}
 
 -- ---- the tests that every call but a start passes first
@@ -121,10 +122,6 @@ startIn size area tasks control before =
     (effect (refuse 2) control before))
     (effect (refuse 1) control before)
 
--- a start on the memories that it is lent
-abbrev pub start : List ℕ → List ℕ → ℕ → Effect
-start control area tasks = startIn (length control) area tasks control area
-
 -- the outcome of a call that is no start, by the lengths lent, the fields and the links
 unfoldable pub allocateOutcome : ℕ → ℕ → View → ℕ → ℕ → Outcome
 allocateOutcome control area v t size = tested control area v t (whenIdle v t (beginAllocate t size))
@@ -133,13 +130,32 @@ unfoldable pub freeOutcome : ℕ → ℕ → View → ℕ → ℕ → Outcome
 freeOutcome control area v t u = tested control area v t (whenIdle v t (beginFree v (v Regions) t u))
 
 unfoldable pub stepOutcome : ℕ → ℕ → View → (ℕ → ℕ) → ℕ → Outcome
-stepOutcome control area v link t = tested control area v t (step v link (v Regions) t)
+stepOutcome control area v link t = tested control area v t (Steps.step v link (v Regions) t)
 
-unfoldable pub allocate : List ℕ → List ℕ → ℕ → ℕ → Effect
-allocate control area t size = effect (allocateOutcome (length control) (length area) (seen control) t size) control area
+-- What a call is lent: a control memory of so many bytes, and an area. A start takes the area for the pool's; of any other
+-- call the area's length alone matters.
+pub record Lent : Type 0 where
+  pub control : ℕ
+  pub area : List ℕ
 
-unfoldable pub free : List ℕ → List ℕ → ℕ → ℕ → Effect
-free control area t u = effect (freeOutcome (length control) (length area) (seen control) t u) control area
+abbrev pub lengths : Lent → Lengths
+lengths lent = record { control = lent .control; area = length (lent .area) }
 
-unfoldable pub go : List ℕ → List ℕ → ℕ → Effect
-go control area t = effect (stepOutcome (length control) (length area) (seen control) (Link.link area) t) control area
+-- what a call makes of the pool's memories s, which need not be those that it is lent
+abbrev pub effectIn : Call → Lent → Memories → Effect
+effectIn (start b) lent s = startIn (lent .control) (lent .area) (b .tasks) (s .control) (s .area)
+effectIn (allocate t size) lent s =
+    effect (allocateOutcome (lent .control) (length (lent .area)) (seen (s .control)) t size) (s .control) (s .area)
+effectIn (free t u) lent s =
+    effect (freeOutcome (lent .control) (length (lent .area)) (seen (s .control)) t u) (s .control) (s .area)
+effectIn (step t) lent s =
+    effect (stepOutcome (lent .control) (length (lent .area)) (seen (s .control)) (Link.link (s .area)) t)
+    (s .control) (s .area)
+
+-- the memories s, lent to a call
+abbrev pub lending : Memories → Lent
+lending s = record { control = length (s .control); area = s .area }
+
+-- what a call makes of the memories that it is lent
+abbrev pub effectOf : Call → Memories → Effect
+effectOf k s = effectIn k (lending s) s
