@@ -22,9 +22,9 @@ use Rattle.classes.proofs.Places.{index-below}
 use Rattle.classes.proofs.Tables.{perRegion-high}
 use Rattle.links.specs.Link.{link}
 use Rattle.plain.specs.State.{State, EMPTY, PARTIAL, FULL, numberOf, Note, read, retire, Place, pushing, a3-read}
-use Rattle.plain.specs.State.{a3-exchange, a4, Mem, setDescriptor}
+use Rattle.plain.specs.State.{a3-exchange, a4, Mem, setDescriptor, working}
 use Rattle.plain.specs.Moves.{going, took}
-use Rattle.plain.specs.Steps.{noted, chained, AsNoted, asNoted?, moving}
+use Rattle.plain.specs.Steps.{noteOf, chained, AsNoted, asNoted?, moving}
 use Rattle.plain.specs.Steps as Steps
 use Rattle.plain.specs.Blocks.{isBlock}
 use Rattle.plain.specs.Invariant.{OpenDescriptor, ChainLength}
@@ -43,7 +43,7 @@ use Rattle.stepped.specs.Outcome.{accept}
 use Rattle.stepped.specs.Allocate as Allocate
 use Rattle.agreement.specs.Memory.{slotOf, memoryOf}
 use Rattle.agreement.specs.Relation.{PushRelated, NoteRelated, ChainRelated, r-retire, r-a3-read, r-a3-exchange}
-use Rattle.agreement.specs.Relation.{r-a4}
+use Rattle.agreement.specs.Relation.{r-a4, r-working}
 use Rattle.agreement.proofs.Slots.{toPlace, toAnchor, toChain}
 use Rattle.agreement.proofs.Sets.{withSlots, setAnchor}
 use Rattle.agreement.proofs.Bridge.{anchor-written}
@@ -95,7 +95,7 @@ module _ {regions : ℕ} {v : View} {area : List ℕ} {m : Mem} {t : ℕ} {k : �
   -- ---- the read
 
   -- the anchor's state is z
-  read-state : At regions v area m t (a3-read (v (TaskClass t)) (v (TaskDescriptor t))) k → v (TaskDescriptor t) < DESCRIPTORS
+  read-state : At regions v area m t (working (a3-read (v (TaskClass t)) (v (TaskDescriptor t)))) k → v (TaskDescriptor t) < DESCRIPTORS
       → (z : State) → m .descriptor (v (TaskDescriptor t)) .state ≡ z
       → Both regions v area m (Allocate.a3ReadOf v (link area) regions t (v (TaskClass t)) (v (TaskDescriptor t)))
       (Steps.a3Read t k (v (TaskClass t)) (v (TaskDescriptor t)) z m)
@@ -108,8 +108,8 @@ module _ {regions : ℕ} {v : View} {area : List ℕ} {m : Mem} {t : ℕ} {k : �
       (meet _ (eqb (b .state) 0) (eq-eqb (b .state) 0 (w .pair .rel .core .descriptors .each d l .state ∙ ap numberOf g)) (record {
         says = refl;
         keeps = (refl, refl);
-        rel = goes w (TaskPlace t := PUSH-RETIRE ∷ []) (toPlace PUSH-RETIRE (slotOf v t)) (pushing (retire c d) read) refl
-            (rw (eq-eqb t t refl)) (λ j n. rw (ne-eqb t j n)) refl refl (r-retire (PushRelated.at-read refl));
+        rel = goes w (TaskPlace t := PUSH-RETIRE ∷ []) (toPlace PUSH-RETIRE (slotOf v t)) (working (pushing (retire c d) read)) refl
+            (rw (eq-eqb t t refl)) (λ j n. rw (ne-eqb t j n)) refl refl (r-working (r-retire (PushRelated.at-read refl)));
         sound = omega (arith, w .pair .turn .fits);
         apart = tt;
       }))
@@ -140,13 +140,13 @@ module _ {regions : ℕ} {v : View} {area : List ℕ} {m : Mem} {t : ℕ} {k : �
         says = refl;
         keeps = (refl, refl);
         rel = goes w (TaskPlace t := A3-EXCHANGE ∷ TaskAnchor t := word ∷ []) (toPlace A3-EXCHANGE (toAnchor b (slotOf v t)))
-            (a3-exchange c d (noted E)) refl (rw (eq-eqb t t refl)) (λ j n. rw (ne-eqb t j n)) refl refl
-            (r-a3-exchange refl (re-note refl (sym ec) (note-of m d D C L)) st low high first);
+            (working (a3-exchange c d (noteOf E))) refl (rw (eq-eqb t t refl)) (λ j n. rw (ne-eqb t j n)) refl refl
+            (r-working (r-a3-exchange refl (re-note refl (sym ec) (note-of m d D C L)) st low high first));
         sound = omega (arith, w .pair .turn .fits, w .fitting (Layout.Anchor d) (omega (arith, l)));
         apart = tt;
       })))
 
-  pub a3-read-both : At regions v area m t (a3-read (v (TaskClass t)) (v (TaskDescriptor t))) k
+  pub a3-read-both : At regions v area m t (working (a3-read (v (TaskClass t)) (v (TaskDescriptor t)))) k
       → Both regions v area m (Allocate.a3Read v (link area) regions t (v (TaskClass t)))
       (Steps.stepAt t k (a3-read (v (TaskClass t)) (v (TaskDescriptor t))) m)
   unfolding Allocate.a3Read
@@ -158,7 +158,7 @@ module _ {regions : ℕ} {v : View} {area : List ℕ} {m : Mem} {t : ℕ} {k : �
   -- ---- the exchange
 
   -- it is won: the anchor is as noted
-  exchange-won : (n : Note) → At regions v area m t (a3-exchange (v (TaskClass t)) (v (TaskDescriptor t)) n) k
+  exchange-won : (n : Note) → At regions v area m t (working (a3-exchange (v (TaskClass t)) (v (TaskDescriptor t)) n)) k
       → anchorOf (v (TaskAnchor t)) .count ≤ perRegion (v (TaskClass t))
       → anchorOf (v (TaskAnchor t)) .avail < perRegion (v (TaskClass t))
       → v (Layout.Anchor (v (TaskDescriptor t))) ≡ v (TaskAnchor t) → AsNoted (m .descriptor (v (TaskDescriptor t))) n
@@ -171,7 +171,7 @@ module _ {regions : ℕ} {v : View} {area : List ℕ} {m : Mem} {t : ℕ} {k : �
       ∷ TaskLeft t := anchorOf (v (TaskAnchor t)) .count
       ∷ [])
       []) (
-        Steps.at t k (moving (v (TaskClass t)) (m .descriptor (v (TaskDescriptor t)) .chain))
+        Steps.to t k (moving (v (TaskClass t)) (m .descriptor (v (TaskDescriptor t)) .chain))
             (setDescriptor (v (TaskDescriptor t)) (chained (m .descriptor (v (TaskDescriptor t))) FULL []) m),
         going (took (v (TaskDescriptor t))),
       )
@@ -193,21 +193,21 @@ module _ {regions : ℕ} {v : View} {area : List ℕ} {m : Mem} {t : ℕ} {k : �
       λ y. omega (arith, T .opened .inside y, ap (λ (z : ℕ). isBlock y z (E .class)) (D .region), ap (isBlock y r) (T .class)) in
       let own = TaskRegion t := r ∷ TaskIndex t := b .avail ∷ TaskLeft t := b .count ∷ [] in
       let S = slotOf (assigned (TaskPlace t := A4 ∷ own) v) in
-      has-top (λ q. (Steps.at t k (moving c q) (setDescriptor d (chained E FULL []) m), going (took d))) (E .chain)
+      has-top (λ q. (Steps.to t k (moving c q) (setDescriptor d (chained E FULL []) m), going (took d))) (E .chain)
       (λ i. omega (arith, T .chain, ap length i))
       (λ x q i. record {
         says = refl;
         keeps = (refl, refl);
         rel = shares w
             (TaskPlace t := A4 ∷ Layout.Anchor d := anchorWord (full (perRegion c)) ∷ own)
-            s (a4 c x q) (setAnchor d (full (perRegion c)) (memoryOf v area)) (setDescriptor d (chained E FULL []) m)
-            (anchoring (w .pair) d (full (perRegion c)) (chained E FULL []) s (taskOf (a4 c x q) k) (T .fits) refl refl refl
+            s (working (a4 c x q)) (setAnchor d (full (perRegion c)) (memoryOf v area)) (setDescriptor d (chained E FULL []) m)
+            (anchoring (w .pair) d (full (perRegion c)) (chained E FULL []) s (taskOf (working (a4 c x q)) k) (T .fits) refl refl refl
             (record { linked = ends (ap perRegion (T .class)); counts = refl }) (perRegion-high c) (omega arith))
             (anchor-written v S area d (anchorWord (full (perRegion c)))
             ∙ ap (λ (z : Anchor). withSlots S (setAnchor d z (memoryOf v area))) (full-read c))
             refl refl (rw (eq-eqb t t refl)) (λ j n. rw (ne-eqb t j n)) refl refl
-            (r-a4 refl (subst (Linked (link area) (indexOf c) (perRegion c) (b .avail)) i lk)
-            (sym (same .1) ∙ C .counts ∙ ap length i) (λ y. omega (arith, inside y, ap (count y) i)));
+            (r-working (r-a4 refl (subst (Linked (link area) (indexOf c) (perRegion c) (b .avail)) i lk)
+            (sym (same .1) ∙ C .counts ∙ ap length i) (λ y. omega (arith, inside y, ap (count y) i))));
         sound = omega (
           arith,
           w .pair .turn .fits,
@@ -222,7 +222,7 @@ module _ {regions : ℕ} {v : View} {area : List ℕ} {m : Mem} {t : ℕ} {k : �
         apart = tt;
       })
 
-  pub a3-exchange-both : {n : Note} → At regions v area m t (a3-exchange (v (TaskClass t)) (v (TaskDescriptor t)) n) k
+  pub a3-exchange-both : {n : Note} → At regions v area m t (working (a3-exchange (v (TaskClass t)) (v (TaskDescriptor t)) n)) k
       → NoteRelated m (v (TaskClass t)) (v (TaskDescriptor t)) n (anchorOf (v (TaskAnchor t)))
       → anchorOf (v (TaskAnchor t)) .state ≡ 1 → 1 ≤ anchorOf (v (TaskAnchor t)) .count
       → anchorOf (v (TaskAnchor t)) .count ≤ perRegion (v (TaskClass t))
@@ -262,8 +262,8 @@ module _ {regions : ℕ} {v : View} {area : List ℕ} {m : Mem} {t : ℕ} {k : �
       (λ g h. record {
         says = refl;
         keeps = (refl, refl);
-        rel = goes w (TaskPlace t := A3-READ ∷ []) (toPlace A3-READ (slotOf v t)) (a3-read c d) refl
-            (rw (eq-eqb t t refl)) (λ j n. rw (ne-eqb t j n)) refl refl (r-a3-read refl);
+        rel = goes w (TaskPlace t := A3-READ ∷ []) (toPlace A3-READ (slotOf v t)) (working (a3-read c d)) refl
+            (rw (eq-eqb t t refl)) (λ j n. rw (ne-eqb t j n)) refl refl (r-working (r-a3-read refl));
         sound = omega (arith, w .pair .turn .fits);
         apart = tt;
       })))

@@ -2,7 +2,7 @@
 use mathlib.Core.Path.{_≡_, refl, sym, ap, subst, _∙_}
 use mathlib.Core.Bool.{true, cond}
 use mathlib.Core.List.{List, [], _∷_}
-use Prim.Native.Nat.{ℕ, zero, suc, _+_, _/_, _%_, _≤_, _<_}
+use Prim.Native.Nat.{ℕ, zero, suc, _/_, _%_, _≤_, _<_}
 use native.Mathlib.Omega.{arith}
 use native.Mathlib.Numerals.{sub-one}
 use native.Mathlib.Decide.{ℕ-discrete, decLt}
@@ -20,6 +20,7 @@ use Rattle.classes.specs.Sizes.{classOf}
 use Rattle.classes.specs.Places.{regionOf, indexOf, isFirst}
 use Rattle.classes.proofs.Sizes.{is-class}
 use Rattle.plain.specs.State.{State, EMPTY, PARTIAL, FULL, numberOf, Place, idle, a1, f1, Mem, Task, setTask, setHands}
+use Rattle.plain.specs.State.{working}
 use Rattle.plain.specs.Moves.{going, nothing, refused}
 use Rattle.plain.specs.Steps.{Result}
 use Rattle.plain.specs.Calls as Plain
@@ -27,17 +28,14 @@ use Rattle.plain.specs.Invariant.{Invariant}
 use Rattle.plain.proofs.Homes.{inside-open}
 use Rattle.plain.proofs.Places.{taskOf}
 use Rattle.control.specs.Layout.{Anchor, Marks, TaskUnit, TaskPlace, TaskClass, DescriptorRegion, DescriptorClass}
-use Rattle.control.specs.Places.{IDLE, A1, A3-READ, A3-EXCHANGE, A4, A7, A8, F1, F2, F3-READ, F3-LINK, F3-EXCHANGE}
-use Rattle.control.specs.Places.{F4-CLEAR, PLACES}
+use Rattle.control.specs.Places.{IDLE, A1, F1, PLACES}
 use Rattle.stepped.specs.Outcome.{Outcome, refuse}
 use Rattle.stepped.specs.Ranges.{isAnchor}
 use Rattle.stepped.specs.Calls as Stepped
 use Rattle.agreement.specs.Memory.{TaskCaches, Slot, Memory, slotOf, memoryOf}
 use Rattle.agreement.specs.Relation
-use Rattle.agreement.specs.Relation.{CachesRelated, PopRelated, PushRelated, PlaceRelated, r-idle, r-a1}
-use Rattle.agreement.specs.Relation.{r-partial, r-spare, r-region, r-retire, r-back, r-release, r-offer}
-use Rattle.agreement.specs.Relation.{r-a3-read, r-a3-exchange, r-a4, r-a7, r-a8, r-f1, r-f2, r-f2-more}
-use Rattle.agreement.specs.Relation.{r-f3-read, r-f3-link, r-f3-exchange, r-f4-clear, SlotRelated, Related}
+use Rattle.agreement.specs.Relation.{CachesRelated, PlaceRelated, r-idle, r-a1, r-f1, SlotRelated, Related}
+use Rattle.agreement.specs.Relation.{r-working}
 use Rattle.agreement.proofs.Slots.{toRequest}
 use Rattle.agreement.proofs.Sets.{setSlot, setMark}
 use Rattle.agreement.proofs.Bridge.{becomes, mark-clear-written}
@@ -47,6 +45,7 @@ use Rattle.agreement.proofs.Notes.{number-max}
 use Rattle.stepped.proofs.Conjunction.{both-true, left-true, right-true}
 use Rattle.agreement.proofs.Both.{Both, pass, meet, choose, decide}
 use Rattle.agreement.proofs.Turns.{At}
+use Rattle.agreement.proofs.WorkPlaces.{work-place}
 
 module _ {regions : ℕ} {v : View} {area : List ℕ} {m : Mem} (R : Related regions (memoryOf v area) m) where
   -- a refused call changes nothing
@@ -54,48 +53,14 @@ module _ {regions : ℕ} {v : View} {area : List ℕ} {m : Mem} (R : Related reg
   refusal n = record { says = refl; rel = R; keeps = (refl, refl); sound = tt; apart = tt }
 
   module _ (t : ℕ) (x : Outcome) (y : Result) where
-    -- test 6 at a place that is not idle
-    busy : (n : ℕ) → v (TaskPlace t) ≡ n → 1 ≤ n → n < PLACES → Both regions v area m (Stepped.whenIdle v t x) (m, refused 6)
-    unfolding Stepped.whenIdle
-    busy n e l h = rw (lt-ltb (v (TaskPlace t)) PLACES (omega arith), ne-eqb (v (TaskPlace t)) IDLE (omega arith)) (refusal 6)
-
-    pop-busy : {b ℓ items : ℕ} {φ : Rattle.plain.specs.State.Phase} → PopRelated m (slotOf v t) b ℓ items φ → 1 ≤ b → b + 2 < PLACES
-        → Both regions v area m (Stepped.whenIdle v t x) (m, refused 6)
-    pop-busy {b} (PopRelated.at-read e) l h = busy b e l (omega arith)
-    pop-busy {b} (PopRelated.at-next e N i j) l h = busy (b + 1) e (omega arith) (omega arith)
-    pop-busy {b} (PopRelated.at-exchange e N i j o p) l h = busy (b + 2) e (omega arith) (omega arith)
-
-    push-busy : {b ℓ items z : ℕ} {nx : ℕ → ℕ} {φ : Rattle.plain.specs.State.Phase} → PushRelated m (slotOf v t) b ℓ items z nx φ → 1 ≤ b → b + 2 < PLACES
-        → Both regions v area m (Stepped.whenIdle v t x) (m, refused 6)
-    push-busy {b} (PushRelated.at-read e) l h = busy b e l (omega arith)
-    push-busy {b} (PushRelated.at-next e N i) l h = busy (b + 1) e (omega arith) (omega arith)
-    push-busy {b} (PushRelated.at-exchange e N i j) l h = busy (b + 2) e (omega arith) (omega arith)
-
     -- "6 the task has a request in hand"
     pub when-idle : (p : Place) → PlaceRelated regions (memoryOf v area) m (slotOf v t) p → (p ≡ idle → Both regions v area m x y)
         → Both regions v area m (Stepped.whenIdle v t x) (Plain.whenIdle p y m)
     unfolding Stepped.whenIdle
     when-idle p (r-idle e) h = rw (lt-ltb (v (TaskPlace t)) PLACES (omega arith), eq-eqb (v (TaskPlace t)) IDLE e) (h refl)
-    when-idle p (r-a1 e) h = busy A1 e (omega arith) (omega arith)
-    when-idle p (r-partial e) h = pop-busy e (omega arith) (omega arith)
-    when-idle p (r-spare e) h = pop-busy e (omega arith) (omega arith)
-    when-idle p (r-region e) h = pop-busy e (omega arith) (omega arith)
-    when-idle p (r-retire e) h = push-busy e (omega arith) (omega arith)
-    when-idle p (r-back e) h = push-busy e (omega arith) (omega arith)
-    when-idle p (r-release i e) h = push-busy e (omega arith) (omega arith)
-    when-idle p (r-offer e) h = push-busy e (omega arith) (omega arith)
-    when-idle p (r-a3-read e) h = busy A3-READ e (omega arith) (omega arith)
-    when-idle p (r-a3-exchange e N i j k l) h = busy A3-EXCHANGE e (omega arith) (omega arith)
-    when-idle p (r-a4 e l n i) h = busy A4 e (omega arith) (omega arith)
-    when-idle p (r-a7 e) h = busy A7 e (omega arith) (omega arith)
-    when-idle p (r-a8 e) h = busy A8 e (omega arith) (omega arith)
-    when-idle p (r-f1 e) h = busy F1 e (omega arith) (omega arith)
-    when-idle p (r-f2 e z) h = busy F2 e (omega arith) (omega arith)
-    when-idle p (r-f2-more e G) h = busy F2 e (omega arith) (omega arith)
-    when-idle p (r-f3-read e G) h = busy F3-READ e (omega arith) (omega arith)
-    when-idle p (r-f3-link e G N l) h = busy F3-LINK e (omega arith) (omega arith)
-    when-idle p (r-f3-exchange e G N l i) h = busy F3-EXCHANGE e (omega arith) (omega arith)
-    when-idle p (r-f4-clear e i) h = busy F4-CLEAR e (omega arith) (omega arith)
+    when-idle p (r-working W) h =
+        let i = work-place W in
+        rw (lt-ltb (v (TaskPlace t)) PLACES (omega arith), ne-eqb (v (TaskPlace t)) IDLE (omega arith)) (refusal 6)
 
 -- ---- an idle task begins a request
 
@@ -125,10 +90,10 @@ module _ {regions : ℕ} {v : View} {area : List ℕ} {m : Mem} {t : ℕ} {k : �
       let ws = TaskPlace t := A1 ∷ TaskClass t := classOf size ∷ [] in
       record {
         says = refl;
-        rel = subst (λ (z : Memory). Related regions z (setTask t (record { place = a1 (classOf size); cache = m .task t .cache }) m))
+        rel = subst (λ (z : Memory). Related regions z (setTask t (record { place = working (a1 (classOf size)); cache = m .task t .cache }) m))
             (sym (becomes v (assigned ws v) area t s (memoryOf v area) refl refl (rw (eq-eqb t t refl)) (λ j n. rw (ne-eqb t j n))))
-            (subst (λ (q : ℕ → List ℕ). Related regions (setSlot t s (memoryOf v area)) (setTask t (record { place = a1 (classOf size); cache = q }) m)) (sym cache-is)
-            (quiet (w .pair) s (taskOf (a1 (classOf size)) k) (begun _ _ s (a1 (classOf size)) refl l refl (r-a1 refl))));
+            (subst (λ (q : ℕ → List ℕ). Related regions (setSlot t s (memoryOf v area)) (setTask t (record { place = working (a1 (classOf size)); cache = q }) m)) (sym cache-is)
+            (quiet (w .pair) s (taskOf (working (a1 (classOf size))) k) (begun _ _ s (working (a1 (classOf size))) refl l refl (r-working (r-a1 refl)))));
         keeps = (refl, refl);
         sound = omega (arith, w .pair .turn .fits);
         apart = tt;
@@ -169,7 +134,7 @@ module _ {regions : ℕ} {v : View} {area : List ℕ} {m : Mem} {t : ℕ} {k : �
 
   -- the plain pool after the beginning of the free of a block of the class c
   abbrev freed : ℕ → Result
-  freed c = (setTask t (record { place = f1 c u; cache = m .task t .cache }) (setHands u 0 m), going nothing)
+  freed c = (setTask t (record { place = working (f1 c u); cache = m .task t .cache }) (setHands u 0 m), going nothing)
 
   -- the test of an open region and a first unit fails
   ten : {P : Type 0} (e : Dec P) (y : Result) → ¬ P → Both regions v area m (refuse 10) (if e y (m, refused 10))
@@ -189,8 +154,8 @@ module _ {regions : ℕ} {v : View} {area : List ℕ} {m : Mem} {t : ℕ} {k : �
         says = refl;
         rel = subst (λ (z : Memory). Related regions z (freed c .0))
             (sym (becomes v (assigned ws v) area t s (setMark u 0 (memoryOf v area)) (mark-clear-written v (slotOf (assigned ws v)) area u) refl (rw (eq-eqb t t refl)) (λ j n. rw (ne-eqb t j n))))
-            (subst (λ (q : ℕ → List ℕ). Related regions (setSlot t s (setMark u 0 (memoryOf v area))) (setTask t (record { place = f1 c u; cache = q }) (setHands u 0 m))) (sym cache-is)
-            (marking (w .pair) u 0 s (taskOf (f1 c u) k) (begun w _ _ s (f1 c u) refl l refl (r-f1 refl))));
+            (subst (λ (q : ℕ → List ℕ). Related regions (setSlot t s (setMark u 0 (memoryOf v area))) (setTask t (record { place = working (f1 c u); cache = q }) (setHands u 0 m))) (sym cache-is)
+            (marking (w .pair) u 0 s (taskOf (working (f1 c u)) k) (begun w _ _ s (working (f1 c u)) refl l refl (r-working (r-f1 refl)))));
         keeps = (refl, refl);
         sound = omega (arith, w .pair .turn .fits, w .pair .small, clear-below (v (Marks (u / 64))) (u % 64) 64 (w .fitting (Marks (u / 64)) (omega (arith, w .pair .small))) (omega arith));
         apart = tt;

@@ -8,8 +8,8 @@ use native.Mathlib.Decide.{ℕ-discrete, decLt}
 use borrow.Author.Tests.{eq-eqb, ne-eqb, lt-ltb, le-ltb}
 use lib.Dec.{eqb, ltb}
 use lib.ListN.{length, replicate, length-replicate, drop}
-use Rattle.limits.specs.Limits.{CONTROL-BYTES, REGION-BYTES, CLASSES, DESCRIPTORS, TAGS, MOST-BYTES}
-use Rattle.limits.specs.Limits.{SPARE-DESCRIPTORS, SPARE-REGIONS}
+use Rattle.limits.specs.Limits.{CONTROL-BYTES, REGION-BYTES, CLASSES, DESCRIPTORS, MOST-BYTES, TAGS, SPARE-DESCRIPTORS}
+use Rattle.limits.specs.Limits.{SPARE-REGIONS}
 use Rattle.rows.specs.Branch.{if}
 use Rattle.rows.proofs.Branch.{if-yes, if-no}
 use Rattle.rows.proofs.Update.{update-same}
@@ -23,20 +23,23 @@ use Rattle.classes.specs.declared.size.Choice.the-variants.{Class, Refused}
 use Rattle.classes.proofs.Bench.{Shown, bytes, number, shown, sizes, sizes-hold}
 use Rattle.classes.proofs.Sizes.{is-class}
 use Rattle.classes.proofs.Tables.{perRegion-high}
-use Rattle.plain.specs.State.{a1, Mem, setTask}
+use Rattle.plain.specs.State.{a1, working, Mem, setTask}
 use Rattle.plain.specs.Held.{classAt}
 use Rattle.plain.specs.Moves.{nothing, going, refused}
-use Rattle.plain.specs.Steps.{Result, step}
-use Rattle.plain.specs.Calls.{Pool, startMem, rising, unstarted, call}
+use Rattle.plain.specs.Steps.{Result, stepOf}
+use Rattle.plain.specs.Calls.{Pool, Start, allocate, step, startMem, rising, unstarted}
 use Rattle.plain.specs.Calls as Plain
+use Rattle.plain.proofs.Places.{taskOf}
 use Rattle.control.specs.Layout.{TaskPlace, TaskClass}
 use Rattle.control.specs.Places.{A1}
 use Rattle.control.specs.Answers.{codeOf}
 use Rattle.stepped.specs.Outcome.{Memories, Outcome, refuse, accept}
+use Rattle.stepped.specs.Calls.{Lent, lengths}
 use Rattle.stepped.specs.Calls as Stepped
-use Rattle.agreement.specs.Events.{Event, start, allocate, go, whole, Taken, Premises}
+use Rattle.agreement.specs.Events.{Event, call, whole, Taken, Premises}
+use Rattle.agreement.specs.Reached.{starting}
 use Rattle.agreement.proofs.Simulation.{taken-is}
-use Rattle.agreement.proofs.Undisturbed.{busy, brief, finishing, taskAnswers, Finishes, told, opens}
+use Rattle.agreement.proofs.Undisturbed.{brief, finishing, taskAnswers, Finishes, told, opens}
 use Rattle.agreement.proofs.Runs.{steppedAnswers, wholeAnswers, answered-from-start, Writes, short}
 
 -- ---- the table
@@ -69,8 +72,7 @@ table =
 
 -- ---- what a row says
 
--- What the beginning of an allocation shows: the block of its class where the code is 0, else the number that refuses
--- it.
+-- What the beginning of an allocation shows: the block of its class where the code is 0, else the number that refuses it.
 abbrev pub begins : (code class : ℕ) → Shown
 begins code class = cond (eqb code 0) (bytes (block class)) (number code)
 
@@ -82,16 +84,23 @@ steppedBegins v t o = begins (codeOf (o .answer)) (assigned (o .writes) v (TaskC
 abbrev pub plainBegins : ℕ → Result → Shown
 plainBegins t y = begins (y .1 .code) (classAt (y .0 .task t .place))
 
--- a start with so many tasks, an allocation of the size begun by the task t, and n steps of it
+-- what every call is lent: the control memory, and this area
+abbrev pub lends : List ℕ → Lent
+lends area = record { control = CONTROL-BYTES; area = area }
+
+-- a start with so many tasks
+abbrev pub of-tasks : ℕ → Start
+of-tasks n = record { tasks = n }
+
+-- such a start, an allocation of the size begun by the task t, and n steps of it
 abbrev pub allocating : (area : List ℕ) (tasks t size n : ℕ) → List Event
 allocating area tasks t size n =
-    start CONTROL-BYTES area tasks ∷ allocate CONTROL-BYTES (length area) t size
-    ∷ replicate n (go CONTROL-BYTES (length area) t)
+    starting (of-tasks tasks) area ∷ call (allocate t size) (lends area) ∷ replicate n (call (step t) (lends area))
 
--- Of sizes, in both pools, whatever they hold, and of every task. Of first allocations, on the bytes: after every
--- accepted start, whatever bytes the memories held before, and of each of its tasks; the start, the beginning and all
--- of the n steps but the last are code 0 with value 0, and the last finishes with the unit. Of tags, in every head word
--- and with every item put on top; of groups, with every first block.
+-- Of sizes, in both pools, whatever they hold, and of every task. Of first allocations, on the bytes: after every accepted start,
+-- whatever bytes the memories held before, and of each of its tasks; the start, the beginning and all of the n steps but the last
+-- are code 0 with value 0, and the last finishes with the unit. Of tags, in every head word and with every item put on top; of
+-- groups, with every first block.
 abbrev pub Holds : Row → Type 0
 Holds (of-size s x) =
     (t : ℕ) (v : View) (m : Mem)
@@ -126,13 +135,12 @@ unfolding choice
 plain-size s t m = by (ℕ-discrete s 0) (decLt MOST-BYTES s)
   where
     by : (a : Dec (s ≡ 0)) (b : Dec (MOST-BYTES < s))
-        → let T = busy (a1 (classOf s)) (m .task t .cache) in
-        plainBegins t (if a (m, refused 8) (if b (m, refused 9) (setTask t T m, going nothing))) ≡ shown (choice s)
+        → plainBegins t (if a (m, refused 8) (if b (m, refused 9) (setTask t (taskOf (working (a1 (classOf s))) (m .task t .cache)) m, going nothing)))
+        ≡ shown (choice s)
     by (yes e) b = rw (eq-eqb s 0 e)
     by (no e) (yes l) = rw (ne-eqb s 0 e, lt-ltb MOST-BYTES s l)
     by (no e) (no l) =
-        let T = busy (a1 (classOf s)) (m .task t .cache) in
-        rw (ne-eqb s 0 e, le-ltb MOST-BYTES s (omega arith), update-same (m .task) t T)
+        rw (ne-eqb s 0 e, le-ltb MOST-BYTES s (omega arith), update-same (m .task) t (taskOf (working (a1 (classOf s))) (m .task t .cache)))
 
 -- a list of sizes that are shown as they should be
 each : (q : List (ℕ × Shown)) → map (λ r. shown (choice (r .0))) q ≡ map (λ r. r .1) q
@@ -152,51 +160,43 @@ module _ (area : List ℕ) (tasks t : ℕ) (a : Plain.Area (length area)) (T : P
   abbrev regions : ℕ
   regions = length area / REGION-BYTES
 
-  -- a step of the task
-  abbrev one-step : Event
-  one-step = go CONTROL-BYTES (length area) t
-
   -- the started pool, with what it keeps
   abbrev pool : Mem → Pool
   pool m = record { tasks = tasks; regions = regions; mem = m }
 
-  passes : (m : Mem) → Taken CONTROL-BYTES (length area) t (pool m)
+  passes : (m : Mem) → Taken (lengths (lends area)) t (pool m)
   passes m = record { control-is = refl; started = T .0; area-is = omega (arith, a); below = l }
 
-  starts : whole (start CONTROL-BYTES area tasks) unstarted ≡ (pool (startMem regions), going nothing)
-  unfolding call
+  starts : whole (starting (of-tasks tasks) area) unstarted ≡ (pool (startMem regions), going nothing)
+  unfolding Plain.call
   starts =
-      if-yes (ℕ-discrete CONTROL-BYTES CONTROL-BYTES) _ _ refl ∙ if-yes (Plain.area? (length area)) _ _ a
-      ∙ if-yes (Plain.tasks? tasks) _ _ T
+      if-yes (ℕ-discrete CONTROL-BYTES CONTROL-BYTES) _ _ refl ∙ if-yes (Plain.area? (length area)) _ _ a ∙ if-yes (Plain.tasks? tasks) _ _ T
 
   -- the pool with the allocation begun: no cache has a block
   abbrev begun : ℕ → Mem
-  begun size = setTask t (busy (a1 (classOf size)) (λ c. [])) (startMem regions)
+  begun size = setTask t (taskOf (working (a1 (classOf size))) (λ c. [])) (startMem regions)
 
-  begins-so : (size : ℕ) → 1 ≤ size → size ≤ MOST-BYTES
-      → whole (allocate CONTROL-BYTES (length area) t size) (pool (startMem regions))
-      ≡ (pool (begun size), going nothing)
-  unfolding call startMem
+  begins-so : (size : ℕ) → 1 ≤ size → size ≤ 256
+      → whole (call (allocate t size) (lends area)) (pool (startMem regions)) ≡ (pool (begun size), going nothing)
+  unfolding Plain.call startMem
   begins-so size p q =
       taken-is (Plain.beginAllocate t size (startMem regions)) (passes (startMem regions))
       ∙ ap (Plain.became (pool (startMem regions)))
-      (if-no (ℕ-discrete size 0) _ _ (λ e. absurd (omega arith))
-      ∙ if-no (decLt MOST-BYTES size) _ _ (λ e. absurd (omega arith)))
+      (if-no (ℕ-discrete size 0) _ _ (λ e. absurd (omega arith)) ∙ if-no (decLt MOST-BYTES size) _ _ (λ e. absurd (omega arith)))
 
   -- n steps of the task
-  steps-so : (n : ℕ) (m : Mem) → wholeAnswers (replicate n one-step) (pool m) ≡ taskAnswers t n m
-  unfolding call
+  steps-so : (n : ℕ) (m : Mem) → wholeAnswers (replicate n (call (step t) (lends area))) (pool m) ≡ taskAnswers t n m
+  unfolding Plain.call
   steps-so zero m = refl
   steps-so (suc n) m =
-      ap (λ x. x .1 ∷ wholeAnswers (replicate n one-step) (x .0)) (taken-is (step t m) (passes m))
-      ∙ ap (λ q. step t m .1 ∷ q) (steps-so n (step t m .0))
+      ap (λ x. x .1 ∷ wholeAnswers (replicate n (call (step t) (lends area))) (x .0)) (taken-is (stepOf t m) (passes m))
+      ∙ ap (λ q. stepOf t m .1 ∷ q) (steps-so n (stepOf t m .0))
 
   -- "partial lists empty; both spare lists rising from item 0 on top"
   unlisted : (c : ℕ) → c < CLASSES → startMem regions .row c ≡ []
   unfolding startMem
   unlisted c i =
-      if-no (ℕ-discrete c SPARE-DESCRIPTORS) _ _ (λ e. absurd (omega arith))
-      ∙ if-no (ℕ-discrete c SPARE-REGIONS) _ _ (λ e. absurd (omega arith))
+      if-no (ℕ-discrete c SPARE-DESCRIPTORS) _ _ (λ e. absurd (omega arith)) ∙ if-no (ℕ-discrete c SPARE-REGIONS) _ _ (λ e. absurd (omega arith))
 
   spare-descriptors : startMem regions .row SPARE-DESCRIPTORS ≡ 0 ∷ rising (DESCRIPTORS - 1) 1
   unfolding startMem rising ℕ-discrete
@@ -212,29 +212,26 @@ module _ (area : List ℕ) (tasks t : ℕ) (a : Plain.Area (length area)) (T : P
   finishes : (size b : ℕ) → size ≤ MOST-BYTES → suc b ≡ perRegion (classOf size)
       → Finishes t (unitOf 0 (classOf size) b) (b + 10) (begun size)
   finishes size b q e =
-      let c = classOf size in
-      opens t c (λ c. []) 0 0 b (rising (DESCRIPTORS - 1) 1) (rising (regions - 1) 1) refl
-      (unlisted c (is-class size q)) spare-descriptors spare-regions e
-      (update-same (startMem regions .task) t (busy (a1 c) (λ c. [])))
+      opens t (classOf size) (λ c. []) 0 0 b (rising (DESCRIPTORS - 1) 1) (rising (regions - 1) 1) refl (unlisted (classOf size) (is-class size q))
+      spare-descriptors spare-regions e (update-same (startMem regions .task) t (taskOf (working (a1 (classOf size))) (λ c. [])))
 
   -- what the plain pool does is what the stepped run answers: so few events meet the premises, for they have no writes
-  carried : (size n unit : ℕ) → 1 ≤ size → size ≤ MOST-BYTES → n + 3 ≤ TAGS → Finishes t unit n (begun size)
-      → (before : Memories)
+  carried : (size n unit : ℕ) → 1 ≤ size → size ≤ MOST-BYTES → n + 3 ≤ TAGS → Finishes t unit n (begun size) → (before : Memories)
       → map brief (steppedAnswers (allocating area tasks t size (suc n)) before) ≡ finishing (suc (suc n)) unit
   unfolding unstarted
   carried size n unit p q few F before =
-      let steps = replicate (suc n) one-step in
-      let es = allocate CONTROL-BYTES (length area) t size ∷ steps in
-      let P : Premises (start CONTROL-BYTES area tasks ∷ es) unstarted =
-      short 0 (start CONTROL-BYTES area tasks ∷ es) unstarted (λ h. absurd (omega arith))
-      (omega (arith, length-replicate (suc n) one-step)) (no-writes (suc n) _) in
-      ap (map brief) (answered-from-start es before unstarted area tasks a T (P .1))
+      let steps = replicate (suc n) (call (step t) (lends area)) in
+      let es = call (allocate t size) (lends area) ∷ steps in
+      let P : Premises (starting (of-tasks tasks) area ∷ es) unstarted =
+      short 0 (starting (of-tasks tasks) area ∷ es) unstarted (λ h. absurd (omega arith))
+      (omega (arith, length-replicate (suc n) (call (step t) (lends area)))) (no-writes (suc n) _) in
+      ap (map brief) (answered-from-start es before unstarted (of-tasks tasks) area a T (P .1))
       ∙ ap (λ x. map brief (x .1 ∷ wholeAnswers es (x .0))) starts
       ∙ ap (λ x. (0, 0) ∷ map brief (x .1 ∷ wholeAnswers steps (x .0))) (begins-so size p q)
       ∙ ap (λ q. (0, 0) ∷ ((0, 0) ∷ map brief q)) (steps-so (suc n) (begun size))
       ∙ ap (λ q. (0, 0) ∷ ((0, 0) ∷ q)) (told t F)
     where
-      no-writes : (n : ℕ) (s : Pool) → Writes (replicate n one-step) s
+      no-writes : (n : ℕ) (s : Pool) → Writes (replicate n (call (step t) (lends area))) s
       no-writes zero s = tt
       no-writes (suc n) s = no-writes n _
 
@@ -242,8 +239,7 @@ module _ (area : List ℕ) (tasks t : ℕ) (a : Plain.Area (length area)) (T : P
 pub first : (size b : ℕ) → 1 ≤ size → size ≤ MOST-BYTES → suc b ≡ perRegion (classOf size)
     → Holds (first-allocation size (suc (b + 10)) (unitOf 0 (classOf size) b))
 first size b p q e area tasks t before a T l =
-    let c = classOf size in
-    carried area tasks t a T l size (b + 10) (unitOf 0 c b) p q (omega (arith, perRegion-high c))
+    carried area tasks t a T l size (b + 10) (unitOf 0 (classOf size) b) p q (omega (arith, perRegion-high (classOf size)))
     (finishes area tasks t a T l size b q e) before
 
 first-256 : Holds (first-allocation 256 26 480)

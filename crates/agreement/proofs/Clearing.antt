@@ -7,14 +7,14 @@ use borrow.Author.Tests.{eq-eqb, ne-eqb, lt-ltb}
 use Rattle.rows.proofs.Weights.{when-same}
 use Rattle.fields.specs.Columns.{View, _:=_, assigned}
 use Rattle.links.specs.Link.{link}
-use Rattle.plain.specs.State.{Mem, State, f4-clear, numberOf, pushing, read, release}
+use Rattle.plain.specs.State.{Mem, State, f4-clear, numberOf, pushing, read, release, working}
 use Rattle.plain.specs.Steps as Steps
 use Rattle.plain.proofs.Places.{taskOf}
 use Rattle.control.specs.Layout.{Map, TaskClass, TaskDescriptor, TaskPlace, TaskRegion, TaskState, TaskUnit}
 use Rattle.control.specs.Places.{PUSH-RELEASE}
 use Rattle.stepped.specs.Free as Free
 use Rattle.agreement.specs.Memory.{slotOf}
-use Rattle.agreement.specs.Relation.{PushRelated, r-release}
+use Rattle.agreement.specs.Relation.{PushRelated, r-release, r-working}
 use Rattle.agreement.proofs.Slots.{toPlace}
 use Rattle.agreement.proofs.Bridge.{map-written}
 use Rattle.agreement.proofs.Tops.{region-in-hand}
@@ -24,7 +24,7 @@ use Rattle.agreement.proofs.Turns.{At}
 use Rattle.agreement.proofs.Writes.{entry-cleared}
 
 pub f4-clear-both : {regions : ℕ} {v : View} {area : List ℕ} {m : Mem} {t : ℕ} {k : ℕ → List ℕ} {z : State}
-    → At regions v area m t (f4-clear (v (TaskClass t)) (v (TaskUnit t)) (v (TaskDescriptor t)) z (v (TaskRegion t))) k
+    → At regions v area m t (working (f4-clear (v (TaskClass t)) (v (TaskUnit t)) (v (TaskDescriptor t)) z (v (TaskRegion t)))) k
     → v (TaskState t) ≡ numberOf z
     → Both regions v area m (Free.f4Clear v (link area) regions t (v (TaskClass t)))
     (Steps.stepAt t k (f4-clear (v (TaskClass t)) (v (TaskUnit t)) (v (TaskDescriptor t)) z (v (TaskRegion t))) m)
@@ -34,7 +34,7 @@ f4-clear-both {regions} {v} {area} {m} {t} {k} {z} w e =
     let l : r < regions = region-in-hand (w .pair .turn) r (omega (arith, when-same r 1)) in
     let v₁ = assigned (TaskPlace t := PUSH-RELEASE ∷ Map r := 0 ∷ []) v in
     let s = toPlace PUSH-RELEASE (slotOf v t) in
-    let p = pushing (release (v (TaskClass t)) (v (TaskUnit t)) (v (TaskDescriptor t)) z r) read in
+    let p = working (pushing (release (v (TaskClass t)) (v (TaskUnit t)) (v (TaskDescriptor t)) z r) read) in
     pass _ (lt-ltb r regions l) (record {
       says = refl;
       keeps = (refl, refl);
@@ -44,7 +44,7 @@ f4-clear-both {regions} {v} {area} {m} {t} {k} {z} w e =
             own = rw (eq-eqb t t refl);
             others = λ j n. rw (ne-eqb t j n);
           })
-          (re-slot (w .pair) _ _ s p refl refl refl (r-release e (PushRelated.at-read refl)));
+          (re-slot (w .pair) _ _ s p refl refl refl (r-working (r-release e (PushRelated.at-read refl))));
       sound = omega (arith, w .pair .turn .fits, w .pair .small);
       apart = tt;
     })

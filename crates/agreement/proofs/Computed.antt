@@ -6,12 +6,14 @@ use mathlib.Core.Bool.{cond}
 use mathlib.Core.List.{List, [], _∷_}
 use Prim.Native.Nat.{ℕ}
 use lib.Dec.{eqb}
+use lib.ListN.{length}
 use Rattle.fields.specs.Columns.{View, assigned}
 use Rattle.links.specs.Link.{LinkWrite, _⇒_}
 use Rattle.classes.specs.Classes.{units, perRegion}
 use Rattle.classes.specs.Sizes.{classOf}
 use Rattle.classes.specs.Places.{isFirst}
 use Rattle.plain.specs.Moves.{Answer, nothing}
+use Rattle.plain.specs.Calls.{Call, start, allocate, free, step}
 use Rattle.control.specs.Answers.{codeOf, valueOf}
 use Rattle.stepped.specs.Outcome.{Outcome, refuse, accept}
 use Rattle.stepped.specs.Lists
@@ -20,7 +22,8 @@ use Rattle.stepped.specs.Free
 use Rattle.stepped.specs.Steps
 use Rattle.stepped.specs.Start.{startWrites}
 use Rattle.stepped.specs.Calls
-use Rattle.agreement.specs.Events.{Event, start, allocate, free, go, write}
+use Rattle.stepped.specs.Calls.{Lent}
+use Rattle.agreement.specs.Events.{Event, call, write}
 use Rattle.agreement.proofs.Example.{schedule, events, answers, told}
 
 -- what stands in the fields, and each block's link
@@ -38,12 +41,16 @@ becomes o s = record { view = assigned (o .writes) (s .view); link = relinked (o
 abbrev pub says : Outcome → Answer
 says o = record { code = codeOf (o .answer); value = valueOf (o .answer); decided = o .decided }
 
--- The start has been made. A user's write changes nothing here: no step reads the link of a held block.
+-- The start has been made.
+abbrev pub callOutcome : Call → Lent → Contents → Outcome
+callOutcome (start b) lent s = refuse 1
+callOutcome (allocate t size) lent s = Calls.allocateOutcome (lent .control) (length (lent .area)) (s .view) t size
+callOutcome (free t u) lent s = Calls.freeOutcome (lent .control) (length (lent .area)) (s .view) t u
+callOutcome (step t) lent s = Calls.stepOutcome (lent .control) (length (lent .area)) (s .view) (s .link) t
+
+-- A user's write changes nothing here: no step reads the link of a held block.
 abbrev pub outcome : Event → Contents → Outcome
-outcome (start control area tasks) s = refuse 1
-outcome (allocate control area t size) s = Calls.allocateOutcome control area (s .view) t size
-outcome (free control area t u) s = Calls.freeOutcome control area (s .view) t u
-outcome (go control area t) s = Calls.stepOutcome control area (s .view) (s .link) t
+outcome (call k lent) s = callOutcome k lent s
 outcome (write at b) s = accept nothing [] []
 
 abbrev pub run : List Event → Contents → List Answer

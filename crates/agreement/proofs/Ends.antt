@@ -17,9 +17,10 @@ use Rattle.words.specs.Mark.{isSet}
 use Rattle.classes.specs.Places.{regionOf, isFirst}
 use Rattle.classes.proofs.Sizes.{is-class, holds, smallest}
 use Rattle.plain.specs.Moves.{Decided, found-empty, pushed}
-use Rattle.control.specs.Layout.{Head, TaskHead, Anchor, Marks, TaskPlace, TaskClass, DescriptorRegion}
-use Rattle.control.specs.Layout.{DescriptorClass, Map, Regions, seen, changed}
+use Rattle.control.specs.Layout.{Head, TaskHead, Anchor, Marks, TaskPlace, TaskClass, DescriptorRegion, DescriptorClass}
+use Rattle.control.specs.Layout.{Map, Regions, seen, changed}
 use Rattle.control.specs.Places.{IDLE, PLACES}
+use Rattle.plain.specs.Calls.{Call, start, allocate, free, step}
 use Rattle.control.specs.declared.answer.Answer.{Answer}
 use Rattle.control.specs.declared.answer.Answer.the-variants.{Accepted, Allocated, Freed, NoDescriptor, NoRegion}
 use Rattle.control.specs.declared.answer.Answer.the-variants.{Refused}
@@ -27,17 +28,16 @@ use Rattle.control.specs.declared.moves.Pop.{Pop}
 use Rattle.control.specs.declared.moves.Pop.the-variants.{Spare, Region}
 use Rattle.control.specs.declared.moves.Push.{Push}
 use Rattle.control.specs.declared.moves.Push.the-variants.{Back}
-use Rattle.stepped.specs.Outcome.{Outcome, refuse, accept, effect}
+use Rattle.stepped.specs.Outcome.{Outcome, refuse, accept, Memories, effect}
 use Rattle.stepped.specs.Ranges.{oneTo, isAnchor}
 use Rattle.stepped.specs.Lists as Lists
 use Rattle.stepped.specs.Lists.{pushPlace}
 use Rattle.stepped.specs.Steps as Steps
 use Rattle.stepped.specs.Calls as Calls
 use Rattle.agreement.specs.Ends.{WritesNothing, Leaves, oneOf, testRefusals, allocateRefusals, freeRefusals}
-use Rattle.agreement.specs.Ends.{placeRefusals, stepRefusals, Begins, Goes}
-use Rattle.stepped.specs.Calls.{Tested}
-use Rattle.agreement.specs.Ends.{StartEnds, BeginEnds, StepEnds, FindsEmpty, WinsPush, InPush, placeAfter}
-use Rattle.agreement.specs.Ends.{IsEnd, Begun}
+use Rattle.agreement.specs.Ends.{placeRefusals, stepRefusals, Begins, Goes, StartEnds, BeginEnds, StepEnds}
+use Rattle.agreement.specs.Ends.{FindsEmpty, WinsPush, InPush, placeAfter, IsEnd, Begun}
+use Rattle.stepped.specs.Calls.{Tested, Lent}
 use Rattle.agreement.proofs.Ways.{branch, accepted-no, more, tests, passed, Cause, Ending, CallEnding, refused}
 use Rattle.agreement.proofs.Ways.{going, ended, at-call, sent}
 use Rattle.agreement.proofs.StepWays.{step-at}
@@ -274,26 +274,20 @@ module _ (control area : ℕ) (v : View) (link : ℕ → ℕ) (t : ℕ) where
 
 -- ---- the bytes that a refused call leaves
 
-module _ (control area : List ℕ) (t : ℕ) where
-  abbrev lent : ℕ
-  lent = length control
-
-  abbrev lentArea : ℕ
-  lentArea = length area
-
-  abbrev v₁ : View
-  v₁ = seen control
-
-  pub allocate-leaves : (size : ℕ) → Leaves (Calls.allocate control area t size) control area
-  unfolding Calls.allocate
-  allocate-leaves size =
-      leaves (Calls.allocateOutcome lent lentArea v₁ t size) control area (allocate-ends lent lentArea v₁ t size .nothing)
-
-  pub free-leaves : (u : ℕ) → Leaves (Calls.free control area t u) control area
-  unfolding Calls.free
-  free-leaves u = leaves (Calls.freeOutcome lent lentArea v₁ t u) control area (free-ends lent lentArea v₁ t u .nothing)
-
-  pub go-leaves : Leaves (Calls.go control area t) control area
-  unfolding Calls.go
-  go-leaves =
-      leaves (Calls.stepOutcome lent lentArea v₁ (link area) t) control area (step-ends lent lentArea v₁ (link area) t .nothing)
+pub effect-leaves : (k : Call) (lent : Lent) (s : Memories) → Leaves (Calls.effectIn k lent s) (s .control) (s .area)
+effect-leaves (start b) lent s = start-ends (lent .control) (lent .area) (b .tasks) (s .control) (s .area) .leaves
+effect-leaves (allocate t size) lent s =
+    let c = lent .control in
+    let a = length (lent .area) in
+    leaves (Calls.allocateOutcome c a (seen (s .control)) t size) (s .control) (s .area)
+    (allocate-ends c a (seen (s .control)) t size .nothing)
+effect-leaves (free t u) lent s =
+    let c = lent .control in
+    let a = length (lent .area) in
+    leaves (Calls.freeOutcome c a (seen (s .control)) t u) (s .control) (s .area)
+    (free-ends c a (seen (s .control)) t u .nothing)
+effect-leaves (step t) lent s =
+    let c = lent .control in
+    let a = length (lent .area) in
+    leaves (Calls.stepOutcome c a (seen (s .control)) (link (s .area)) t) (s .control) (s .area)
+    (step-ends c a (seen (s .control)) (link (s .area)) t .nothing)

@@ -12,16 +12,17 @@ use Rattle.rows.specs.Branch.{both}
 use Rattle.rows.specs.Update.{update}
 use Rattle.classes.specs.Classes.{units, perRegion}
 use Rattle.classes.specs.Sizes.{classOf}
-use Rattle.plain.specs.State.{EMPTY, FULL, exchange, spare, popping}
+use Rattle.plain.specs.State.{EMPTY, FULL, exchange, spare, popping, working}
 use Rattle.plain.specs.Moves.{Decided, nothing, found-empty, popped, pushed, lost, anchor-empty, took, gave}
 use Rattle.plain.specs.Moves.{anchor-lost, Answer, going, finished, ended, refused}
-use Rattle.plain.specs.Steps.{step}
-use Rattle.plain.specs.Calls.{Pool, startMem, rising, unstarted, call}
+use Rattle.plain.specs.Steps.{stepOf}
+use Rattle.plain.specs.Calls.{Pool, Start, start, allocate, free, step, startMem, rising, unstarted}
 use Rattle.plain.specs.Calls as Plain
 use Rattle.plain.proofs.Answers.{most}
 use Rattle.stepped.specs.Outcome.{Memories}
-use Rattle.agreement.specs.Events.{Event, start, allocate, free, go, write, Premises}
-use Rattle.agreement.specs.Events.{Unstarted}
+use Rattle.stepped.specs.Calls.{Lent, lengths}
+use Rattle.agreement.specs.Events.{Event, call, write, Premises, Unstarted}
+use Rattle.agreement.specs.Reached.{starting}
 use Rattle.agreement.specs.Agreement.{Agree}
 use Rattle.agreement.proofs.Runs.{steppedAnswers, wholeAnswers, answered, after, Writes, writes?, found, short}
 use Rattle.agreement.proofs.Theorem.{agreement}
@@ -32,15 +33,19 @@ use Rattle.agreement.proofs.Theorem.{agreement}
 abbrev pub AREA : ℕ
 AREA = 2 * REGION-BYTES
 
+-- what the calls behind the start are lent: the control memory, and two regions, of which the length alone matters
+abbrev pub lent : Lent
+lent = record { control = CONTROL-BYTES; area = replicate AREA 0 }
+
 abbrev pub allocates : ℕ → ℕ → List Event
-allocates t size = allocate CONTROL-BYTES AREA t size ∷ []
+allocates t size = call (allocate t size) lent ∷ []
 
 abbrev pub frees : ℕ → ℕ → List Event
-frees t u = free CONTROL-BYTES AREA t u ∷ []
+frees t u = call (free t u) lent ∷ []
 
 -- n steps of the task t
 abbrev pub steps : ℕ → ℕ → List Event
-steps t n = replicate n (go CONTROL-BYTES AREA t)
+steps t n = replicate n (call (step t) lent)
 
 abbrev pub writes : ℕ → ℕ → List Event
 writes at b = write at b ∷ []
@@ -174,13 +179,17 @@ abbrev pub told : List Answer → List Answer
 told [] = []
 told (a ∷ q) = toldBy (a .code) (a .decided) a (told q)
 
+-- three tasks
+abbrev three : Start
+three = record { tasks = 3 }
+
 -- the pool of three tasks and two regions
 abbrev started : Pool
-started = call (Plain.start CONTROL-BYTES AREA 3) unstarted .0
+started = Plain.call (start three) (lengths lent) unstarted .0
 
 -- the run as it is told above is that of the plain pool
 pub told-whole : told (wholeAnswers (events schedule) started) ≡ answers schedule
-unfolding call step startMem rising units perRegion update ℕ-discrete decLt decLe both unstarted classOf
+unfolding Plain.call stepOf startMem rising units perRegion update ℕ-discrete decLt decLe both unstarted classOf
 told-whole = refl
 
 -- ---- what stands in the plain pool between the parts
@@ -199,7 +208,7 @@ reopened = after (events reopening) closed
 pub region-closed :
     (contended .mem .descriptor 1 .state ≡ FULL) × (closed .mem .descriptor 1 .state ≡ EMPTY) × (closed .mem .map 1 ≡ 0)
     × (closed .mem .row SPARE-REGIONS ≡ 1 ∷ []) × (reopened .mem .map 1 ≡ 3) × (reopened .mem .descriptor 2 .class ≡ 14)
-unfolding call step startMem rising units perRegion update ℕ-discrete decLt decLe both unstarted classOf
+unfolding Plain.call stepOf startMem rising units perRegion update ℕ-discrete decLt decLe both unstarted classOf
 region-closed = (refl, refl, refl, refl, refl, refl)
 
 abbrev returned : Pool
@@ -207,21 +216,21 @@ returned = after (events meanwhile) reopened
 
 -- Task 1 noted 4 won exchanges of the spare descriptors. There are two more when it tries its own, and the row is the same.
 pub head-returned :
-    (reopened .mem .task 1 .place ≡ popping (spare 13) (exchange 4)) × (reopened .mem .won SPARE-DESCRIPTORS ≡ 4)
-    × (returned .mem .task 1 .place ≡ popping (spare 13) (exchange 4)) × (returned .mem .won SPARE-DESCRIPTORS ≡ 6)
+    (reopened .mem .task 1 .place ≡ working (popping (spare 13) (exchange 4))) × (reopened .mem .won SPARE-DESCRIPTORS ≡ 4)
+    × (returned .mem .task 1 .place ≡ working (popping (spare 13) (exchange 4))) × (returned .mem .won SPARE-DESCRIPTORS ≡ 6)
     × (reopened .mem .row SPARE-DESCRIPTORS ≡ 1 ∷ rising 61 3) × (returned .mem .row SPARE-DESCRIPTORS ≡ 1 ∷ rising 61 3)
-unfolding call step startMem rising units perRegion update ℕ-discrete decLt decLe both unstarted classOf
+unfolding Plain.call stepOf startMem rising units perRegion update ℕ-discrete decLt decLe both unstarted classOf
 head-returned = (refl, refl, refl, refl, refl, refl)
 
 -- ---- the premises are met, and the agreement holds of it
 
 -- the schedule on an area, whose bytes may be any
 abbrev pub scheduleOn : List ℕ → List Event
-scheduleOn area = start CONTROL-BYTES area 3 ∷ events schedule
+scheduleOn area = starting three area ∷ events schedule
 
 -- every write is into a block in a user's hands
 writes-held : Writes (events schedule) started
-unfolding call step startMem rising units perRegion update ℕ-discrete decLt decLe both unstarted classOf writes?
+unfolding Plain.call stepOf startMem rising units perRegion update ℕ-discrete decLt decLe both unstarted classOf writes?
 writes-held = found (writes? (events schedule) started) tt
 
 few : length (events schedule) ≡ 239
@@ -231,8 +240,11 @@ pub premises : (area : List ℕ) → length area ≡ AREA → Premises (schedule
 unfolding unstarted
 premises area h = (
   tt,
-  subst (λ (n : ℕ). Premises (events schedule) (call (Plain.start CONTROL-BYTES n 3) unstarted .0)) (sym h)
-      (short 1 (events schedule) started (most 0 (Plain.start CONTROL-BYTES AREA 3) unstarted (λ k. absurd (omega arith))) (omega (arith, few)) writes-held),
+  subst
+      (λ (n : ℕ). Premises (events schedule)
+      (Plain.call (start three) (record { control = CONTROL-BYTES; area = n }) unstarted .0)) (sym h)
+      (short 1 (events schedule) started (most 0 (start three) (lengths lent) unstarted (λ k. absurd (omega arith)))
+      (omega (arith, few)) writes-held),
 )
 
 -- what the stepped run does on the bytes: it agrees with the plain pool, and tells what the schedule tells
@@ -241,13 +253,15 @@ pub record Example (area : List ℕ) (s₁ : Memories) : Type 0 where
   pub tells : told (steppedAnswers (scheduleOn area) s₁) ≡ answers schedule
 
 pub example : (area : List ℕ) (s₁ : Memories) → length area ≡ AREA → Unstarted s₁ → Example area s₁
-unfolding call unstarted ℕ-discrete both decLt
+unfolding Plain.call unstarted ℕ-discrete both decLt
 example area s₁ h U =
     let p = premises area h in
     record {
       agrees = agreement (scheduleOn area) s₁ U p;
       tells =
           ap told (answered (scheduleOn area) s₁ U p)
-          ∙ subst (λ (n : ℕ). told (call (Plain.start CONTROL-BYTES n 3) unstarted .1 ∷ wholeAnswers (events schedule) (call (Plain.start CONTROL-BYTES n 3) unstarted .0)) ≡ answers schedule)
+          ∙ subst (λ (n : ℕ).
+          let x = Plain.call (start three) (record { control = CONTROL-BYTES; area = n }) unstarted in
+          told (x .1 ∷ wholeAnswers (events schedule) (x .0)) ≡ answers schedule)
           (sym h) told-whole;
     }

@@ -10,7 +10,6 @@ use lib.ListN.{length, length-append}
 use Rattle.limits.specs.Limits.{DESCRIPTORS, MOST-BLOCKS}
 use Rattle.rows.specs.Linked.{Linked}
 use Rattle.rows.proofs.Linked.{linked-append, linked-append-one}
-use Rattle.rows.proofs.Weights.{when-same}
 use Rattle.fields.specs.Columns.{Sound, View, Write, _:=_, assigned}
 use Rattle.links.specs.Link.{link}
 use Rattle.words.specs.Anchor.{Fields, anchorOf, anchorWord, returned}
@@ -19,22 +18,22 @@ use Rattle.words.proofs.Anchors.{anchor-below, anchor-of-word, returned-fits}
 use Rattle.classes.specs.Classes.{perRegion}
 use Rattle.classes.specs.Places.{indexOf, regionOf}
 use Rattle.classes.proofs.Tables.{perRegion-high}
-use Rattle.plain.specs.State.{EMPTY, PARTIAL, Mem, Note, Place, State, f1, f2, f3-exchange, f3-read, f4-clear}
-use Rattle.plain.specs.State.{numberOf, offer, pushing, read, setDescriptor}
+use Rattle.plain.specs.State.{EMPTY, PARTIAL, Mem, Note, Place, State, f1, f2, f3-exchange, f3-read, f4-clear, numberOf}
+use Rattle.plain.specs.State.{offer, pushing, read, setDescriptor, working}
 use Rattle.plain.specs.Moves.{gave, going}
 use Rattle.plain.specs.Steps.{asNoted?, chained}
 use Rattle.plain.specs.Steps as Steps
 use Rattle.plain.specs.States.{IfOpen}
 use Rattle.plain.proofs.Owners.{Owner, owner}
-use Rattle.plain.proofs.Places.{placeHolds, taskOf}
+use Rattle.plain.proofs.Places.{placeHolds, taskOf, noteHolds}
 use Rattle.plain.proofs.States.{open-holds}
 use Rattle.control.specs.Layout.{layout, Anchor, GroupCount, GroupFirst, TaskAnchor, TaskClass, TaskDescriptor}
 use Rattle.control.specs.Layout.{TaskPlace, TaskRegion, TaskState, TaskUnit}
 use Rattle.control.specs.Places.{PUSH-OFFER, F1, F2, F3-READ, F4-CLEAR}
 use Rattle.stepped.specs.Free as Free
 use Rattle.agreement.specs.Memory.{Slot, slotOf, memoryOf}
-use Rattle.agreement.specs.Relation.{ChainRelated, GroupRelated, NoteRelated, PlaceRelated, PushRelated}
-use Rattle.agreement.specs.Relation.{Related, r-f1, r-f2, r-f3-read, r-f4-clear, r-offer}
+use Rattle.agreement.specs.Relation.{ChainRelated, GroupRelated, NoteRelated, PlaceRelated, PushRelated, Related}
+use Rattle.agreement.specs.Relation.{r-f1, r-f2, r-f3-read, r-f4-clear, r-offer, r-working}
 use Rattle.agreement.proofs.Slots.{toGrouped, toPlace, toState}
 use Rattle.agreement.proofs.Sets.{setAnchor, setSlot}
 use Rattle.agreement.proofs.Bridge.{anchor-written}
@@ -50,7 +49,7 @@ use Rattle.agreement.proofs.Noting.{note-anchor, note-room}
 use Rattle.agreement.proofs.Groups.{first-below, same-group}
 
 module _ {regions : ℕ} {v : View} {area : List ℕ} {m : Mem} {t : ℕ} {k : ℕ → List ℕ} {y : ℕ} {g : List ℕ} {n : Note}
-    (w : At regions v area m t (f3-exchange (v (TaskClass t)) (v (TaskUnit t)) y g (v (TaskDescriptor t)) n) k)
+    (w : At regions v area m t (working (f3-exchange (v (TaskClass t)) (v (TaskUnit t)) y g (v (TaskDescriptor t)) n)) k)
     (G : GroupRelated (memoryOf v area) (slotOf v t) y g)
     (N : NoteRelated m (v (TaskClass t)) (v (TaskDescriptor t)) n (anchorOf (v (TaskAnchor t))))
     (room : v (GroupCount t) + anchorOf (v (TaskAnchor t)) .count ≤ perRegion (v (TaskClass t)))
@@ -80,7 +79,9 @@ module _ {regions : ℕ} {v : View} {area : List ℕ} {m : Mem} {t : ℕ} {k : �
   new = returned (anchorOf a) (v (GroupFirst t)) h (perRegion c)
 
   own : Owner m c y d
-  own = owner (w .pair .turn) y d (omega (arith, when-same y 1)) (placeHolds (w .pair .turn) .3)
+  own =
+      let N = noteHolds (w .pair .turn) in
+      owner (w .pair .turn) y d (N .0) (N .1)
 
   chain-of : ChainRelated (link area) (anchorOf (v (Anchor d))) (m .descriptor d)
   chain-of =
@@ -154,7 +155,7 @@ module _ {regions : ℕ} {v : View} {area : List ℕ} {m : Mem} {t : ℕ} {k : �
     whole : length J ≡ perRegion c
         → Both regions v area m
         (Free.f3Won v (link area) regions t c d a (v (GroupFirst t)) h) (
-          Steps.at t k (f4-clear c u d (n .state) (regionOf y))
+          Steps.at t k (working (f4-clear c u d (n .state) (regionOf y)))
               (setDescriptor d (chained (m .descriptor d) EMPTY J) m),
           going (gave d),
         )
@@ -165,8 +166,8 @@ module _ {regions : ℕ} {v : View} {area : List ℕ} {m : Mem} {t : ℕ} {k : �
           says = refl;
           keeps = (refl, refl);
           rel = rw (← (G .region)) (gives EMPTY (rw i) tt _ (part F4-CLEAR)
-              (f4-clear c u d (n .state) (v (TaskRegion t)))
-              (place-written F4-CLEAR) refl refl (r-f4-clear refl (N .state)));
+              (working (f4-clear c u d (n .state) (v (TaskRegion t))))
+              (place-written F4-CLEAR) refl refl (r-working (r-f4-clear refl (N .state))));
           sound = (omega (arith, w .pair .turn .fits), sound);
           apart = tt;
         })
@@ -175,7 +176,7 @@ module _ {regions : ℕ} {v : View} {area : List ℕ} {m : Mem} {t : ℕ} {k : �
     some : (length J ≡ perRegion c → ⊥)
         → Both regions v area m
         (Free.f3Won v (link area) regions t c d a (v (GroupFirst t)) h) (
-          Steps.at t k (Steps.f5 (n .state) (k c) c u d)
+          Steps.to t k (Steps.f5 (n .state) (k c) c u d)
               (setDescriptor d (chained (m .descriptor d) PARTIAL J) m),
           going (gave d),
         )
@@ -185,16 +186,16 @@ module _ {regions : ℕ} {v : View} {area : List ℕ} {m : Mem} {t : ℕ} {k : �
         let to = gives PARTIAL (rw i) (record { linked = rw (own .class) joined; counts = counted }) in
         let v₂ = assigned (TaskPlace t := F2 ∷ GroupCount t := 0 ∷ ws) v in
         miss _ _ i (five w (gave d) ws (setDescriptor d (chained (m .descriptor d) PARTIAL J) m) u sound (refl, refl)
-        (to _ (part F1) (f1 c u) (place-written F1) refl refl (r-f1 refl))
-        (to v₂ (toGrouped 0 (part F2)) (f2 c u [])
+        (to _ (part F1) (working (f1 c u)) (place-written F1) refl refl (r-working (r-f1 refl)))
+        (to v₂ (toGrouped 0 (part F2)) (working (f2 c u []))
         (record {
           shared = anchor-written v (slotOf v₂) area d (anchorWord new);
           own = rw (eq-eqb t t refl);
           others = λ j d. rw (ne-eqb t j d);
-        }) refl refl (r-f2 refl refl))
+        }) refl refl (r-working (r-f2 refl refl)))
         (anchorOf a .state) (n .state) d (N .state)
-        (to _ (part PUSH-OFFER) (pushing (offer c u d) read) (place-written PUSH-OFFER) refl refl
-        (r-offer (PushRelated.at-read refl))))
+        (to _ (part PUSH-OFFER) (working (pushing (offer c u d) read)) (place-written PUSH-OFFER) refl refl
+        (r-working (r-offer (PushRelated.at-read refl)))))
 
     won : (e : Dec (length J ≡ perRegion c))
         → Both regions v area m
@@ -230,9 +231,9 @@ module _ {regions : ℕ} {v : View} {area : List ℕ} {m : Mem} {t : ℕ} {k : �
       (λ e q. record {
         says = refl;
         keeps = (refl, refl);
-        rel = goes w (TaskPlace t := F3-READ ∷ []) (toPlace F3-READ (slotOf v t)) (f3-read c u y g)
+        rel = goes w (TaskPlace t := F3-READ ∷ []) (toPlace F3-READ (slotOf v t)) (working (f3-read c u y g))
             refl (rw (eq-eqb t t refl)) (λ j n. rw (ne-eqb t j n)) refl refl
-            (r-f3-read refl (same-group refl refl refl refl G));
+            (r-working (r-f3-read refl (same-group refl refl refl refl G)));
         sound = omega (arith, w .pair .turn .fits);
         apart = tt;
       })))

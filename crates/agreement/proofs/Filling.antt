@@ -20,7 +20,7 @@ use Rattle.classes.specs.Places.{unitOf, indexOf, Block}
 use Rattle.classes.proofs.Places.{block-at, index-below, region-is, unit-again}
 use Rattle.classes.proofs.Tables.{perRegion-high}
 use Rattle.links.specs.Link.{link}
-use Rattle.plain.specs.State.{Place, a1, a4, a8, Mem}
+use Rattle.plain.specs.State.{Place, a1, a4, a8, Mem, working}
 use Rattle.plain.specs.Moves.{nothing, going}
 use Rattle.plain.specs.Steps as Steps
 use Rattle.plain.specs.Blocks.{blocksFrom, isBlock}
@@ -34,7 +34,7 @@ use Rattle.control.specs.declared.answer.Answer.the-variants.{Accepted}
 use Rattle.stepped.specs.Ranges.{oneTo, isTop}
 use Rattle.stepped.specs.Allocate as Allocate
 use Rattle.agreement.specs.Memory.{slotOf}
-use Rattle.agreement.specs.Relation.{r-a1, r-a4, r-a8}
+use Rattle.agreement.specs.Relation.{r-a1, r-a4, r-a8, r-working}
 use Rattle.agreement.proofs.Slots.{toPlace, toChain}
 use Rattle.agreement.proofs.Tops.{first-of, rest-of}
 use Rattle.agreement.proofs.Blocks.{home-below, mine-under, row-agrees}
@@ -52,7 +52,7 @@ module _ {regions : ℕ} {v : View} {area : List ℕ} {m : Mem} {t : ℕ} {k : �
   -- ---- step 8
 
   -- block i is among those that are still to be carved
-  pub carved-here : At regions v area m t (a8 (v (TaskClass t)) (v (TaskRegion t)) (v (TaskIndex t))) k
+  pub carved-here : At regions v area m t (working (a8 (v (TaskClass t)) (v (TaskRegion t)) (v (TaskIndex t)))) k
       → 1 ≤ count (unitOf (v (TaskRegion t)) (v (TaskClass t)) (v (TaskIndex t)))
       (blocksFrom (v (TaskRegion t)) (v (TaskClass t)) (v (TaskIndex t)) (perRegion (v (TaskClass t)) - v (TaskIndex t)))
   carved-here w =
@@ -62,13 +62,13 @@ module _ {regions : ℕ} {v : View} {area : List ℕ} {m : Mem} {t : ℕ} {k : �
       let f : perRegion c - i ≡ suc (perRegion c - suc i) = omega (arith, placeHolds (w .pair .turn)) in
       omega (arith, ap (λ (n : ℕ). count (unitOf r c i) (blocksFrom r c i n)) f, when-same (unitOf r c i) 1)
 
-  put-both : At regions v area m t (a8 (v (TaskClass t)) (v (TaskRegion t)) (v (TaskIndex t))) k → v (TaskPlace t) ≡ A8
+  put-both : At regions v area m t (working (a8 (v (TaskClass t)) (v (TaskRegion t)) (v (TaskIndex t)))) k → v (TaskPlace t) ≡ A8
       → (d : Dec (suc (v (TaskIndex t)) ≡ perRegion (v (TaskClass t))))
       → Both regions v area m
       (Allocate.a8Put v (link area) regions t (v (TaskClass t)) (unitOf (v (TaskRegion t)) (v (TaskClass t)) (v (TaskIndex t)))
       (v (TaskIndex t)) (v (CacheCount t (v (TaskClass t)))) (v (CacheTop t (v (TaskClass t))))) (
         Steps.cached t k (v (TaskClass t)) (unitOf (v (TaskRegion t)) (v (TaskClass t)) (v (TaskIndex t)) ∷ k (v (TaskClass t)))
-            (if d (a1 (v (TaskClass t))) (a8 (v (TaskClass t)) (v (TaskRegion t)) (suc (v (TaskIndex t))))) m,
+            (working (if d (a1 (v (TaskClass t))) (a8 (v (TaskClass t)) (v (TaskRegion t)) (suc (v (TaskIndex t)))))) m,
         going nothing,
       )
   unfolding Allocate.a8Put
@@ -76,20 +76,20 @@ module _ {regions : ℕ} {v : View} {area : List ℕ} {m : Mem} {t : ℕ} {k : �
       let c = v (TaskClass t) in
       let i = v (TaskIndex t) in
       meet _ (eqb (i + 1) (perRegion c)) (eq-eqb (i + 1) (perRegion c) (omega arith))
-      (push-both w Accepted nothing (TaskPlace t := A1 ∷ []) (unitOf (v (TaskRegion t)) c i) (toPlace A1 (slotOf v t)) (a1 c)
+      (push-both w Accepted nothing (TaskPlace t := A1 ∷ []) (unitOf (v (TaskRegion t)) c i) (toPlace A1 (slotOf v t)) (working (a1 c))
       (carved-here w) (omega (arith, placeHolds (w .pair .turn))) (omega (arith, w .pair .turn .fits)) (refl, refl)
-      refl (rw (eq-eqb t t refl)) (λ j d. rw (ne-eqb t j d)) refl refl (r-a1 refl))
+      refl (rw (eq-eqb t t refl)) (λ j d. rw (ne-eqb t j d)) refl refl (r-working (r-a1 refl)))
   put-both w e (no f) =
       let c = v (TaskClass t) in
       let r = v (TaskRegion t) in
       let i = v (TaskIndex t) in
       miss _ (eqb (i + 1) (perRegion c)) (ne-eqb (i + 1) (perRegion c) (λ g. f (omega arith)))
       (push-both w Accepted nothing (TaskIndex t := (i + 1) ∷ []) (unitOf r c i) (toChain r (suc i) (v (TaskLeft t)) (slotOf v t))
-      (a8 c r (suc i)) (carved-here w) (omega (arith, placeHolds (w .pair .turn)))
+      (working (a8 c r (suc i))) (carved-here w) (omega (arith, placeHolds (w .pair .turn)))
       (omega (arith, w .pair .turn .fits, placeHolds (w .pair .turn), perRegion-high c)) (refl, refl)
-      refl (rw (eq-eqb t t refl, add-one i)) (λ j d. rw (ne-eqb t j d)) refl refl (r-a8 e))
+      refl (rw (eq-eqb t t refl, add-one i)) (λ j d. rw (ne-eqb t j d)) refl refl (r-working (r-a8 e)))
 
-  pub a8-both : At regions v area m t (a8 (v (TaskClass t)) (v (TaskRegion t)) (v (TaskIndex t))) k → v (TaskPlace t) ≡ A8
+  pub a8-both : At regions v area m t (working (a8 (v (TaskClass t)) (v (TaskRegion t)) (v (TaskIndex t)))) k → v (TaskPlace t) ≡ A8
       → Both regions v area m (Allocate.a8 v (link area) regions t (v (TaskClass t)))
       (Steps.stepAt t k (a8 (v (TaskClass t)) (v (TaskRegion t)) (v (TaskIndex t))) m)
   unfolding Allocate.a8
@@ -111,7 +111,7 @@ module _ {regions : ℕ} {v : View} {area : List ℕ} {m : Mem} {t : ℕ} {k : �
   -- ---- step 4: the chain's first block is where the index says
 
   -- the block x moves, and q is left
-  move-both : (x : ℕ) (q : List ℕ) → At regions v area m t (a4 (v (TaskClass t)) x q) k → v (TaskPlace t) ≡ A4
+  move-both : (x : ℕ) (q : List ℕ) → At regions v area m t (working (a4 (v (TaskClass t)) x q)) k → v (TaskPlace t) ≡ A4
       → Linked (link area) (indexOf (v (TaskClass t))) (perRegion (v (TaskClass t))) (link area x) q
       → v (TaskLeft t) ≡ suc (length q)
       → ((y : ℕ) → count y (x ∷ q) ≤ isBlock y (v (TaskRegion t)) (v (TaskClass t)))
@@ -123,9 +123,9 @@ module _ {regions : ℕ} {v : View} {area : List ℕ} {m : Mem} {t : ℕ} {k : �
   move-both x [] w e l f h =
       let c = v (TaskClass t) in
       meet _ (eqb (v (TaskLeft t)) 1) (eq-eqb (v (TaskLeft t)) 1 f)
-      (push-both w Accepted nothing (TaskPlace t := A1 ∷ []) x (toPlace A1 (slotOf v t)) (a1 c)
+      (push-both w Accepted nothing (TaskPlace t := A1 ∷ []) x (toPlace A1 (slotOf v t)) (working (a1 c))
       (omega (arith, when-same x 1)) (omega (arith, placeHolds (w .pair .turn))) (omega (arith, w .pair .turn .fits)) (refl, refl)
-      refl (rw (eq-eqb t t refl)) (λ j d. rw (ne-eqb t j d)) refl refl (r-a1 refl))
+      refl (rw (eq-eqb t t refl)) (λ j d. rw (ne-eqb t j d)) refl refl (r-working (r-a1 refl)))
   move-both x (y ∷ q) w e l f h =
       let c = v (TaskClass t) in
       let r = v (TaskRegion t) in
@@ -137,13 +137,13 @@ module _ {regions : ℕ} {v : View} {area : List ℕ} {m : Mem} {t : ℕ} {k : �
       let once : count x (y ∷ q) ≡ 0 = omega (arith, mine-under (w .pair) x o .2, when-same x 1) in
       miss _ (eqb left 1) (ne-eqb left 1 (omega arith)) (pass (ltb next (perRegion c)) (lt-ltb next (perRegion c) i)
       (push-both w Accepted nothing (TaskIndex t := next ∷ TaskLeft t := (left - 1) ∷ []) x (toChain r next (left - 1) (slotOf v t))
-      (a4 c y q) o (omega (arith, placeHolds (w .pair .turn)))
+      (working (a4 c y q)) o (omega (arith, placeHolds (w .pair .turn)))
       (omega (arith, w .pair .turn .fits, i, placeHolds (w .pair .turn), perRegion-high c)) (refl, refl)
       refl (rw (eq-eqb t t refl)) (λ j d. rw (ne-eqb t j d)) refl refl
-      (r-a4 e (linked-frame (row-agrees (w .pair) x (v (CacheTop t c)) (y ∷ q) o (λ z. omega arith) once) l) (omega arith)
-      (λ z. omega (arith, h z)))))
+      (r-working (r-a4 e (linked-frame (row-agrees (w .pair) x (v (CacheTop t c)) (y ∷ q) o (λ z. omega arith) once) l) (omega arith)
+      (λ z. omega (arith, h z))))))
 
-  pub a4-both : {x : ℕ} {q : List ℕ} → At regions v area m t (a4 (v (TaskClass t)) x q) k → v (TaskPlace t) ≡ A4
+  pub a4-both : {x : ℕ} {q : List ℕ} → At regions v area m t (working (a4 (v (TaskClass t)) x q)) k → v (TaskPlace t) ≡ A4
       → Linked (link area) (indexOf (v (TaskClass t))) (perRegion (v (TaskClass t))) (v (TaskIndex t)) (x ∷ q)
       → v (TaskLeft t) ≡ suc (length q)
       → ((y : ℕ) → count y (x ∷ q) ≤ isBlock y (v (TaskRegion t)) (v (TaskClass t)))

@@ -17,37 +17,24 @@ use Rattle.rows.proofs.Update.{update-all₂}
 use Rattle.rows.proofs.Weights.{when-same}
 use Rattle.classes.specs.Classes.{counts}
 use Rattle.links.specs.Link.{link, linked}
-use Rattle.plain.specs.State.{Mem, Note, Phase, Place, Task, a1, a3-exchange, a3-read, a4, a7, a8}
-use Rattle.plain.specs.State.{f1, f2, f3-exchange, f3-link, f3-read, f4-clear, idle, popping, pushing}
-use Rattle.plain.specs.State.{region}
+use Rattle.plain.specs.State.{Mem, Note, Phase, Work, Place, working, Task, region}
+use Rattle.plain.specs.Noted.{Noted, unnoted, pop-noted, push-noted, anchor-noted, entry-noted, noted}
 use Rattle.plain.specs.Held.{holdsDescriptor, holdsRegion, underWay}
 use Rattle.plain.specs.Weights.{blockWeight, rowWeight}
 use Rattle.agreement.specs.Memory.{Lists, Memory, Slot}
-use Rattle.agreement.specs.Relation.{Core, GroupRelated, NoteRelated, Noted, PlaceRelated, PopRelated}
-use Rattle.agreement.specs.Relation.{PushRelated}
-use Rattle.agreement.specs.Relation.{Related, SlotRelated, r-a1, r-a3-exchange, r-a3-read, r-a4, r-a7, r-a8}
-use Rattle.agreement.specs.Relation.{r-back}
-use Rattle.agreement.specs.Relation.{r-f1, r-f2, r-f2-more, r-f3-exchange, r-f3-link, r-f3-read, r-f4-clear}
-use Rattle.agreement.specs.Relation.{r-idle}
-use Rattle.agreement.specs.Relation.{r-offer, r-partial, r-region, r-release, r-retire, r-spare}
+use Rattle.agreement.specs.Relation.{Core, GroupRelated, NoteRelated, HeadNoted, PlaceRelated, PopRelated}
+use Rattle.agreement.specs.Relation.{PushRelated, Related, SlotRelated, r-a1, r-a3-exchange, r-a3-read, r-a4}
+use Rattle.agreement.specs.Relation.{r-a7, r-a8, r-back, r-f1, r-f2, r-f2-more, r-f3-exchange, r-f3-link}
+use Rattle.agreement.specs.Relation.{r-f3-read, r-f4-clear, r-idle, r-offer, r-partial, r-region, r-release}
+use Rattle.agreement.specs.Relation.{r-retire, r-spare, WorkRelated, r-working}
 
--- the descriptor that a place noted the anchor of
-abbrev pub Reads : ℕ → Place → Type 0
-Reads x idle = ⊥
-Reads x (a1 c) = ⊥
-Reads x (popping p φ) = ⊥
-Reads x (pushing p φ) = ⊥
-Reads x (a3-read c d) = ⊥
-Reads x (a3-exchange c d n) = x ≡ d
-Reads x (a4 c y q) = ⊥
-Reads x (a7 c d r) = ⊥
-Reads x (a8 c r i) = ⊥
-Reads x (f1 c u) = ⊥
-Reads x (f2 c u g) = ⊥
-Reads x (f3-read c u y g) = ⊥
-Reads x (f3-link c u y g d n) = x ≡ d
-Reads x (f3-exchange c u y g d n) = x ≡ d
-Reads x (f4-clear c u d w r) = ⊥
+-- x is the descriptor whose anchor is noted
+abbrev pub Reads : ℕ → Noted → Type 0
+Reads x unnoted = ⊥
+Reads x (pop-noted p φ) = ⊥
+Reads x (push-noted p φ) = ⊥
+Reads x (anchor-noted d n) = x ≡ d
+Reads x (entry-noted y d n) = x ≡ d
 
 -- what a turn leaves of the lists to a task at the place p: what it noted stands or is past, and the nexts of what it holds
 pub record KeptLists (l l′ : Lists) (won won′ : ℕ → ℕ) (row row′ : ℕ → List ℕ) (p : Place) : Type 0 where
@@ -65,10 +52,10 @@ lists-kept =
 pub record Kept (a a′ : Memory) (m m′ : Mem) (T : Task) : Type 0 where
   pub lists : KeptLists (a .lists) (a′ .lists) (m .won) (m′ .won) (m .row) (m′ .row) (T .place)
   pub links : (v : ℕ) → 1 ≤ blockWeight v 0 T → link (a′ .area) v ≡ link (a .area) v
-  pub regions : (x : ℕ) → Reads x (T .place) → m′ .descriptor x .region ≡ m .descriptor x .region
+  pub regions : (x : ℕ) → Reads x (noted (T .place)) → m′ .descriptor x .region ≡ m .descriptor x .region
 
 module _ {a a′ : Memory} {m m′ : Mem} {T : Task} (K : Kept a a′ m m′ T) where
-  kept-noted : {ℓ : ℕ} {h : Head} {n : ℕ} → Noted m ℓ h n → Noted m′ ℓ h n
+  kept-noted : {ℓ : ℕ} {h : Head} {n : ℕ} → HeadNoted m ℓ h n → HeadNoted m′ ℓ h n
   kept-noted {ℓ} {h} {n} N = record {
     past = omega (arith, K .lists .wins ℓ, N .past);
     tags = N .tags;
@@ -104,32 +91,36 @@ module _ {a a′ : Memory} {m m′ : Mem} {T : Task} (K : Kept a a′ m m′ T) 
 under-links : {a a′ : Memory} {m m′ : Mem} {T : Task} → Kept a a′ m m′ T → (v : ℕ) → 1 ≤ count v (underWay (T .place)) → link (a′ .area) v ≡ link (a .area) v
 under-links K v h = K .links v (omega arith)
 
-kept-place : {regions : ℕ} {a a′ : Memory} {m m′ : Mem} {s : Slot} {p : Place} {k : ℕ → List ℕ} → Kept a a′ m m′ (record { place = p; cache = k })
-    → PlaceRelated regions a m s p → PlaceRelated regions a′ m′ s p
+kept-work : {regions : ℕ} {a a′ : Memory} {m m′ : Mem} {s : Slot} {w : Work} {k : ℕ → List ℕ}
+    → Kept a a′ m m′ (record { place = working w; cache = k }) → WorkRelated regions a m s w → WorkRelated regions a′ m′ s w
 unfolding kept-group
-kept-place K (r-idle e) = r-idle e
-kept-place K (r-a1 e) = r-a1 e
-kept-place K (r-partial h) = r-partial (kept-pop K h)
-kept-place K (r-spare h) = r-spare (kept-pop K h)
-kept-place K (r-region h) = r-region (kept-pop K h)
-kept-place {s = s} K (r-retire h) = r-retire (kept-push K (K .lists .descriptorNexts (s .hand .descriptor) (omega (arith, when-same (s .hand .descriptor) 1))) h)
-kept-place {s = s} K (r-back h) = r-back (kept-push K (K .lists .descriptorNexts (s .hand .descriptor) (omega (arith, when-same (s .hand .descriptor) 1))) h)
-kept-place {s = s} K (r-release e h) = r-release e (kept-push K (K .lists .regionNexts (s .hand .region) (omega (arith, when-same (s .hand .region) 1))) h)
-kept-place {s = s} K (r-offer h) = r-offer (kept-push K (K .lists .descriptorNexts (s .hand .descriptor) (omega (arith, when-same (s .hand .descriptor) 1))) h)
-kept-place K (r-a3-read e) = r-a3-read e
-kept-place {s = s} K (r-a3-exchange e N i j k l) = r-a3-exchange e (kept-note K (K .regions (s .hand .descriptor) refl) N) i j k l
-kept-place K (r-a4 e l n h) = r-a4 e (linked-frame (under-links K) l) n h
-kept-place K (r-a7 e) = r-a7 e
-kept-place K (r-a8 e) = r-a8 e
-kept-place K (r-f1 e) = r-f1 e
-kept-place K (r-f2 e z) = r-f2 e z
-kept-place K (r-f2-more e G) = r-f2-more e (kept-group K (λ v h. under-links K v (omega arith)) G)
-kept-place K (r-f3-read e G) = r-f3-read e (kept-group K (λ v h. under-links K v (omega arith)) G)
-kept-place {s = s} K (r-f3-link e G N l) = r-f3-link e (kept-group K (λ v h. under-links K v (omega arith)) G) (kept-note K (K .regions (s .hand .descriptor) refl) N) l
-kept-place {s = s} K (r-f3-exchange e G N l f) =
+kept-work K (r-a1 e) = r-a1 e
+kept-work K (r-partial h) = r-partial (kept-pop K h)
+kept-work K (r-spare h) = r-spare (kept-pop K h)
+kept-work K (r-region h) = r-region (kept-pop K h)
+kept-work {s = s} K (r-retire h) = r-retire (kept-push K (K .lists .descriptorNexts (s .hand .descriptor) (omega (arith, when-same (s .hand .descriptor) 1))) h)
+kept-work {s = s} K (r-back h) = r-back (kept-push K (K .lists .descriptorNexts (s .hand .descriptor) (omega (arith, when-same (s .hand .descriptor) 1))) h)
+kept-work {s = s} K (r-release e h) = r-release e (kept-push K (K .lists .regionNexts (s .hand .region) (omega (arith, when-same (s .hand .region) 1))) h)
+kept-work {s = s} K (r-offer h) = r-offer (kept-push K (K .lists .descriptorNexts (s .hand .descriptor) (omega (arith, when-same (s .hand .descriptor) 1))) h)
+kept-work K (r-a3-read e) = r-a3-read e
+kept-work {s = s} K (r-a3-exchange e N i j k l) = r-a3-exchange e (kept-note K (K .regions (s .hand .descriptor) refl) N) i j k l
+kept-work K (r-a4 e l n h) = r-a4 e (linked-frame (under-links K) l) n h
+kept-work K (r-a7 e) = r-a7 e
+kept-work K (r-a8 e) = r-a8 e
+kept-work K (r-f1 e) = r-f1 e
+kept-work K (r-f2 e z) = r-f2 e z
+kept-work K (r-f2-more e G) = r-f2-more e (kept-group K (λ v h. under-links K v (omega arith)) G)
+kept-work K (r-f3-read e G) = r-f3-read e (kept-group K (λ v h. under-links K v (omega arith)) G)
+kept-work {s = s} K (r-f3-link e G N l) = r-f3-link e (kept-group K (λ v h. under-links K v (omega arith)) G) (kept-note K (K .regions (s .hand .descriptor) refl) N) l
+kept-work {s = s} K (r-f3-exchange e G N l f) =
     r-f3-exchange e (kept-group K (λ v h. under-links K v (omega arith)) G) (kept-note K (K .regions (s .hand .descriptor) refl) N) l
     (under-links K (G .last) (omega (arith, ap (count (G .last)) (G .is), count-append (G .last) (G .front) (G .last ∷ []), when-same (G .last) 1)) ∙ f)
-kept-place K (r-f4-clear e h) = r-f4-clear e h
+kept-work K (r-f4-clear e h) = r-f4-clear e h
+
+kept-place : {regions : ℕ} {a a′ : Memory} {m m′ : Mem} {s : Slot} {p : Place} {k : ℕ → List ℕ}
+    → Kept a a′ m m′ (record { place = p; cache = k }) → PlaceRelated regions a m s p → PlaceRelated regions a′ m′ s p
+kept-place K (r-idle e) = r-idle e
+kept-place {k = k} K (r-working W) = r-working (kept-work {k = k} K W)
 
 pub kept-slot : {regions : ℕ} {a a′ : Memory} {m m′ : Mem} {s : Slot} {T : Task} → Kept a a′ m m′ T → SlotRelated regions a m s T → SlotRelated regions a′ m′ s T
 kept-slot {T = T} K S = record {

@@ -17,7 +17,7 @@ use Rattle.links.specs.Link.{link}
 use Rattle.classes.specs.Classes.{perRegion}
 use Rattle.classes.specs.Places.{indexOf, regionOf}
 use Rattle.classes.proofs.Tables.{perRegion-high}
-use Rattle.plain.specs.State.{Mem, f2, f3-read}
+use Rattle.plain.specs.State.{Mem, f2, f3-read, working}
 use Rattle.plain.specs.Moves.{going, nothing}
 use Rattle.plain.specs.Steps as Steps
 use Rattle.plain.proofs.Places.{lengths, placeHolds, taskOf}
@@ -26,7 +26,7 @@ use Rattle.control.specs.Layout.{TaskPlace, TaskUnit}
 use Rattle.control.specs.Places.{F2, F3-READ}
 use Rattle.stepped.specs.Free as Free
 use Rattle.agreement.specs.Memory.{slotOf, memoryOf}
-use Rattle.agreement.specs.Relation.{GroupRelated, r-f2-more, r-f3-read}
+use Rattle.agreement.specs.Relation.{GroupRelated, r-f2-more, r-f3-read, r-working}
 use Rattle.agreement.proofs.Slots.{toPlace, toGroup, toCache}
 use Rattle.agreement.proofs.Couple.{mine}
 use Rattle.agreement.proofs.Blocks.{cache-agrees, mine-apart, mine-under, re-cache, row-agrees, wrote}
@@ -40,7 +40,7 @@ use Rattle.agreement.proofs.Groups.{region-below}
 
 module _ {regions : ℕ} {v : View} {area : List ℕ} {m : Mem} {t : ℕ} {k : ℕ → List ℕ} where
   -- the first block of a group
-  first-both : At regions v area m t (f2 (v (TaskClass t)) (v (TaskUnit t)) []) k → v (TaskPlace t) ≡ F2
+  first-both : At regions v area m t (working (f2 (v (TaskClass t)) (v (TaskUnit t)) [])) k → v (TaskPlace t) ≡ F2
       → (x : ℕ) (q : List ℕ) → k (v (TaskClass t)) ≡ x ∷ q
       → Both regions v area m
       (Free.f2First v (link area) regions t (v (TaskClass t)) (v (CacheCount t (v (TaskClass t))))
@@ -54,7 +54,7 @@ module _ {regions : ℕ} {v : View} {area : List ℕ} {m : Mem} {t : ℕ} {k : �
       let T = topped w x q f in
       let i = indexOf c u in
       let s = toGroup (regionOf u) i i 1 (toCache c (link area u) (n - 1) (slotOf v t)) in
-      let p = f2 c (v (TaskUnit t)) (u ∷ []) in
+      let p = working (f2 c (v (TaskUnit t)) (u ∷ [])) in
       let v₁ = assigned (TaskRegion t := regionOf u ∷ GroupFirst t := i ∷ GroupLast t := i ∷ GroupCount t := 1 ∷ []) v in
       pass _ (T .below) (record {
         says = refl;
@@ -63,7 +63,7 @@ module _ {regions : ℕ} {v : View} {area : List ℕ} {m : Mem} {t : ℕ} {k : �
             (with-cache v₁ c (link area u) (n - 1) (mine (w .pair) .fits)
             (record { shared = refl; own = rw (eq-eqb t t refl); others = λ j d. rw (ne-eqb t j d) }))
             (re-cache (w .pair) _ _ s p c (link area u) (n - 1) q (λ e l v h. refl) refl refl (T .linked) (T .rest)
-            (r-f2-more e (record {
+            (r-working (r-f2-more e (record {
               front = [];
               last = u;
               is = refl;
@@ -71,7 +71,7 @@ module _ {regions : ℕ} {v : View} {area : List ℕ} {m : Mem} {t : ℕ} {k : �
               lastIs = refl;
               counts = refl;
               region = refl;
-            }))));
+            })))));
         sound = omega (
           arith,
           w .pair .turn .fits,
@@ -85,14 +85,14 @@ module _ {regions : ℕ} {v : View} {area : List ℕ} {m : Mem} {t : ℕ} {k : �
         apart = tt;
       })
 
-  module _ {y : ℕ} {g : List ℕ} (w : At regions v area m t (f2 (v (TaskClass t)) (v (TaskUnit t)) (y ∷ g)) k)
+  module _ {y : ℕ} {g : List ℕ} (w : At regions v area m t (working (f2 (v (TaskClass t)) (v (TaskUnit t)) (y ∷ g))) k)
       (G : GroupRelated (memoryOf v area) (slotOf v t) y g) where
     -- a further block, linked behind the last
     more-both : v (TaskPlace t) ≡ F2 → (x : ℕ) (q : List ℕ) → k (v (TaskClass t)) ≡ x ∷ q
         → Both regions v area m
         (Free.f2More v (link area) regions t (v (TaskClass t)) (v (CacheCount t (v (TaskClass t))))
         (v (CacheTop t (v (TaskClass t)))) (v (GroupCount t)) (v (TaskRegion t))) (
-          Steps.cached t k (v (TaskClass t)) q (f2 (v (TaskClass t)) (v (TaskUnit t)) (y ∷ (g ++ (x ∷ [])))) m,
+          Steps.cached t k (v (TaskClass t)) q (working (f2 (v (TaskClass t)) (v (TaskUnit t)) (y ∷ (g ++ (x ∷ []))))) m,
           going nothing,
         )
     unfolding Free.f2More
@@ -113,7 +113,7 @@ module _ {regions : ℕ} {v : View} {area : List ℕ} {m : Mem} {t : ℕ} {k : �
         let wr = wrote (w .pair) l i lu (omega (arith, T .index, perRegion-high c)) in
         let kept = cache-agrees (w .pair) l i lu in
         let s = toGroup (v (TaskRegion t)) (v (GroupFirst t)) i (h + 1) (toCache c (link area u) (n - 1) (slotOf v t)) in
-        let p = f2 c (v (TaskUnit t)) (y ∷ (g ++ (u ∷ []))) in
+        let p = working (f2 c (v (TaskUnit t)) (y ∷ (g ++ (u ∷ [])))) in
         let v₁ = assigned (GroupLast t := i ∷ GroupCount t := (h + 1) ∷ []) v in
         pass _ (both-true (both-true (lt-ltb h (perRegion c) room)
         (lt-ltb (v (GroupLast t)) (perRegion c) (last-below (w .pair) G (λ z. omega arith) refl (o .3)))) (T .below))
@@ -126,7 +126,7 @@ module _ {regions : ℕ} {v : View} {area : List ℕ} {m : Mem} {t : ℕ} {k : �
               (mine-under (w .pair) l lu .0)
               (re-cache (w .pair) _ _ s p c (link area u) (n - 1) q kept refl refl
               (linked-frame (λ z b. kept c (mine (w .pair) .fits) z (omega (arith, ap (count z) f))) (T .linked)) (T .rest)
-              (r-f2-more e (record {
+              (r-working (r-f2-more e (record {
                 front = G .front ++ (l ∷ []);
                 last = u;
                 is = ap (λ (z : List ℕ). z ++ (u ∷ [])) (G .is);
@@ -134,7 +134,7 @@ module _ {regions : ℕ} {v : View} {area : List ℕ} {m : Mem} {t : ℕ} {k : �
                 lastIs = refl;
                 counts = omega (arith, G .counts, length-append g (u ∷ []));
                 region = G .region;
-              }))));
+              })))));
           sound = omega (
             arith,
             w .pair .turn .fits,
@@ -149,19 +149,19 @@ module _ {regions : ℕ} {v : View} {area : List ℕ} {m : Mem} {t : ℕ} {k : �
 
     -- the group is closed
     close-both : Both regions v area m (Free.f2Close v (link area) regions t (v (TaskClass t)))
-        (Steps.at t k (f3-read (v (TaskClass t)) (v (TaskUnit t)) y g) m, going nothing)
+        (Steps.at t k (working (f3-read (v (TaskClass t)) (v (TaskUnit t)) y g)) m, going nothing)
     close-both = record {
       says = refl;
       keeps = (refl, refl);
-      rel = goes w (TaskPlace t := F3-READ ∷ []) (toPlace F3-READ (slotOf v t)) (f3-read (v (TaskClass t)) (v (TaskUnit t)) y g)
+      rel = goes w (TaskPlace t := F3-READ ∷ []) (toPlace F3-READ (slotOf v t)) (working (f3-read (v (TaskClass t)) (v (TaskUnit t)) y g))
           refl (rw (eq-eqb t t refl)) (λ j n. rw (ne-eqb t j n)) refl refl
-          (r-f3-read refl (same-group refl refl refl refl G));
+          (r-working (r-f3-read refl (same-group refl refl refl refl G)));
       sound = omega (arith, w .pair .turn .fits);
       apart = tt;
     }
 
   -- with an empty group the cache has a block
-  pub f2-both : At regions v area m t (f2 (v (TaskClass t)) (v (TaskUnit t)) []) k → v (TaskPlace t) ≡ F2
+  pub f2-both : At regions v area m t (working (f2 (v (TaskClass t)) (v (TaskUnit t)) [])) k → v (TaskPlace t) ≡ F2
       → v (GroupCount t) ≡ 0
       → Both regions v area m (Free.f2 v (link area) regions t (v (TaskClass t)))
       (Steps.stepAt t k (f2 (v (TaskClass t)) (v (TaskUnit t)) []) m)
@@ -179,7 +179,7 @@ module _ {regions : ℕ} {v : View} {area : List ℕ} {m : Mem} {t : ℕ} {k : �
       pass _ (topped w x q f .block) (meet _ (eqb h 0) (eq-eqb h 0 z) (first-both w e x q f)))))
 
   -- beside a group, the cache may be empty
-  pub f2-more-both : {y : ℕ} {g : List ℕ} → At regions v area m t (f2 (v (TaskClass t)) (v (TaskUnit t)) (y ∷ g)) k
+  pub f2-more-both : {y : ℕ} {g : List ℕ} → At regions v area m t (working (f2 (v (TaskClass t)) (v (TaskUnit t)) (y ∷ g))) k
       → v (TaskPlace t) ≡ F2 → GroupRelated (memoryOf v area) (slotOf v t) y g
       → Both regions v area m (Free.f2 v (link area) regions t (v (TaskClass t)))
       (Steps.stepAt t k (f2 (v (TaskClass t)) (v (TaskUnit t)) (y ∷ g)) m)

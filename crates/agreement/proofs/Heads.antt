@@ -24,11 +24,11 @@ use Rattle.control.specs.Answers.{codeOf, valueOf}
 use Rattle.control.specs.declared.answer.Answer.{Answer}
 use Rattle.stepped.specs.Outcome.{Outcome, accept, close}
 use Rattle.agreement.specs.Memory.{Slot, Memory, slotOf, memoryOf}
-use Rattle.agreement.specs.Relation.{Noted, PlaceRelated, Related, wrap}
+use Rattle.agreement.specs.Relation.{HeadNoted, PlaceRelated, Related, wrap}
 use Rattle.agreement.proofs.Slots.{toPlace, toHead}
 use Rattle.agreement.proofs.Sets.{withSlots, setSlot, setHead}
-use Rattle.agreement.proofs.Tops.{top-of, top-le, listed, listed-region, same-word, word-same}
-use Rattle.agreement.proofs.Tops.{won-same, same-won, next-tag, fresh}
+use Rattle.agreement.proofs.Tops.{top-of, top-le, listed, listed-region, same-word, word-same, won-same}
+use Rattle.agreement.proofs.Tops.{same-won, next-tag, fresh}
 use Rattle.agreement.proofs.Changes.{heading}
 use Rattle.agreement.proofs.Both.{Both, decide}
 use Rattle.agreement.proofs.Turns.{At, goes}
@@ -45,7 +45,7 @@ pub record Listed (v : View) (m : Mem) (ℓ items : ℕ) (nx : ℕ → Field) : 
   pub most : items ≤ DESCRIPTORS
   pub linked : Linked (λ (x : ℕ). v (nx x)) suc 0 (itemOf (v (Head ℓ))) (m .row ℓ)
   pub nexts : (x : ℕ) → x < items → v (nx x) ≤ items
-  pub noted : Noted m ℓ (headOf (v (Head ℓ))) (m .won ℓ)
+  pub noted : HeadNoted m ℓ (headOf (v (Head ℓ))) (m .won ℓ)
   pub head : itemOf (v (Head ℓ)) ≤ items
 
 -- the exchange with the noted head is won, and leaves the item x, which is a number plus one, on top of the row q
@@ -92,7 +92,7 @@ module _ {regions : ℕ} {v : View} {area : List ℕ} {m : Mem} {t : ℕ} {p : P
       }
 
   -- what is noted stands where the task alone changes
-  pub kept : {ℓ n : ℕ} {h : HeadWord} (p′ : Place) → Noted m ℓ h n → Noted (at t k p′ m) ℓ h n
+  pub kept : {ℓ n : ℕ} {h : HeadWord} (p′ : Place) → HeadNoted m ℓ h n → HeadNoted (at t k p′ m) ℓ h n
   kept p′ N = record { past = N .past; tags = N .tags; same = N .same }
 
   -- the place alone changes, as where a list is found empty or an exchange is lost
@@ -127,7 +127,7 @@ module _ {regions : ℕ} {v : View} {area : List ℕ} {m : Mem} {t : ℕ} {p : P
   }
 
   -- the exchange is won in both pools or in neither
-  pub exchanges : {ℓ items n : ℕ} {nx : ℕ → Field} → Listed v m ℓ items nx → Noted m ℓ (headOf (v (TaskHead t))) n
+  pub exchanges : {ℓ items n : ℕ} {nx : ℕ → Field} → Listed v m ℓ items nx → HeadNoted m ℓ (headOf (v (TaskHead t))) n
       → m .won ℓ < n + TAGS → {o o′ : Outcome} {y y′ : Result}
       → (m .won ℓ ≡ n → wrap (tagOf (v (TaskHead t)) + 1) ≡ wrap (m .won ℓ + 1) → Both regions v area m o y)
       → Both regions v area m o′ y′

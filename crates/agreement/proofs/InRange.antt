@@ -6,38 +6,34 @@ use mathlib.Core.List.{List, _∷_}
 use native.Mathlib.Omega.{arith}
 use native.Mathlib.Decide.{decLt}
 use lib.ListN.{length}
-use Rattle.limits.specs.Limits.{CONTROL-BYTES, UNITS, TASKS, CLASSES, DESCRIPTORS}
+use Rattle.limits.specs.Limits.{UNITS, TASKS, CLASSES, DESCRIPTORS}
 use Rattle.rows.specs.Counting.{count}
 use Rattle.rows.specs.Linked.{Linked}
 use Rattle.rows.proofs.Branch.{if-yes}
-use Rattle.rows.proofs.Weights.{when-same}
 use Rattle.fields.specs.Columns.{View}
 use Rattle.links.specs.Link.{link}
 use Rattle.words.specs.Anchor.{FULL, anchorOf}
 use Rattle.classes.specs.Classes.{perRegion}
-use Rattle.plain.specs.State.{State, EMPTY, PARTIAL, numberOf, Place, Mem}
+use Rattle.plain.specs.State.{State, EMPTY, PARTIAL, Place, Mem}
 use Rattle.plain.specs.State as Plain
-use Rattle.plain.specs.Held.{classAt, underWay, owed, holdsDescriptor}
+use Rattle.plain.specs.Held.{classAt, underWay}
 use Rattle.plain.specs.States.{IsOpen}
 use Rattle.plain.specs.Invariant.{Invariant, ChainLength}
 use Rattle.plain.specs.Steps.{top}
-use Rattle.plain.specs.Calls.{Pool, unstarted}
+use Rattle.plain.specs.Calls.{Pool, Start, unstarted}
 use Rattle.plain.specs.Calls as Calls
 use Rattle.plain.proofs.States.{open-holds}
 use Rattle.plain.proofs.Turn.{taskHolds}
 use Rattle.control.specs.Layout.{Anchor, CacheTop, CacheCount, TaskUnit, TaskPlace, TaskClass, TaskDescriptor}
 use Rattle.control.specs.Layout.{TaskState, DescriptorClass, Regions, seen}
-use Rattle.control.specs.Places.{PUSH-RELEASE, PUSH-OFFER, A3-READ, A8, F1, F3-EXCHANGE, F4-CLEAR}
+use Rattle.control.specs.Places.{PUSH-RELEASE, PUSH-OFFER, A3-READ, F1, F4-CLEAR}
 use Rattle.stepped.specs.Ranges.{isBlock, isTop}
 use Rattle.agreement.specs.Memory.{slotOf, memoryOf}
 use Rattle.agreement.specs.Relation.{PlaceRelated, Related}
-use Rattle.agreement.specs.Relation.{r-idle, r-a1, r-partial, r-spare, r-region, r-retire, r-back, r-release}
-use Rattle.agreement.specs.Relation.{r-offer, r-a3-read, r-a3-exchange}
-use Rattle.agreement.specs.Relation.{r-a4, r-a7, r-a8, r-f1, r-f2, r-f2-more, r-f3-read, r-f3-link}
-use Rattle.agreement.specs.Relation.{r-f3-exchange, r-f4-clear}
 use Rattle.stepped.specs.Outcome.{Memories}
-use Rattle.agreement.specs.Events.{Event, start, whole, Premises, Unstarted}
-use Rattle.agreement.specs.Reached.{History, Reached, from-unstarted, from-start, by-event, Along, Wherever}
+use Rattle.agreement.specs.Events.{Event, whole, Premises, Unstarted}
+use Rattle.agreement.specs.Reached.{History, Reached, starting, from-unstarted, from-start, by-event, Along}
+use Rattle.agreement.specs.Reached.{Wherever}
 use Rattle.agreement.specs.InRange.{TaskInRange, Ranged, RangedAfter}
 use Rattle.agreement.proofs.Tops.{top-le, listed, listed-region, descriptor-in-hand}
 use Rattle.agreement.proofs.Notes.{note-of, first-max, number-open, number-max}
@@ -47,25 +43,10 @@ use Rattle.agreement.specs.Tied.{Tied}
 use Rattle.agreement.proofs.Simulation.{fitting}
 use Rattle.agreement.proofs.NotedStates.{NotedStates}
 use Rattle.agreement.proofs.Reaching.{reached-tied, reached-noted, along}
-use Rattle.agreement.proofs.TaskHands.{pop-span, push-span, hands-at}
-use Rattle.agreement.proofs.TaskLists.{noted-at}
+use Rattle.agreement.proofs.Freeing.{Freeing, allocates, fills, frees, owes}
+use Rattle.agreement.proofs.TaskHands.{numbers-at}
 
 -- ---- a task
-
--- What a free has under way, by the task's place: the block that is freed, and the descriptor that it owes to the partial list
--- from its exchange on, where it found the anchor FULL.
-data Freeing (v : View) (t : ℕ) (p : Place) : Type 0 where
-  allocates : v (TaskPlace t) < PUSH-RELEASE → Freeing v t p
-  fills : A3-READ ≤ v (TaskPlace t) → v (TaskPlace t) ≤ A8 → Freeing v t p
-  frees : PUSH-OFFER ≤ v (TaskPlace t) → v (TaskPlace t) ≤ F3-EXCHANGE → classAt p ≡ v (TaskClass t) → 1 ≤ count (v (TaskUnit t)) (underWay p)
-      → Freeing v t p
-  owes : (v (TaskState t) ≡ FULL → 1 ≤ holdsDescriptor (v (TaskDescriptor t)) p) → classAt p ≡ v (TaskClass t)
-      → 1 ≤ count (v (TaskUnit t)) (underWay p) → Freeing v t p
-
-owed-one : (z : State) (d : ℕ) → numberOf z ≡ FULL → 1 ≤ count d (owed z d)
-owed-one EMPTY d e = absurd (omega arith)
-owed-one PARTIAL d e = absurd (omega arith)
-owed-one Plain.FULL d e = omega (arith, when-same d 1)
 
 module _ (regions : ℕ) (v : View) (area : List ℕ) (m : Mem) (t : ℕ) where
   abbrev u : ℕ
@@ -74,31 +55,7 @@ module _ (regions : ℕ) (v : View) (area : List ℕ) (m : Mem) (t : ℕ) where
   abbrev d : ℕ
   d = v (TaskDescriptor t)
 
-  freeing : {p : Place} → PlaceRelated regions (memoryOf v area) m (slotOf v t) p → Freeing v t p
-  freeing (r-idle e) = allocates (omega arith)
-  freeing (r-a1 e) = allocates (omega arith)
-  freeing (r-partial h) = allocates (omega (arith, pop-span h))
-  freeing (r-spare h) = allocates (omega (arith, pop-span h))
-  freeing (r-region h) = allocates (omega (arith, pop-span h))
-  freeing (r-retire h) = allocates (omega (arith, push-span h))
-  freeing (r-back h) = allocates (omega (arith, push-span h))
-  freeing (r-release {w = z} e h) = owes (λ f. omega (arith, owed-one z d (sym e ∙ f))) refl (omega (arith, when-same u 1))
-  freeing (r-offer h) = let i = push-span h in frees (omega arith) (omega arith) refl (omega (arith, when-same u 1))
-  freeing (r-a3-read e) = fills (omega arith) (omega arith)
-  freeing (r-a3-exchange e N i j l o) = fills (omega arith) (omega arith)
-  freeing (r-a4 e l n h) = fills (omega arith) (omega arith)
-  freeing (r-a7 e) = fills (omega arith) (omega arith)
-  freeing (r-a8 e) = fills (omega arith) (omega arith)
-  freeing (r-f1 e) = frees (omega arith) (omega arith) refl (omega (arith, when-same u 1))
-  freeing (r-f2 e z) = frees (omega arith) (omega arith) refl (omega (arith, when-same u 1))
-  freeing (r-f2-more e G) = frees (omega arith) (omega arith) refl (omega (arith, when-same u 1))
-  freeing (r-f3-read e G) = frees (omega arith) (omega arith) refl (omega (arith, when-same u 1))
-  freeing (r-f3-link e G N l) = frees (omega arith) (omega arith) refl (omega (arith, when-same u 1))
-  freeing (r-f3-exchange e G N l i) = frees (omega arith) (omega arith) refl (omega (arith, when-same u 1))
-  freeing (r-f4-clear {w = z} e i) = owes (λ f. omega (arith, owed-one z d (sym i ∙ f))) refl (omega (arith, when-same u 1))
-
-  module _ {p : Place} {k : ℕ → List ℕ} (w : Pair regions (memoryOf v area) m t p k)
-      (noted : v (TaskState t) ≤ FULL) where
+  module _ {p : Place} {k : ℕ → List ℕ} (w : Pair regions (memoryOf v area) m t p k) (noted : v (TaskState t) ≤ FULL) where
     abbrev c : ℕ
     c = v (TaskClass t)
 
@@ -140,13 +97,13 @@ module _ (regions : ℕ) (v : View) (area : List ℕ) (m : Mem) (t : ℕ) where
 
     task-in-range : PlaceRelated regions (memoryOf v area) m (slotOf v t) p → TaskInRange regions v t
     task-in-range P =
-        let F = freeing P in
-        let N = hands-at regions v area m t k noted w P in
+        let N = numbers-at regions v area m t k noted w P in
+        let F = N .2 in
         record {
           class = mine w .fits;
-          lists = noted-at regions v area m t P;
-          hands = N .0;
-          chains = N .1;
+          lists = N .0;
+          hands = N .1 .0;
+          chains = N .1 .1;
           unit-pushing = λ i j. unit-at F i (λ h. absurd (omega arith));
           unit = λ i j. unit-at F (omega arith) (λ h. i);
           descriptor-released = λ i j. owed-at F i (λ h. absurd (omega arith));
@@ -231,8 +188,8 @@ pub ranges : (es : List Event) (s₁ : Memories) → Unstarted s₁ → Premises
 ranges es s₁ U p = along RangedAfter ranged-after (from-unstarted U) es p
 
 -- The same from an accepted start on any memories and in any pool: right after it, and along every list of events behind it.
-pub ranges-from-start : (es : List Event) (s₁ : Memories) (s : Pool) (area : List ℕ) (tasks : ℕ) → Calls.Area (length area)
-    → Calls.Tasks tasks → Premises es (whole (start CONTROL-BYTES area tasks) s .0) → Along RangedAfter (start CONTROL-BYTES area tasks ∷ es) s₁ s
-ranges-from-start es s₁ s area tasks a t p =
-    let R = from-start s₁ s area tasks a t in
+pub ranges-from-start : (es : List Event) (s₁ : Memories) (s : Pool) (b : Start) (area : List ℕ) → Calls.Area (length area)
+    → Calls.Tasks (b .tasks) → Premises es (whole (starting b area) s .0) → Along RangedAfter (starting b area ∷ es) s₁ s
+ranges-from-start es s₁ s b area a t p =
+    let R = from-start s₁ s b area a t in
     (reached-ranged R, along RangedAfter ranged-after R es p)

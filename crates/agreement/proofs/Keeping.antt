@@ -13,7 +13,7 @@ use Rattle.fields.specs.Columns.{View, _:=_}
 use Rattle.links.specs.Link.{link}
 use Rattle.classes.specs.Classes.{perRegion}
 use Rattle.classes.proofs.Tables.{perRegion-high}
-use Rattle.plain.specs.State.{Mem, f1, f2, idle}
+use Rattle.plain.specs.State.{Mem, f1, f2, idle, working}
 use Rattle.plain.specs.Moves.{finished}
 use Rattle.plain.specs.Steps as Steps
 use Rattle.plain.proofs.Places.{lengths}
@@ -21,7 +21,7 @@ use Rattle.control.specs.Layout.{CacheCount, CacheTop, GroupCount, TaskClass, T
 use Rattle.control.specs.Places.{IDLE, F2}
 use Rattle.stepped.specs.Free as Free
 use Rattle.agreement.specs.Memory.{slotOf}
-use Rattle.agreement.specs.Relation.{r-f2, r-idle}
+use Rattle.agreement.specs.Relation.{r-f2, r-idle, r-working}
 use Rattle.agreement.proofs.Slots.{toGrouped, toPlace}
 use Rattle.agreement.proofs.Couple.{mine}
 use Rattle.agreement.proofs.Blocks.{mine-apart, mine-under, under-unit}
@@ -31,7 +31,7 @@ use Rattle.agreement.proofs.Turns.{At, cache-count, goes}
 use Rattle.agreement.proofs.Caching.{cache-push, top-tested, under-max}
 
 module _ {regions : ℕ} {v : View} {area : List ℕ} {m : Mem} {t : ℕ} {k : ℕ → List ℕ}
-    (w : At regions v area m t (f1 (v (TaskClass t)) (v (TaskUnit t))) k) where
+    (w : At regions v area m t (working (f1 (v (TaskClass t)) (v (TaskUnit t)))) k) where
   -- the block that is freed is under way
   under : 1 ≤ count (v (TaskUnit t)) (v (TaskUnit t) ∷ [])
   under = omega (arith, when-same (v (TaskUnit t)) 1)
@@ -69,7 +69,7 @@ module _ {regions : ℕ} {v : View} {area : List ℕ} {m : Mem} {t : ℕ} {k : �
         says = refl;
         keeps = (refl, refl);
         rel = goes w (TaskPlace t := F2 ∷ GroupCount t := 0 ∷ []) (toPlace F2 (toGrouped 0 (slotOf v t)))
-            (f2 c (v (TaskUnit t)) []) refl (rw (eq-eqb t t refl)) (λ j n. rw (ne-eqb t j n)) refl refl (r-f2 refl refl);
+            (working (f2 c (v (TaskUnit t)) [])) refl (rw (eq-eqb t t refl)) (λ j n. rw (ne-eqb t j n)) refl refl (r-working (r-f2 refl refl));
         sound = omega (arith, w .pair .turn .fits);
         apart = tt;
       }))

@@ -1,5 +1,4 @@
--- The calls of the stepped run are the calls on bytes: with the lengths of the pool's memories they are the calls on these, and
--- with other lengths they answer as the calls on the other memories do, which leave these as they are.
+-- Calls that are lent other memories than the pool's: they answer as the calls on those do, and leave the pool's as they are.
 use mathlib.Core.Path.{_≡_, refl}
 use mathlib.Core.Logic.{_≢_, _⊎_, inl, inr}
 use mathlib.Core.Bool.{Bool, true, false, cond, _&&_}
@@ -17,37 +16,14 @@ use Rattle.control.specs.Answers.{codeOf}
 use Rattle.control.specs.declared.answer.Answer.{Answer}
 use Rattle.control.specs.declared.answer.Answer.the-variants.{Accepted, Allocated, Freed, NoDescriptor, NoRegion}
 use Rattle.control.specs.declared.answer.Answer.the-variants.{Refused}
-use Rattle.stepped.specs.Outcome.{Outcome, Effect, effect, refuse}
+use Rattle.stepped.specs.Outcome.{Outcome, Effect, effect, refuse, Memories}
 use Rattle.stepped.specs.Ranges.{oneTo}
 use Rattle.stepped.specs.Start.{startImage}
 use Rattle.stepped.specs.Calls as Stepped
 use Rattle.agreement.specs.Ends.{WritesNothing, Leaves}
 use Rattle.agreement.specs.Agreement.{Unchanged}
 use Rattle.agreement.proofs.Ends.{leaves}
-use Rattle.stepped.specs.Outcome.{Memories}
-use Rattle.agreement.specs.Events.{ran, start, allocate, free, go, stepped}
-
--- ---- the pool's own memories
-
-module _ (s : Memories) where
-  pub start-is : (tasks : ℕ)
-      → stepped (start (length (s .control)) (s .area) tasks) s ≡ ran (Stepped.start (s .control) (s .area) tasks)
-  start-is tasks = refl
-
-  pub allocate-is : (t size : ℕ)
-      → stepped (allocate (length (s .control)) (length (s .area)) t size) s ≡ ran (Stepped.allocate (s .control) (s .area) t size)
-  unfolding Stepped.allocate
-  allocate-is t size = refl
-
-  pub free-is : (t u : ℕ)
-      → stepped (free (length (s .control)) (length (s .area)) t u) s ≡ ran (Stepped.free (s .control) (s .area) t u)
-  unfolding Stepped.free
-  free-is t u = refl
-
-  pub go-is : (t : ℕ)
-      → stepped (go (length (s .control)) (length (s .area)) t) s ≡ ran (Stepped.go (s .control) (s .area) t)
-  unfolding Stepped.go
-  go-is t = refl
+use Rattle.agreement.specs.Events.{ran}
 
 -- ---- other memories
 

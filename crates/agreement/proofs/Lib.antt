@@ -17,6 +17,7 @@ pub mod Starts
 pub mod Views
 pub mod Simulation
 pub mod Starting
+pub mod WorkPlaces
 pub mod Begins
 pub mod Writing
 pub mod Groups
@@ -56,8 +57,9 @@ pub mod NotedStates
 pub mod Reaching
 pub mod Ends
 pub mod Theorem
-pub mod TaskHands
+pub mod Freeing
 pub mod TaskLists
+pub mod TaskHands
 pub mod InRange
 pub mod Runs
 pub mod Example

@@ -11,6 +11,7 @@ use Rattle.limits.specs.Limits.{CONTROL-BYTES, REGIONS, REGION-BYTES, AREA-BYTE
 use Rattle.fields.specs.Columns.{Field, View, Write, _:=_, assign, assigned}
 use Rattle.fields.specs.Little.{Bytes}
 use Rattle.words.specs.Anchor.{FULL}
+use Rattle.plain.specs.Calls.{Call, Start, start, allocate, free, step}
 use Rattle.plain.specs.Calls as Plain
 use Rattle.control.specs.Layout.{seen, changed, Tasks, TaskPlace, TaskState}
 use Rattle.control.proofs.Fields.{seen-changed}
@@ -18,9 +19,10 @@ use Rattle.stepped.specs.Outcome.{Memories, Outcome, Effect}
 use Rattle.stepped.specs.Ranges.{oneTo}
 use Rattle.stepped.specs.Start.{startImage}
 use Rattle.stepped.specs.Calls as Calls
-use Rattle.stepped.specs.Calls.{Tested}
+use Rattle.stepped.specs.Calls.{Tested, Lent, effectIn}
 use Rattle.stepped.proofs.Conjunction.{right-true}
-use Rattle.agreement.specs.Events.{Event, start, allocate, free, go, write, stepped}
+use Rattle.agreement.specs.Events.{Event, call, write, stepped}
+use Rattle.agreement.specs.Reached.{starting}
 use Rattle.agreement.proofs.Ways.{branch, tests}
 use Rattle.agreement.proofs.Starts.{at-state}
 use Rattle.agreement.proofs.Starting.{image-view}
@@ -39,8 +41,7 @@ NotedStates b = 1 ≤ seen b Tasks → States b
 -- ---- writes
 
 module _ (t u : ℕ) where
-  write-noted : (f : Field) (x : ℕ) → Own t (f := x) → (v : View) → v (TaskState u) ≤ FULL
-      → assign (f := x) v (TaskState u) ≤ FULL
+  write-noted : (f : Field) (x : ℕ) → Own t (f := x) → (v : View) → v (TaskState u) ≤ FULL → assign (f := x) v (TaskState u) ≤ FULL
   write-noted f x own v h = by (eqb (f .column) (TaskPlace t .column)) refl own
     where
       noted : (b c : Bool) → cond b (x ≤ FULL) (Unit {0}) → cond (b && c) x (v (TaskState u)) ≤ FULL
@@ -54,8 +55,7 @@ module _ (t u : ℕ) where
       by true e o = rw (eqb-true (f .column) (TaskPlace t .column) e) h
       by false e o = noted (eqb (f .column) (TaskState t .column)) (eqb (f .index) u) o
 
-  writes-noted : (ws : List Write) → Owns t ws → (v : View) → v (TaskState u) ≤ FULL
-      → assigned ws v (TaskState u) ≤ FULL
+  writes-noted : (ws : List Write) → Owns t ws → (v : View) → v (TaskState u) ≤ FULL → assigned ws v (TaskState u) ≤ FULL
   writes-noted [] own v h = h
   writes-noted ((f := x) ∷ ws) own v h = writes-noted ws (own .1) (assign (f := x) v) (write-noted f x (own .0) v h)
 
@@ -71,10 +71,8 @@ module _ (b : List ℕ) (long : length b ≡ CONTROL-BYTES) (old : NotedStates b
       → NotedStates (left b (Calls.tested control area (seen b) t x))
   tested-noted control area t x fit =
       tests (λ o. NotedStates (left b o)) control area (seen b) t x (λ n h. old)
-      (λ T started u l.
-      let F = fit T in
-      subst (λ (z : ℕ). z ≤ FULL) (sym (seen-changed (x .writes) b (TaskState u) long (F .sound) (omega (arith, l))))
-      (writes-noted t u (x .writes) (F .own) (seen b) (old (T .started) u l)))
+      (λ T started u l. subst (λ (z : ℕ). z ≤ FULL) (sym (seen-changed (x .writes) b (TaskState u) long (fit T .sound) (omega (arith, l))))
+      (writes-noted t u (x .writes) (fit T .own) (seen b) (old (T .started) u l)))
 
 -- ---- starts
 
@@ -91,17 +89,16 @@ start-noted size area tasks b before old =
     let bytes = length area in
     branch P (eqb size CONTROL-BYTES) (λ e. branch P (eqb (bytes % REGION-BYTES) 0 && oneTo AREA-BYTES bytes)
     (λ f. branch P (oneTo TASKS tasks) (λ g.
-    let most = right-true (eqb (bytes % REGION-BYTES) 0) (oneTo AREA-BYTES bytes) f in
-    let l = leb-true bytes AREA-BYTES (right-true (leb 1 bytes) (leb bytes AREA-BYTES) most) in
-    let few = leb-true tasks TASKS (right-true (leb 1 tasks) (leb tasks TASKS) g) in
-    image-noted tasks (bytes / REGION-BYTES) few (omega (arith, l)))
+    let l = leb-true bytes AREA-BYTES (right-true (leb 1 bytes) (leb bytes AREA-BYTES) (right-true (eqb (bytes % REGION-BYTES) 0) (oneTo AREA-BYTES bytes) f)) in
+    image-noted tasks (bytes / REGION-BYTES) (leb-true tasks TASKS (right-true (leb 1 tasks) (leb tasks TASKS) g)) (omega (arith, l)))
     (λ g. old)) (λ f. old)) (λ e. old)
 
 -- an accepted start, whatever was before
-pub accepted-noted : (s : Memories) (area : List ℕ) (tasks : ℕ) → Plain.Area (length area) → Plain.Tasks tasks
-    → NotedStates (stepped (start CONTROL-BYTES area tasks) s .0 .control)
+pub accepted-noted : (s : Memories) (b : Start) (area : List ℕ) → Plain.Area (length area) → Plain.Tasks (b .tasks)
+    → NotedStates (stepped (starting b area) s .0 .control)
 unfolding Calls.startIn
-accepted-noted s area tasks a t =
+accepted-noted s b area a t =
+    let tasks = b .tasks in
     rw (
       eq-eqb (length area % REGION-BYTES) 0 (a .0),
       le-leb 1 (length area) (a .1 .0),
@@ -113,14 +110,22 @@ accepted-noted s area tasks a t =
 
 -- ---- every event
 
+call-noted : (k : Call) (lent : Lent) (s : Memories) → length (s .control) ≡ CONTROL-BYTES → Bytes (s .control)
+    → NotedStates (s .control) → NotedStates (effectIn k lent s .control)
+unfolding Calls.allocateOutcome Calls.freeOutcome Calls.stepOutcome
+call-noted (start b) lent s long bytes old =
+    start-noted (lent .control) (lent .area) (b .tasks) (s .control) (s .area) old
+call-noted (allocate t size) lent s long bytes old =
+    tested-noted (s .control) long old (lent .control) (length (lent .area)) t _
+    (λ T. allocate-fit (seen-fitting (s .control) bytes) T size)
+call-noted (free t u) lent s long bytes old =
+    tested-noted (s .control) long old (lent .control) (length (lent .area)) t _
+    (λ T. free-fit (seen-fitting (s .control) bytes) T u)
+call-noted (step t) lent s long bytes old =
+    tested-noted (s .control) long old (lent .control) (length (lent .area)) t _
+    (λ T. step-fit (seen-fitting (s .control) bytes) _ T)
+
 pub event-noted : (e : Event) (s : Memories) → length (s .control) ≡ CONTROL-BYTES → Bytes (s .control)
     → NotedStates (s .control) → NotedStates (stepped e s .0 .control)
-unfolding Calls.allocateOutcome Calls.freeOutcome Calls.stepOutcome
-event-noted (start control area tasks) s long bytes old = start-noted control area tasks (s .control) (s .area) old
-event-noted (allocate control area t size) s long bytes old =
-    tested-noted (s .control) long old control area t _ (λ T. allocate-fit (seen-fitting (s .control) bytes) T size)
-event-noted (free control area t u) s long bytes old =
-    tested-noted (s .control) long old control area t _ (λ T. free-fit (seen-fitting (s .control) bytes) T u)
-event-noted (go control area t) s long bytes old =
-    tested-noted (s .control) long old control area t _ (λ T. step-fit (seen-fitting (s .control) bytes) _ T)
+event-noted (call k lent) s long bytes old = call-noted k lent s long bytes old
 event-noted (write at b) s long bytes old = old

@@ -14,7 +14,7 @@ use Rattle.classes.proofs.Places.{index-below, unit-again}
 use Rattle.words.specs.Anchor.{anchorOf}
 use Rattle.words.proofs.Anchors.{word-of-anchor}
 use Rattle.plain.specs.State.{EMPTY, FULL, Mem, Note, PARTIAL, State, numberOf}
-use Rattle.plain.specs.Steps.{AsNoted, noted, top}
+use Rattle.plain.specs.Steps.{AsNoted, noteOf, top}
 use Rattle.plain.specs.Blocks.{isBlock}
 use Rattle.plain.specs.Invariant.{OpenDescriptor}
 use Rattle.plain.specs.States.{IsOpen, ifOpen}
@@ -46,7 +46,7 @@ no-first [] e = refl
 no-first (x ∷ q) e = absurd (omega arith)
 
 -- what an anchor's read notes
-pub note-of : {nx : ℕ → ℕ} {a : Anchor} {r c : ℕ} (m : Mem) (d : ℕ) → DescriptorRelated nx a r c (m .descriptor d) → ChainRelated nx a (m .descriptor d) → OpenDescriptor (m .descriptor d) → NoteRelated m (m .descriptor d .class) d (noted (m .descriptor d)) a
+pub note-of : {nx : ℕ → ℕ} {a : Anchor} {r c : ℕ} (m : Mem) (d : ℕ) → DescriptorRelated nx a r c (m .descriptor d) → ChainRelated nx a (m .descriptor d) → OpenDescriptor (m .descriptor d) → NoteRelated m (m .descriptor d .class) d (noteOf (m .descriptor d)) a
 note-of m d D C L = record {
   state = D .state;
   count = C .counts;

@@ -18,11 +18,11 @@ use Rattle.rows.proofs.Linked.{linked-walk, linked-append-one}
 use Rattle.classes.specs.Places.{unitOf, indexOf, Block}
 use Rattle.classes.proofs.Places.{unit-again, unit-below}
 use Rattle.links.specs.Link.{link}
-use Rattle.plain.specs.State.{State, EMPTY, PARTIAL, FULL, numberOf, Phase, Place, Mem}
+use Rattle.plain.specs.State.{State, EMPTY, PARTIAL, FULL, numberOf, Phase, Place, Mem, Work, working}
 use Rattle.plain.specs.Calls.{rising, NotEmpty, Opens, opens?}
 use Rattle.plain.specs.States.{ifOpen, IfOpen}
 use Rattle.plain.specs.Blocks.{isBlock}
-use Rattle.plain.specs.Held.{underWay, classAt}
+use Rattle.plain.specs.Held.{underWay, classAt, held}
 use Rattle.plain.specs.Places.{Together}
 use Rattle.plain.specs.Weights.{rowWeight, insideWeight, chainWeight, blockWeight}
 use Rattle.plain.specs.Invariant.{Invariant, OpenDescriptor}
@@ -35,15 +35,14 @@ use Rattle.plain.proofs.Starts.{rising-count, length-rising}
 use Rattle.control.specs.Places.{IDLE, A1, A3-READ, A3-EXCHANGE, A4, A7, A8, F1, F2, F3-READ, F3-LINK, F3-EXCHANGE}
 use Rattle.control.specs.Places.{F4-CLEAR}
 use Rattle.agreement.specs.Memory.{Memory}
-use Rattle.agreement.specs.Relation.{PopRelated, PushRelated, GroupRelated, PlaceRelated, r-idle, r-a1}
-use Rattle.agreement.specs.Relation.{r-partial, r-spare, r-region, r-retire, r-back, r-release, r-offer}
-use Rattle.agreement.specs.Relation.{r-a3-read, r-a3-exchange, r-a4, r-a7, r-a8, r-f1, r-f2, r-f2-more}
-use Rattle.agreement.specs.Relation.{r-f3-read, r-f3-link, r-f3-exchange, r-f4-clear, DescriptorRelated}
-use Rattle.agreement.specs.Relation.{Related}
+use Rattle.agreement.specs.Relation.{PopRelated, PushRelated, GroupRelated, PlaceRelated, r-idle, r-a1, r-partial}
+use Rattle.agreement.specs.Relation.{r-spare, r-region, r-retire, r-back, r-release, r-offer, r-a3-read}
+use Rattle.agreement.specs.Relation.{r-a3-exchange, r-a4, r-a7, r-a8, r-f1, r-f2, r-f2-more, r-f3-read, r-f3-link}
+use Rattle.agreement.specs.Relation.{r-f3-exchange, r-f4-clear, DescriptorRelated, Related, WorkRelated}
+use Rattle.agreement.specs.Relation.{r-working}
 use Rattle.agreement.specs.Observe.{listFrom, classBy, chainBy, plainClassBy, plainChainBy, plainClass}
 use Rattle.agreement.specs.Observe.{plainChain, underWays, blocksAt, inCache, withTask, hands, task, chain}
-use Rattle.agreement.specs.Observe.{holderOf}
-use Rattle.agreement.specs.Observe.{Same}
+use Rattle.agreement.specs.Observe.{holderOf, Same}
 use Rattle.agreement.proofs.Couple.{Pair}
 use Rattle.agreement.proofs.Notes.{number-open}
 use Rattle.agreement.proofs.Groups.{of-region}
@@ -150,39 +149,43 @@ module _ {regions : ℕ} {a : Memory} {m : Mem} {t : ℕ} {k : ℕ → List ℕ}
   in-push {b = b} w q h (PushRelated.at-next e N l) = at-place w (b + 1) q e (h .1)
   in-push {b = b} w q h (PushRelated.at-exchange e N l f) = at-place w (b + 2) q e (h .2)
 
-  under-way : {p : Place} (w : Pair regions a m t p k) → PlaceRelated regions a m (a .slot t) p
-      → blocksAt (underWays (a .slot t) a) (a .slot t .place) ≡ underWay p
-  under-way w (r-idle e) = at-place w IDLE [] e refl
-  under-way w (r-a1 e) = at-place w A1 [] e refl
-  under-way w (r-partial h) = in-pop w (refl, refl, refl) h
-  under-way w (r-spare h) = in-pop w (refl, refl, refl) h
-  under-way w (r-region h) = in-pop w (refl, refl, refl) h
-  under-way w (r-retire h) = in-push w [] (refl, refl, refl) h
-  under-way w (r-back h) = in-push w [] (refl, refl, refl) h
-  under-way w (r-release i h) = in-push w (a .slot t .unit ∷ []) (refl, refl, refl) h
-  under-way w (r-offer h) = in-push w (a .slot t .unit ∷ []) (refl, refl, refl) h
-  under-way w (r-a3-read e) = at-place w A3-READ [] e refl
-  under-way w (r-a3-exchange e N i j l o) = at-place w A3-EXCHANGE [] e refl
-  under-way w (r-a4 {x = x} {q = q} e l n f) =
+  at-work : {p : Work} (w : Pair regions a m t (working p) k) → WorkRelated regions a m (a .slot t) p
+      → blocksAt (underWays (a .slot t) a) (a .slot t .place) ≡ underWay (working p)
+  at-work w (r-a1 e) = at-place w A1 [] e refl
+  at-work w (r-partial h) = in-pop w (refl, refl, refl) h
+  at-work w (r-spare h) = in-pop w (refl, refl, refl) h
+  at-work w (r-region h) = in-pop w (refl, refl, refl) h
+  at-work w (r-retire h) = in-push w [] (refl, refl, refl) h
+  at-work w (r-back h) = in-push w [] (refl, refl, refl) h
+  at-work w (r-release i h) = in-push w (a .slot t .unit ∷ []) (refl, refl, refl) h
+  at-work w (r-offer h) = in-push w (a .slot t .unit ∷ []) (refl, refl, refl) h
+  at-work w (r-a3-read e) = at-place w A3-READ [] e refl
+  at-work w (r-a3-exchange e N i j l o) = at-place w A3-EXCHANGE [] e refl
+  at-work w (r-a4 {x = x} {q = q} e l n f) =
       let s = a .slot t in
       at-place w A4 (x ∷ q) e
       (ap (walk (link (a .area)) (unitOf (s .hand .region) (s .class)) (s .hand .index)) n
       ∙ linked-walk (unitOf (s .hand .region) (s .class)) l (λ v h. unit-again (counts-block (s .hand .region) (s .class) v (omega (arith, f v)))))
-  under-way w (r-a7 e) = at-place w A7 [] e refl
-  under-way w (r-a8 e) = at-place w A8 _ e refl
-  under-way w (r-f1 e) = at-place w F1 (a .slot t .unit ∷ []) e refl
-  under-way w (r-f2 e z) =
+  at-work w (r-a7 e) = at-place w A7 [] e refl
+  at-work w (r-a8 e) = at-place w A8 _ e refl
+  at-work w (r-f1 e) = at-place w F1 (a .slot t .unit ∷ []) e refl
+  at-work w (r-f2 e z) =
       let s = a .slot t in
       at-place w F2 (s .unit ∷ []) e (freed-with (ap (walk (link (a .area)) (unitOf (s .hand .region) (s .class)) (s .group .first)) z))
-  under-way w (r-f2-more {y = y} {g = g} e G) =
+  at-work w (r-f2-more {y = y} {g = g} e G) =
       at-place w F2 (a .slot t .unit ∷ y ∷ g) e (freed-with (group-is w G (λ v. omega arith) refl (placeHolds (w .turn) .3)))
-  under-way w (r-f3-read {y = y} {g = g} e G) =
+  at-work w (r-f3-read {y = y} {g = g} e G) =
       at-place w F3-READ (a .slot t .unit ∷ y ∷ g) e (freed-with (group-is w G (λ v. omega arith) refl (placeHolds (w .turn) .2)))
-  under-way w (r-f3-link {y = y} {g = g} e G N l) =
+  at-work w (r-f3-link {y = y} {g = g} e G N l) =
       at-place w F3-LINK (a .slot t .unit ∷ y ∷ g) e (freed-with (group-is w G (λ v. omega arith) refl (placeHolds (w .turn) .2)))
-  under-way w (r-f3-exchange {y = y} {g = g} e G N l f) =
+  at-work w (r-f3-exchange {y = y} {g = g} e G N l f) =
       at-place w F3-EXCHANGE (a .slot t .unit ∷ y ∷ g) e (freed-with (group-is w G (λ v. omega arith) refl (placeHolds (w .turn) .2)))
-  under-way w (r-f4-clear e f) = at-place w F4-CLEAR (a .slot t .unit ∷ []) e refl
+  at-work w (r-f4-clear e f) = at-place w F4-CLEAR (a .slot t .unit ∷ []) e refl
+
+  under-way : {p : Place} (w : Pair regions a m t p k) → PlaceRelated regions a m (a .slot t) p
+      → blocksAt (underWays (a .slot t) a) (a .slot t .place) ≡ underWay p
+  under-way w (r-idle e) = at-place w IDLE [] e refl
+  under-way w (r-working W) = at-work w W
 
 -- ---- holders
 

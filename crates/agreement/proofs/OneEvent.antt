@@ -11,17 +11,19 @@ use Rattle.plain.specs.State.{idle}
 use Rattle.plain.specs.Moves.{Answer}
 use Rattle.plain.specs.Steps.{Result}
 use Rattle.plain.specs.Steps as Steps
-use Rattle.plain.specs.Calls.{Pool}
+use Rattle.plain.specs.Calls.{Pool, Call, start, allocate, free, step, Lengths}
 use Rattle.plain.specs.Calls as Plain
 use Rattle.plain.specs.Invariant.{Good}
+use Rattle.plain.specs.Held.{held}
 use Rattle.plain.proofs.Starts.{start-inv}
 use Rattle.plain.proofs.Always.{call-good}
 use Rattle.control.specs.Layout.{seen, Regions}
-use Rattle.stepped.specs.Outcome.{Outcome}
+use Rattle.stepped.specs.Outcome.{Outcome, Memories}
 use Rattle.stepped.specs.Steps as Stepping₁
+use Rattle.stepped.specs.Calls.{Lent, lengths}
 use Rattle.stepped.specs.Calls as Stepped
-use Rattle.stepped.specs.Outcome.{Memories}
-use Rattle.agreement.specs.Events.{Event, start, allocate, free, go, write, stepped, whole, Taken, Premise}
+use Rattle.agreement.specs.Events.{Event, write, stepped, whole, Taken, Premise, call}
+use Rattle.agreement.specs.Events.{CallPremise}
 use Rattle.agreement.specs.Agreement.{Kept}
 use Rattle.agreement.proofs.Both.{Both}
 use Rattle.agreement.proofs.Turns.{At}
@@ -37,12 +39,12 @@ module _ {s₁ : Memories} {s : Pool} (S : Tied s₁ s) where
   v = seen (s₁ .control)
 
   -- what is asked of a call that passes the tests 1, 4, 2, 5, of the stored number of regions
-  at-regions : {control area t : ℕ} (F : ℕ → Outcome) (y : Result) → Taken control area t s
+  at-regions : {lent : Lengths} {t : ℕ} (F : ℕ → Outcome) (y : Result) → Taken lent t s
       → Both (s .regions) v (s₁ .area) (s .mem) (F (s .regions)) y → Both (s .regions) v (s₁ .area) (s .mem) (F (v Regions)) y
   at-regions F y T B = subst (λ (r : ℕ). Both (s .regions) v (s₁ .area) (s .mem) (F r) y) (sym (S .regions (T .started))) B
 
   -- the task's turn, where it is idle
-  turn : {control area t : ℕ} → Taken control area t s → (t : ℕ) → t < TASKS → s .mem .task t .place ≡ idle
+  turn : {lent : Lengths} {u : ℕ} → Taken lent u s → (t : ℕ) → t < TASKS → s .mem .task t .place ≡ idle
       → At (s .regions) v (s₁ .area) (s .mem) t idle (s .mem .task t .cache)
   turn T t l e = record {
     pair = record {
@@ -53,56 +55,70 @@ module _ {s₁ : Memories} {s : Pool} (S : Tied s₁ s) where
     fitting = fitting (s₁ .control) (S .bytes);
   }
 
-  begin-allocate : (control area t size : ℕ) → Taken control area t s
+  begin-allocate : (lent : Lengths) (t size : ℕ) → Taken lent t s
       → Both (s .regions) v (s₁ .area) (s .mem) (Stepped.whenIdle v t (Stepped.beginAllocate t size))
       (Plain.whenIdle (s .mem .task t .place) (Plain.beginAllocate t size (s .mem)) (s .mem))
-  begin-allocate control area t size T =
+  begin-allocate lent t size T =
       let l : t < TASKS = omega (arith, T .below, S .good .few) in
       let R = S .related (T .started) in
       when-idle R t _ _ (s .mem .task t .place) (R .slots t l .place) (λ e. allocate-both (turn T t l e) size)
 
-  begin-free : (control area t u : ℕ) → Taken control area t s
+  begin-free : (lent : Lengths) (t u : ℕ) → Taken lent t s
       → Both (s .regions) v (s₁ .area) (s .mem) (Stepped.whenIdle v t (Stepped.beginFree v (s .regions) t u))
       (Plain.whenIdle (s .mem .task t .place) (Plain.beginFree t u (s .regions) (s .mem)) (s .mem))
-  begin-free control area t u T =
+  begin-free lent t u T =
       let l : t < TASKS = omega (arith, T .below, S .good .few) in
       let R = S .related (T .started) in
       when-idle R t _ _ (s .mem .task t .place) (R .slots t l .place) (λ e. free-both (turn T t l e) u)
 
 -- the plain pool's own invariant after a call that passes the tests
-good-after : {control area t : ℕ} {s : Pool} (y : Result) → Good (Plain.tested control area t s y .0) → Taken control area t s
+good-after : {lent : Lengths} {t : ℕ} {s : Pool} (y : Result) → Good (Plain.tested t lent s y .0) → Taken lent t s
     → Good (Plain.became s y .0)
 good-after y g T = subst (λ (x : Pool × Answer). Good (x .0)) (taken-is y T) g
 
--- what the turn of one event shows of the memories after it
+-- what the turn of one call shows of the memories after it
+abbrev pub CallShown : Call → Memories → Pool → Memories → Type 0
+CallShown (start b) s₁ s z = Unit {0}
+CallShown (allocate t size) s₁ s z = Kept s₁ s z
+CallShown (free t u) s₁ s z = Kept s₁ s z
+CallShown (step t) s₁ s z = Kept s₁ s z
+
 abbrev pub Shown : Event → Memories → Pool → Memories → Type 0
-Shown (start control area tasks) s₁ s z = Unit {0}
-Shown (allocate control area t size) s₁ s z = Kept s₁ s z
-Shown (free control area t u) s₁ s z = Kept s₁ s z
-Shown (go control area t) s₁ s z = Kept s₁ s z
+Shown (call k lent) s₁ s z = CallShown k s₁ s z
 Shown (write at b) s₁ s z = Unit {0}
 
--- one event: the same answer, in relation again, and each byte in hands as it was
-pub alike : (e : Event) (s₁ : Memories) (s : Pool) → Tied s₁ s → Premise e s → Alike (Shown e s₁ s) (stepped e s₁) (whole e s)
+-- one call: the same answer, in relation again, and each byte in hands as it was
+call-alike : (k : Call) (lent : Lent) (s₁ : Memories) (s : Pool) → Tied s₁ s → CallPremise k (lengths lent) s
+    → Alike (CallShown k s₁ s) (stepped (call k lent) s₁) (whole (call k lent) s)
 unfolding Plain.call Stepped.allocateOutcome Stepped.freeOutcome Stepped.stepOutcome
-alike (start control area tasks) s₁ s S h =
-    start-alike S control area tasks (ℕ-discrete control CONTROL-BYTES)
-    (λ a t. record { few = t .1; small = λ k. omega (arith, a); inv = λ k. start-inv (length area / REGION-BYTES) })
-alike (allocate control area t size) s₁ s S h =
+call-alike (start b) lent s₁ s S h =
+    start-alike S (lent .control) (lent .area) (b .tasks) (ℕ-discrete (lent .control) CONTROL-BYTES)
+    (λ a t. record { few = t .1; small = λ k. omega (arith, a); inv = λ k. start-inv (length (lent .area) / REGION-BYTES) })
+call-alike (allocate t size) lent s₁ s S h =
     let y = Plain.whenIdle (s .mem .task t .place) (Plain.beginAllocate t size (s .mem)) (s .mem) in
-    tested-alike S control area t _ y (good-after y (call-good (Plain.allocate control area t size) s (S .good)))
-    (begin-allocate S control area t size) (ℕ-discrete control CONTROL-BYTES)
-alike (free control area t u) s₁ s S h =
+    tested-alike S (lent .control) (length (lent .area)) t _ y
+    (good-after y (call-good (allocate t size) (lengths lent) s (S .good)))
+    (begin-allocate S (lengths lent) t size) (ℕ-discrete (lent .control) CONTROL-BYTES)
+call-alike (free t u) lent s₁ s S h =
+    let v₁ = seen (s₁ .control) in
     let y = Plain.whenIdle (s .mem .task t .place) (Plain.beginFree t u (s .regions) (s .mem)) (s .mem) in
-    tested-alike S control area t _ y (good-after y (call-good (Plain.free control area t u) s (S .good)))
-    (λ T. at-regions S (λ r. Stepped.whenIdle (seen (s₁ .control)) t (Stepped.beginFree (seen (s₁ .control)) r t u)) y T (begin-free S control area t u T))
-    (ℕ-discrete control CONTROL-BYTES)
-alike (go control area t) s₁ s S h =
-    let y = Steps.step t (s .mem) in
-    tested-alike S control area t _ y (good-after y (call-good (Plain.go control area t) s (S .good)))
+    tested-alike S (lent .control) (length (lent .area)) t _ y
+    (good-after y (call-good (free t u) (lengths lent) s (S .good)))
+    (λ T. at-regions S (λ r. Stepped.whenIdle v₁ t (Stepped.beginFree v₁ r t u)) y T (begin-free S (lengths lent) t u T))
+    (ℕ-discrete (lent .control) CONTROL-BYTES)
+call-alike (step t) lent s₁ s S h =
+    let y = Steps.stepOf t (s .mem) in
+    tested-alike S (lent .control) (length (lent .area)) t _ y
+    (good-after y (call-good (step t) (lengths lent) s (S .good)))
     (λ T. at-regions S (λ r. Stepping₁.step (seen (s₁ .control)) (link (s₁ .area)) r t) y T
-    (step-both t (omega (arith, T .below, S .good .few)) (S .good .small (T .started)) (fitting (s₁ .control) (S .bytes)) (S .related (T .started)) (S .good .inv (T .started)) (h T)))
-    (ℕ-discrete control CONTROL-BYTES)
+    (step-both t (omega (arith, T .below, S .good .few)) (S .good .small (T .started)) (fitting (s₁ .control) (S .bytes))
+    (S .related (T .started)) (S .good .inv (T .started)) (h T)))
+    (ℕ-discrete (lent .control) CONTROL-BYTES)
+
+-- one event
+pub alike : (e : Event) (s₁ : Memories) (s : Pool) → Tied s₁ s → Premise e s
+    → Alike (Shown e s₁ s) (stepped e s₁) (whole e s)
+alike (call k lent) s₁ s S h = call-alike k lent s₁ s S h
 alike (write at b) s₁ s S h = record {
   says = refl;
   shows = tt;
@@ -113,6 +129,7 @@ alike (write at b) s₁ s S h = record {
     good = S .good;
     some = S .some;
     regions = S .regions;
-    related = λ k. write-related (S .good .inv k) (h .unit) at (h .held) (h .from) (h .to) (seen (s₁ .control)) (s₁ .area) b (S .related k);
+    related = λ k. write-related (S .good .inv k) (h .unit) at (h .held) (h .from) (h .to) (seen (s₁ .control)) (s₁ .area) b
+        (S .related k);
   };
 }

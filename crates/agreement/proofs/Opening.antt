@@ -11,7 +11,6 @@ use Rattle.limits.specs.Limits.{TASKS, CLASSES, DESCRIPTORS, MOST-BLOCKS}
 use Rattle.rows.specs.Linked.{ends}
 use Rattle.rows.specs.Tests.{same, other, same?}
 use Rattle.rows.specs.Update.{update}
-use Rattle.rows.specs.Weights.{one}
 use Rattle.rows.proofs.Totals.{total-one}
 use Rattle.rows.proofs.Update.{update-same, update-other, update-all}
 use Rattle.rows.proofs.Weights.{when-same}
@@ -22,15 +21,16 @@ use Rattle.words.specs.declared.anchor.Anchor.{Anchor}
 use Rattle.classes.specs.Classes.{perRegion}
 use Rattle.classes.proofs.Tables.{perRegion-high}
 use Rattle.links.specs.Link.{link}
-use Rattle.plain.specs.State.{State, EMPTY, PARTIAL, FULL, Descriptor, Place, idle, a1, popping, pushing, a3-read}
-use Rattle.plain.specs.State.{a3-exchange, a4, a7, a8, f1, f2, f3-read, f3-link, f3-exchange, f4-clear, Mem, Task}
-use Rattle.plain.specs.State.{setTask, setDescriptor, setMap}
+use Rattle.plain.specs.State.{State, EMPTY, PARTIAL, FULL, Descriptor, Place, a7, a8, Mem, Task, setTask, setDescriptor}
+use Rattle.plain.specs.State.{setMap, working}
 use Rattle.plain.specs.Steps as Steps
-use Rattle.plain.specs.Held.{holdsDescriptor}
+use Rattle.plain.specs.Held.{holdsDescriptor, held}
 use Rattle.plain.specs.States.{isEmpty}
 use Rattle.plain.specs.Weights.{spareWeight}
+use Rattle.plain.specs.Noted.{Noted, unnoted, pop-noted, push-noted, anchor-noted, entry-noted, noted}
+use Rattle.plain.specs.Places.{NotedHolds}
 use Rattle.plain.proofs.Owners.{owner}
-use Rattle.plain.proofs.Places.{taskOf, placeHolds}
+use Rattle.plain.proofs.Places.{taskOf}
 use Rattle.plain.proofs.States.{open-not-empty}
 use Rattle.plain.proofs.Turn.{Turn}
 use Rattle.control.specs.Layout
@@ -39,7 +39,7 @@ use Rattle.control.specs.Layout.{DescriptorRegion, DescriptorClass, Map}
 use Rattle.control.specs.Places.{A8}
 use Rattle.stepped.specs.Allocate as Allocate
 use Rattle.agreement.specs.Memory.{Memory, Slot, slotOf, memoryOf}
-use Rattle.agreement.specs.Relation.{DescriptorRelated, SlotRelated, Core, Related, r-a8}
+use Rattle.agreement.specs.Relation.{DescriptorRelated, SlotRelated, Core, Related, r-a8, r-working}
 use Rattle.agreement.proofs.Slots.{toPlace, toChain}
 use Rattle.agreement.proofs.Sets.{withSlots, setSlot, setOwner}
 use Rattle.agreement.proofs.Bridge.{owner-written}
@@ -55,26 +55,14 @@ use Rattle.agreement.proofs.Anchors.{full-parts, full-read}
 
 -- a descriptor that a task noted the anchor of is in its hand, or open
 reads-open : {regions : ℕ} {m : Mem} {j : ℕ} {p : Place} {k : ℕ → List ℕ} (w : Turn regions m j (taskOf p k)) (x : ℕ)
-    → Reads x p → holdsDescriptor x p ≡ 0 → isEmpty (m .descriptor x .state) ≡ 0
-reads-open {p = idle} w x h o = absurd h
-reads-open {p = a1 c} w x h o = absurd h
-reads-open {p = popping p φ} w x h o = absurd h
-reads-open {p = pushing p φ} w x h o = absurd h
-reads-open {p = a3-read c d} w x h o = absurd h
-reads-open {p = a3-exchange c d n} w x h o = absurd (omega (arith, ap (one x) h, when-same x 1))
-reads-open {p = a4 c y q} w x h o = absurd h
-reads-open {p = a7 c d r} w x h o = absurd h
-reads-open {p = a8 c r i} w x h o = absurd h
-reads-open {p = f1 c u} w x h o = absurd h
-reads-open {p = f2 c u g} w x h o = absurd h
-reads-open {p = f3-read c u y g} w x h o = absurd h
-reads-open {m = m} {p = f3-link c u y g d n} w x h o =
-    let f = owner w y d (omega (arith, when-same y 1)) (placeHolds w .3) in
-    rw h (open-not-empty (m .descriptor d .state) (f .counts))
-reads-open {m = m} {p = f3-exchange c u y g d n} w x h o =
-    let f = owner w y d (omega (arith, when-same y 1)) (placeHolds w .3) in
-    rw h (open-not-empty (m .descriptor d .state) (f .counts))
-reads-open {p = f4-clear c u d s r} w x h o = absurd h
+    (n : Noted) → NotedHolds (m .row) (m .won) (m .map) (held p) n → Reads x n → holdsDescriptor x p ≡ 0
+    → isEmpty (m .descriptor x .state) ≡ 0
+reads-open w x unnoted N h o = absurd h
+reads-open w x (pop-noted p φ) N h o = absurd h
+reads-open w x (push-noted p φ) N h o = absurd h
+reads-open {p = p} w x (anchor-noted d n) N h o = absurd (omega (arith, N, ap (λ (z : ℕ). holdsDescriptor z p) h))
+reads-open {m = m} w x (entry-noted y d n) N h o =
+    rw h (open-not-empty (m .descriptor d .state) (owner w y d (N .0) (N .1) .counts))
 
 empty-max : (s : State) → isEmpty s ≤ 1
 empty-max EMPTY = omega arith
@@ -86,7 +74,7 @@ abbrev opened : ℕ → ℕ → Descriptor
 opened r c = record { state = FULL; region = r; class = c; chain = [] }
 
 -- the change over records: the descriptor d is written whole, and the map's entry e of the region r names it
-opening : {regions : ℕ} {a : Memory} {m : Mem} {t c d r : ℕ} {k : ℕ → List ℕ} (w : Pair regions a m t (a7 c d r) k) (e : ℕ)
+opening : {regions : ℕ} {a : Memory} {m : Mem} {t c d r : ℕ} {k : ℕ → List ℕ} (w : Pair regions a m t (working (a7 c d r)) k) (e : ℕ)
     (s : Slot) (T : Task) → c < CLASSES → e ≡ suc d
     → SlotRelated regions (setSlot t s (setOwner d (full (perRegion c)) r c e a))
     (setTask t T (setMap r (suc d) (setDescriptor d (opened r c) m))) s T
@@ -131,7 +119,8 @@ opening {regions} {a} {m} {t} {c} {d} {r} w e s T low i own =
           (descriptor-apart w d j l n (omega (arith, when-same d 1))) in
           absurd (omega (
             arith,
-            reads-open (record { inv = w .turn .inv; fits = l; is = refl }) x h z,
+            reads-open {k = m .task j .cache} (record { inv = w .turn .inv; fits = l; is = refl }) x
+                (noted (m .task j .place)) (w .turn .inv .tasks j l .note) h z,
             ap (λ (y : ℕ). isEmpty (m .descriptor y .state)) f,
           ))));
     })
@@ -159,7 +148,7 @@ opening {regions} {a} {m} {t} {c} {d} {r} w e s T low i own =
     ]
 
 module _ {regions : ℕ} {v : View} {area : List ℕ} {m : Mem} {t : ℕ} {k : ℕ → List ℕ} where
-  pub a7-both : At regions v area m t (a7 (v (TaskClass t)) (v (TaskDescriptor t)) (v (TaskRegion t))) k
+  pub a7-both : At regions v area m t (working (a7 (v (TaskClass t)) (v (TaskDescriptor t)) (v (TaskRegion t)))) k
       → Both regions v area m (Allocate.a7 v (link area) regions t (v (TaskClass t)))
       (Steps.stepAt t k (a7 (v (TaskClass t)) (v (TaskDescriptor t)) (v (TaskRegion t))) m)
   unfolding Allocate.a7
@@ -177,12 +166,12 @@ module _ {regions : ℕ} {v : View} {area : List ℕ} {m : Mem} {t : ℕ} {k : �
         says = refl;
         keeps = (refl, refl);
         rel = shares w
-            (TaskPlace t := A8 ∷ TaskIndex t := 0 ∷ writes) s (a8 c r 0)
+            (TaskPlace t := A8 ∷ TaskIndex t := 0 ∷ writes) s (working (a8 c r 0))
             (setOwner d (full (perRegion c)) r c (d + 1) (memoryOf v area)) (setMap r (suc d) (setDescriptor d (opened r c) m))
-            (opening (w .pair) (d + 1) s (taskOf (a8 c r 0) k) (mine (w .pair) .fits) (add-one d))
+            (opening (w .pair) (d + 1) s (taskOf (working (a8 c r 0)) k) (mine (w .pair) .fits) (add-one d))
             (owner-written v S area d word r c (d + 1)
             ∙ ap (λ (z : Anchor). withSlots S (setOwner d z r c (d + 1) (memoryOf v area))) (full-read c))
-            refl refl (rw (eq-eqb t t refl)) (λ j n. rw (ne-eqb t j n)) refl refl (r-a8 refl);
+            refl refl (rw (eq-eqb t t refl)) (λ j n. rw (ne-eqb t j n)) refl refl (r-working (r-a8 refl));
         sound = omega (
           arith,
           w .pair .turn .fits,

@@ -12,7 +12,7 @@ use Rattle.rows.specs.Linked.{Linked}
 use Rattle.fields.specs.Columns.{Field, View, _:=_, assigned}
 use Rattle.words.specs.Head.{itemOf, headOf, advancedWord}
 use Rattle.words.proofs.Heads.{advancedWord-below}
-use Rattle.plain.specs.State.{Phase, read, next, exchange, Place, idle, popping, pushing, Mem, setRow}
+use Rattle.plain.specs.State.{Phase, read, next, exchange, Place, idle, popping, pushing, Mem, setRow, working}
 use Rattle.plain.specs.State as Plain
 use Rattle.plain.specs.Moves.{Decided, found-empty, popped, lost, going}
 use Rattle.plain.specs.Steps.{top}
@@ -29,8 +29,8 @@ use Rattle.stepped.specs.Steps as Stepped
 use Rattle.stepped.proofs.MovePlaces.{pop-steps}
 use Rattle.agreement.specs.Events.{Recent}
 use Rattle.agreement.specs.Memory.{Slot, Memory, slotOf, memoryOf}
-use Rattle.agreement.specs.Relation.{tail, PopRelated, PushRelated, PlaceRelated}
-use Rattle.agreement.specs.Relation.{r-idle, r-partial, r-spare, r-region, r-back, r-a3-read, r-a7}
+use Rattle.agreement.specs.Relation.{tail, PopRelated, PushRelated, PlaceRelated, r-idle, r-partial, r-spare}
+use Rattle.agreement.specs.Relation.{r-region, r-back, r-a3-read, r-a7, r-working}
 use Rattle.agreement.proofs.Slots.{toPlace, toNext, toDescriptor, toRegion}
 use Rattle.agreement.proofs.Sets.{setSlot, setHead}
 use Rattle.agreement.proofs.Bridge.{head-written}
@@ -39,8 +39,8 @@ use Rattle.agreement.proofs.Couple.{mine}
 use Rattle.stepped.proofs.Conjunction.{both-true}
 use Rattle.agreement.proofs.Both.{Both, pass, by-row, has-top}
 use Rattle.agreement.proofs.Turns.{At, goes}
-use Rattle.agreement.proofs.Heads.{Kind, descriptors, spare-regions, list-of, Won}
-use Rattle.agreement.proofs.Heads.{kept, moves, notes, exchanges, wins}
+use Rattle.agreement.proofs.Heads.{Kind, descriptors, spare-regions, list-of, Won, kept, moves, notes, exchanges}
+use Rattle.agreement.proofs.Heads.{wins}
 
 -- the plain pool's pop, by the reason, the class and the descriptor in hand
 abbrev pub plainPop : Pop → ℕ → ℕ → Plain.Pop
@@ -76,10 +76,10 @@ pop-kind Region regions c h = spare-regions
 -- the place of a pop
 pub pop-place : {regions : ℕ} {a : Memory} {m : Mem} {s : Slot} {φ : Phase} (P : Pop)
     → PopRelated m s (Lists.popPlace P) (Lists.popList P (s .class)) (Lists.popItems P regions) φ
-    → PlaceRelated regions a m s (popping (plainPop P (s .class) (s .hand .descriptor)) φ)
-pop-place Partial h = r-partial h
-pop-place Spare h = r-spare h
-pop-place Region h = r-region h
+    → PlaceRelated regions a m s (working (popping (plainPop P (s .class) (s .hand .descriptor)) φ))
+pop-place Partial h = r-working (r-partial h)
+pop-place Spare h = r-working (r-spare h)
+pop-place Region h = r-working (r-region h)
 
 -- its last place is below 256
 place-max : (P : Pop) → Lists.popPlace P + 2 < 256
@@ -102,19 +102,19 @@ module _ {regions : ℕ} {v : View} {area : List ℕ} {m : Mem} {t : ℕ} {k : �
 
   -- ---- the head read
 
-  found-none : (P : Pop) → At regions v area m t (popping (popOf v t P) read) k
+  found-none : (P : Pop) → At regions v area m t (working (popping (popOf v t P) read)) k
       → Both regions v area m (Lists.whenEmpty v regions t (v (TaskClass t)) P (found-empty (listOf v t P)))
       (Steps.popRead t k (popOf v t P) [] m)
   found-none Partial w =
       let c = v (TaskClass t) in
-      moves w Accepted (found-empty c) POP-SPARE (popping (Plain.spare c) read) (omega arith)
-      (r-spare (PopRelated.at-read refl))
+      moves w Accepted (found-empty c) POP-SPARE (working (popping (Plain.spare c) read)) (omega arith)
+      (r-working (r-spare (PopRelated.at-read refl)))
   found-none Spare w = moves w NoDescriptor (found-empty SPARE-DESCRIPTORS) IDLE idle (omega arith) (r-idle refl)
   found-none Region w =
-      moves w Accepted (found-empty SPARE-REGIONS) PUSH-BACK (pushing (Plain.back (v (TaskClass t)) (v (TaskDescriptor t))) read)
-      (omega arith) (r-back (PushRelated.at-read refl))
+      moves w Accepted (found-empty SPARE-REGIONS) PUSH-BACK (working (pushing (Plain.back (v (TaskClass t)) (v (TaskDescriptor t))) read))
+      (omega arith) (r-working (r-back (PushRelated.at-read refl)))
 
-  pub pop-read : (P : Pop) → At regions v area m t (popping (popOf v t P) read) k
+  pub pop-read : (P : Pop) → At regions v area m t (working (popping (popOf v t P) read)) k
       → Both regions v area m (Lists.popRead v regions t (v (TaskClass t)) P) (Steps.popStep t k (popOf v t P) read m)
   unfolding Lists.popRead
   pop-read P w =
@@ -122,7 +122,7 @@ module _ {regions : ℕ} {v : View} {area : List ℕ} {m : Mem} {t : ℕ} {k : �
       let L = list-of w (kind P w) in
       let item = itemOf (v (Head ℓ)) in
       let items = Lists.popItems P regions in
-      let p′ = popping (popOf v t P) (next (m .won ℓ)) in
+      let p′ = working (popping (popOf v t P) (next (m .won ℓ))) in
       rw (pop-list v t P)
       (by-row (eqb item 0) (λ q. Steps.popRead t k (popOf v t P) q m) (m .row ℓ)
       (λ e. eq-eqb item 0 (L .noted .same refl ∙ ap top e))
@@ -136,7 +136,7 @@ module _ {regions : ℕ} {v : View} {area : List ℕ} {m : Mem} {t : ℕ} {k : �
 
   -- ---- the next read
 
-  pub pop-next : (P : Pop) {n : ℕ} → At regions v area m t (popping (popOf v t P) (next n)) k
+  pub pop-next : (P : Pop) {n : ℕ} → At regions v area m t (working (popping (popOf v t P) (next n))) k
       → PopRelated m (slotOf v t) (Lists.popPlace P) (listOf v t P) (Lists.popItems P regions) (next n)
       → Both regions v area m (Lists.popNext v regions t (v (TaskClass t)) P)
       (Steps.popStep t k (popOf v t P) (next n) m)
@@ -147,7 +147,7 @@ module _ {regions : ℕ} {v : View} {area : List ℕ} {m : Mem} {t : ℕ} {k : �
       let item = itemOf (v (TaskHead t)) in
       let below = v (Lists.popNextField P (item - 1)) in
       let b : below ≤ items = L .nexts (item - 1) (omega arith) in
-      let p′ = popping (popOf v t P) (exchange n) in
+      let p′ = working (popping (popOf v t P) (exchange n)) in
       pass (oneTo items item) (both-true (le-leb 1 item i) (le-leb item items l))
       (pass (leb below items) (le-leb below items b)
       (record {
@@ -186,33 +186,33 @@ module _ {regions : ℕ} {v : View} {area : List ℕ} {m : Mem} {t : ℕ} {k : �
       }
 
   -- won with the item x
-  pop-won : (P : Pop) {n : ℕ} {q : List ℕ} → At regions v area m t (popping (popOf v t P) (exchange n)) k
+  pop-won : (P : Pop) {n : ℕ} {q : List ℕ} → At regions v area m t (working (popping (popOf v t P) (exchange n))) k
       → (x : ℕ) → x < DESCRIPTORS
       → Won v m t (listOf v t P) (Lists.popNextField P) (v (TaskNext t)) q
       → Both regions v area m
       (Lists.whenPopped v regions t (v (TaskClass t)) P x (popped (listOf v t P) x)
       (Head (listOf v t P) := advanced v t ∷ []))
-      (Steps.at t k (Steps.whenPopped (popOf v t P) x) (setRow (listOf v t P) q m), going (popped (listOf v t P) x))
+      (Steps.to t k (Steps.whenPopped (popOf v t P) x) (setRow (listOf v t P) q m), going (popped (listOf v t P) x))
   pop-won Partial w x l W =
       let c = v (TaskClass t) in
-      descriptor-won w (kind Partial w) W (popped c x) x A3-READ (Plain.a3-read c x) l (omega arith) (r-a3-read refl)
+      descriptor-won w (kind Partial w) W (popped c x) x A3-READ (working (Plain.a3-read c x)) l (omega arith) (r-working (r-a3-read refl))
   pop-won Spare w x l W =
-      descriptor-won w (kind Spare w) W (popped SPARE-DESCRIPTORS x) x POP-REGION (popping (Plain.region (v (TaskClass t)) x) read) l
-      (omega arith) (r-region (PopRelated.at-read refl))
+      descriptor-won w (kind Spare w) W (popped SPARE-DESCRIPTORS x) x POP-REGION (working (popping (Plain.region (v (TaskClass t)) x) read)) l
+      (omega arith) (r-working (r-region (PopRelated.at-read refl)))
   pop-won Region w x l W =
       let ws = TaskPlace t := A7 ∷ TaskRegion t := x ∷ Head SPARE-REGIONS := advanced v t ∷ [] in
       record {
         says = refl;
         keeps = (refl, refl);
         rel = wins w (kind Region w) W ws (toPlace A7 (toRegion x (slotOf v t)))
-            (Plain.a7 (v (TaskClass t)) (v (TaskDescriptor t)) x)
+            (working (Plain.a7 (v (TaskClass t)) (v (TaskDescriptor t)) x))
             (head-written v (slotOf (assigned ws v)) area SPARE-REGIONS (advanced v t))
-            (rw (eq-eqb t t refl)) (λ j n. rw (ne-eqb t j n)) refl refl (r-a7 refl);
+            (rw (eq-eqb t t refl)) (λ j n. rw (ne-eqb t j n)) refl refl (r-working (r-a7 refl));
         sound = omega (arith, w .pair .turn .fits, advanced-fits W);
         apart = tt;
       }
 
-  pub pop-exchange : (P : Pop) {n : ℕ} → At regions v area m t (popping (popOf v t P) (exchange n)) k
+  pub pop-exchange : (P : Pop) {n : ℕ} → At regions v area m t (working (popping (popOf v t P) (exchange n))) k
       → PopRelated m (slotOf v t) (Lists.popPlace P) (listOf v t P) (Lists.popItems P regions) (exchange n)
       → m .won (listOf v t P) < n + TAGS
       → Both regions v area m (Lists.popExchange v regions t (v (TaskClass t)) P)
@@ -239,14 +239,14 @@ module _ {regions : ℕ} {v : View} {area : List ℕ} {m : Mem} {t : ℕ} {k : �
       f (sym z) ∙ ap (λ (q : List ℕ). top (tail q)) u ∙ sym (top-of rest) in
       rw (← same) (pop-won P w (item - 1) (omega (arith, L .most))
       (record { tag = g; most = omega (arith, L .most); linked = rw here rest })))))
-      (moves w Accepted (lost ℓ) (Lists.popPlace P) (popping (popOf v t P) read) (omega (arith, place-max P))
+      (moves w Accepted (lost ℓ) (Lists.popPlace P) (working (popping (popOf v t P) read)) (omega (arith, place-max P))
       (pop-place P (PopRelated.at-read refl)))))
 
 -- ---- the step list
 
 -- a step of a pop, at whichever of them it is
 pub pop-both : {regions : ℕ} {v : View} {area : List ℕ} {m : Mem} {t : ℕ} {k : ℕ → List ℕ} {φ : Phase} (link : ℕ → ℕ)
-    (P : Pop) → At regions v area m t (popping (popOf v t P) φ) k
+    (P : Pop) → At regions v area m t (working (popping (popOf v t P) φ)) k
     → PopRelated m (slotOf v t) (Lists.popPlace P) (listOf v t P) (Lists.popItems P regions) φ
     → Recent (m .won (listOf v t P)) φ
     → Both regions v area m (Stepped.stepAt v link regions t (v (TaskClass t)) (v (TaskPlace t)))
@@ -261,10 +261,10 @@ pop-both {regions} {v} {t = t} link P w (PopRelated.at-exchange e N i l b f) nea
 
 -- a step at a place of a pop, from what the relation says of the place
 pub pops : {regions : ℕ} {v : View} {area : List ℕ} {m : Mem} {t : ℕ} {k : ℕ → List ℕ} {p : Plain.Pop} {φ : Phase}
-    (link : ℕ → ℕ) → At regions v area m t (popping p φ) k
-    → PlaceRelated regions (memoryOf v area) m (slotOf v t) (popping p φ) → Recent (m .won (Steps.popList p)) φ
+    (link : ℕ → ℕ) → At regions v area m t (working (popping p φ)) k
+    → PlaceRelated regions (memoryOf v area) m (slotOf v t) (working (popping p φ)) → Recent (m .won (Steps.popList p)) φ
     → Both regions v area m (Stepped.stepAt v link regions t (v (TaskClass t)) (v (TaskPlace t)))
     (Steps.stepAt t k (popping p φ) m)
-pops link w (r-partial h) near = pop-both link Partial w h near
-pops link w (r-spare h) near = pop-both link Spare w h near
-pops link w (r-region h) near = pop-both link Region w h near
+pops link w (r-working (r-partial h)) near = pop-both link Partial w h near
+pops link w (r-working (r-spare h)) near = pop-both link Spare w h near
+pops link w (r-working (r-region h)) near = pop-both link Region w h near

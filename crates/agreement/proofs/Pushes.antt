@@ -13,8 +13,8 @@ use Rattle.rows.proofs.Weights.{when-same}
 use Rattle.fields.specs.Columns.{View, _:=_}
 use Rattle.words.specs.Head.{itemOf}
 use Rattle.words.specs.Anchor.{isState}
-use Rattle.plain.specs.State.{State, EMPTY, PARTIAL, FULL, numberOf, Phase, read, next, exchange}
-use Rattle.plain.specs.State.{Place, idle, popping, pushing, Mem}
+use Rattle.plain.specs.State.{State, EMPTY, PARTIAL, FULL, numberOf, Phase, read, next, exchange, Place, idle, popping}
+use Rattle.plain.specs.State.{pushing, Mem, working}
 use Rattle.plain.specs.State as Plain
 use Rattle.plain.specs.Moves.{pushed, lost}
 use Rattle.plain.specs.Steps as Steps
@@ -28,15 +28,14 @@ use Rattle.stepped.specs.Steps as Stepped
 use Rattle.stepped.proofs.MovePlaces.{push-steps}
 use Rattle.agreement.specs.Events.{Recent}
 use Rattle.agreement.specs.Memory.{Slot, Memory, slotOf, memoryOf}
-use Rattle.agreement.specs.Relation.{PopRelated, PushRelated, PlaceRelated}
-use Rattle.agreement.specs.Relation.{r-idle, r-partial, r-retire, r-back, r-release, r-offer}
+use Rattle.agreement.specs.Relation.{PopRelated, PushRelated, PlaceRelated, r-idle, r-partial, r-retire, r-back}
+use Rattle.agreement.specs.Relation.{r-release, r-offer, r-working}
 use Rattle.agreement.proofs.Slots.{toPlace}
 use Rattle.agreement.proofs.Couple.{mine}
 use Rattle.stepped.proofs.Conjunction.{both-true}
 use Rattle.agreement.proofs.Both.{Both, pass}
 use Rattle.agreement.proofs.Turns.{At}
-use Rattle.agreement.proofs.Heads.{Kind, descriptors, spare-regions, list-of, Won}
-use Rattle.agreement.proofs.Heads.{kept, moves, notes, exchanges}
+use Rattle.agreement.proofs.Heads.{Kind, descriptors, spare-regions, list-of, Won, kept, moves, notes, exchanges}
 use Rattle.agreement.proofs.Nexts.{Holds, next-set, held-below, writes-next}
 use Rattle.agreement.proofs.Putting.{advanced, leads-to, leads-five, leads-six}
 
@@ -73,11 +72,11 @@ pub push-place : {regions : ℕ} {a : Memory} {m : Mem} {s : Slot} {φ : Phase} 
     → Found P (s .hand .state) z
     → PushRelated m s (Lists.pushPlace P) (Lists.pushList P (s .class)) (Lists.pushItems P regions) (inHand P s)
     (pushNexts P a) φ
-    → PlaceRelated regions a m s (pushing (plainPush P (s .class) (s .unit) (s .hand .descriptor) z (s .hand .region)) φ)
-push-place Retire z f h = r-retire h
-push-place Back z f h = r-back h
-push-place Release z f h = r-release f h
-push-place Offer z f h = r-offer h
+    → PlaceRelated regions a m s (working (pushing (plainPush P (s .class) (s .unit) (s .hand .descriptor) z (s .hand .region)) φ))
+push-place Retire z f h = r-working (r-retire h)
+push-place Back z f h = r-working (r-back h)
+push-place Release z f h = r-working (r-release f h)
+push-place Offer z f h = r-working (r-offer h)
 
 -- a state is one of three
 state-max : (was : ℕ) (z : State) → was ≡ numberOf z → was ≤ 2
@@ -134,7 +133,7 @@ next-is v area t Offer = refl
 
 -- the item is held
 item-held : (v : View) (regions t : ℕ) (h : v (TaskClass t) < CLASSES) (z : State) (P : Push) (φ : Phase)
-    → Holds (push-kind P regions (v (TaskClass t)) h) (itemAt v t P) (pushing (pushOf v t z P) φ)
+    → Holds (push-kind P regions (v (TaskClass t)) h) (itemAt v t P) (working (pushing (pushOf v t z P) φ))
 unfolding push-kind
 item-held v regions t h z Retire φ = omega (arith, when-same (v (TaskDescriptor t)) 1)
 item-held v regions t h z Back φ = omega (arith, when-same (v (TaskDescriptor t)) 1)
@@ -148,7 +147,7 @@ module _ {regions : ℕ} {v : View} {area : List ℕ} {m : Mem} {t : ℕ} {k : �
 
   -- ---- the head read
 
-  pub push-read : (P : Push) (z : State) → At regions v area m t (pushing (pushOf v t z P) read) k
+  pub push-read : (P : Push) (z : State) → At regions v area m t (working (pushing (pushOf v t z P) read)) k
       → Found P (v (TaskState t)) z
       → Both regions v area m (Lists.pushRead v regions t (v (TaskClass t)) P)
       (Steps.pushStep t k (pushOf v t z P) read m)
@@ -158,7 +157,7 @@ module _ {regions : ℕ} {v : View} {area : List ℕ} {m : Mem} {t : ℕ} {k : �
       let L = list-of w (kind P w) in
       let item = itemOf (v (Head ℓ)) in
       let items = Lists.pushItems P regions in
-      let p′ = pushing (pushOf v t z P) (next (m .won ℓ)) in
+      let p′ = working (pushing (pushOf v t z P) (next (m .won ℓ))) in
       rw (push-list v t z P)
       (pass (leb item items) (le-leb item items (L .head))
       (notes w ℓ (Lists.pushPlace P + 1) p′ (L .below) (omega (arith, place-max P))
@@ -166,7 +165,7 @@ module _ {regions : ℕ} {v : View} {area : List ℕ} {m : Mem} {t : ℕ} {k : �
 
   -- ---- the next written
 
-  pub push-next : (P : Push) (z : State) {n : ℕ} → At regions v area m t (pushing (pushOf v t z P) (next n)) k
+  pub push-next : (P : Push) (z : State) {n : ℕ} → At regions v area m t (working (pushing (pushOf v t z P) (next n))) k
       → Found P (v (TaskState t)) z
       → PushRelated m (slotOf v t) (Lists.pushPlace P) (listOf v t P) (Lists.pushItems P regions)
       (inHand P (slotOf v t)) (pushNexts P (memoryOf v area)) (next n)
@@ -179,7 +178,7 @@ module _ {regions : ℕ} {v : View} {area : List ℕ} {m : Mem} {t : ℕ} {k : �
       let items = Lists.pushItems P regions in
       let below = itemOf (v (TaskHead t)) in
       let b = Lists.pushPlace P + 2 in
-      let p′ = pushing (pushOf v t z P) (exchange n) in
+      let p′ = working (pushing (pushOf v t z P) (exchange n)) in
       let h = item-held v regions t (mine (w .pair) .fits) z P (next n) in
       pass (ltb x items && leb below items) (both-true (lt-ltb x items (held-below w K x h)) (le-leb below items l))
       (writes-next w K x below b p′ h l (place-max P)
@@ -188,7 +187,7 @@ module _ {regions : ℕ} {v : View} {area : List ℕ} {m : Mem} {t : ℕ} {k : �
 
   -- ---- the exchange
 
-  push-won : (P : Push) (z : State) {n : ℕ} → At regions v area m t (pushing (pushOf v t z P) (exchange n)) k
+  push-won : (P : Push) (z : State) {n : ℕ} → At regions v area m t (working (pushing (pushOf v t z P) (exchange n))) k
       → Found P (v (TaskState t)) z
       → Won v m t (listOf v t P) (Lists.pushNextField P) (itemAt v t P + 1) (itemAt v t P ∷ m .row (listOf v t P))
       → Both regions v area m (Lists.whenPushed v regions t (v (TaskClass t)) P (pushed (listOf v t P) (itemAt v t P))
@@ -196,8 +195,8 @@ module _ {regions : ℕ} {v : View} {area : List ℕ} {m : Mem} {t : ℕ} {k : �
       (Steps.pushPut t k (pushOf v t z P) m)
   push-won Retire z w f W =
       let d = v (TaskDescriptor t) in
-      leads-to w (kind Retire w) d W Accepted (pushed SPARE-DESCRIPTORS d) POP-PARTIAL (popping (Plain.partial (v (TaskClass t))) read)
-      (omega arith) (r-partial (PopRelated.at-read refl))
+      leads-to w (kind Retire w) d W Accepted (pushed SPARE-DESCRIPTORS d) POP-PARTIAL (working (popping (Plain.partial (v (TaskClass t))) read))
+      (omega arith) (r-working (r-partial (PopRelated.at-read refl)))
   push-won Back z w f W =
       let d = v (TaskDescriptor t) in
       leads-to w (kind Back w) d W NoRegion (pushed SPARE-DESCRIPTORS d) IDLE idle (omega arith) (r-idle refl)
@@ -209,7 +208,7 @@ module _ {regions : ℕ} {v : View} {area : List ℕ} {m : Mem} {t : ℕ} {k : �
       let d = v (TaskDescriptor t) in
       leads-six w (kind Offer w) d W (pushed (v (TaskClass t)) d)
 
-  pub push-exchange : (P : Push) (z : State) {n : ℕ} → At regions v area m t (pushing (pushOf v t z P) (exchange n)) k
+  pub push-exchange : (P : Push) (z : State) {n : ℕ} → At regions v area m t (working (pushing (pushOf v t z P) (exchange n))) k
       → Found P (v (TaskState t)) z
       → PushRelated m (slotOf v t) (Lists.pushPlace P) (listOf v t P) (Lists.pushItems P regions)
       (inHand P (slotOf v t)) (pushNexts P (memoryOf v area)) (exchange n)
@@ -238,14 +237,14 @@ module _ {regions : ℕ} {v : View} {area : List ℕ} {m : Mem} {t : ℕ} {k : �
         linked = links (add-one x)
             (subst (λ (h : ℕ). Linked (λ (y : ℕ). v (Lists.pushNextField P y)) suc 0 h (m .row ℓ)) same (L .linked));
       })))
-      (moves w Accepted (lost ℓ) (Lists.pushPlace P) (pushing (pushOf v t z P) read) (omega (arith, place-max P))
+      (moves w Accepted (lost ℓ) (Lists.pushPlace P) (working (pushing (pushOf v t z P) read)) (omega (arith, place-max P))
       (push-place P z f (PushRelated.at-read refl)))))
 
 -- ---- the step list
 
 -- a step of a push, wherever it is
 pub push-both : {regions : ℕ} {v : View} {area : List ℕ} {m : Mem} {t : ℕ} {k : ℕ → List ℕ} {φ : Phase} (link : ℕ → ℕ)
-    (P : Push) (z : State) → At regions v area m t (pushing (pushOf v t z P) φ) k → Found P (v (TaskState t)) z
+    (P : Push) (z : State) → At regions v area m t (working (pushing (pushOf v t z P) φ)) k → Found P (v (TaskState t)) z
     → PushRelated m (slotOf v t) (Lists.pushPlace P) (listOf v t P) (Lists.pushItems P regions) (inHand P (slotOf v t))
     (pushNexts P (memoryOf v area)) φ
     → Recent (m .won (listOf v t P)) φ
@@ -261,11 +260,11 @@ push-both {regions} {v} {t = t} link P z w f (PushRelated.at-exchange e N l g) n
 
 -- a step at a place of a push, from what the relation says of the place; only a release has a state found
 pub pushes : {regions : ℕ} {v : View} {area : List ℕ} {m : Mem} {t : ℕ} {k : ℕ → List ℕ} {p : Plain.Push} {φ : Phase}
-    (link : ℕ → ℕ) → At regions v area m t (pushing p φ) k
-    → PlaceRelated regions (memoryOf v area) m (slotOf v t) (pushing p φ) → Recent (m .won (Steps.pushList p)) φ
+    (link : ℕ → ℕ) → At regions v area m t (working (pushing p φ)) k
+    → PlaceRelated regions (memoryOf v area) m (slotOf v t) (working (pushing p φ)) → Recent (m .won (Steps.pushList p)) φ
     → Both regions v area m (Stepped.stepAt v link regions t (v (TaskClass t)) (v (TaskPlace t)))
     (Steps.stepAt t k (pushing p φ) m)
-pushes link w (r-retire h) near = push-both link Retire EMPTY w tt h near
-pushes link w (r-back h) near = push-both link Back EMPTY w tt h near
-pushes link w (r-release {w = z} f h) near = push-both link Release z w f h near
-pushes link w (r-offer h) near = push-both link Offer EMPTY w tt h near
+pushes link w (r-working (r-retire h)) near = push-both link Retire EMPTY w tt h near
+pushes link w (r-working (r-back h)) near = push-both link Back EMPTY w tt h near
+pushes link w (r-working (r-release {w = z} f h)) near = push-both link Release z w f h near
+pushes link w (r-working (r-offer h)) near = push-both link Offer EMPTY w tt h near

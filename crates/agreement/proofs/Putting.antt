@@ -7,18 +7,18 @@ use borrow.Author.Tests.{eq-eqb, ne-eqb}
 use Rattle.fields.specs.Columns.{Field, View, _:=_, assigned, Sound}
 use Rattle.words.specs.Head.{headOf, advancedWord}
 use Rattle.words.proofs.Heads.{advancedWord-below}
-use Rattle.plain.specs.State.{State, numberOf, read, offer, Place, pushing, f1, f2, Mem, setRow}
+use Rattle.plain.specs.State.{State, numberOf, read, offer, Place, pushing, f1, f2, Mem, setRow, working}
 use Rattle.plain.specs.Moves.{Decided, going}
 use Rattle.plain.specs.Steps as Steps
-use Rattle.control.specs.Layout.{layout, Head, GroupCount, TaskPlace, TaskHead, TaskClass}
-use Rattle.control.specs.Layout.{TaskUnit, TaskDescriptor, TaskState}
+use Rattle.control.specs.Layout.{layout, Head, GroupCount, TaskPlace, TaskHead, TaskClass, TaskUnit, TaskDescriptor}
+use Rattle.control.specs.Layout.{TaskState}
 use Rattle.control.specs.Places.{PUSH-OFFER, F1, F2}
 use Rattle.control.specs.Answers.{codeOf, valueOf}
 use Rattle.control.specs.declared.answer.Answer.{Answer}
 use Rattle.stepped.specs.Outcome.{close}
 use Rattle.stepped.specs.Lists as Lists
 use Rattle.agreement.specs.Memory.{Memory, slotOf, memoryOf}
-use Rattle.agreement.specs.Relation.{PushRelated, PlaceRelated, Related, r-offer, r-f1, r-f2}
+use Rattle.agreement.specs.Relation.{PushRelated, PlaceRelated, Related, r-offer, r-f1, r-f2, r-working}
 use Rattle.agreement.proofs.Slots.{toPlace, toGrouped}
 use Rattle.agreement.proofs.Sets.{setSlot, setHead}
 use Rattle.agreement.proofs.Bridge.{head-written}
@@ -63,26 +63,26 @@ module _ {regions : ℕ} {v : View} {area : List ℕ} {m : Mem} {t : ℕ} {p : P
   -- to step 2 of a free, with a group of none
   leads-f2 : Related regions
       (memoryOf (assigned (TaskPlace t := F2 ∷ GroupCount t := 0 ∷ Head ℓ := advanced v t x ∷ []) v) area)
-      (Steps.at t k (f2 (v (TaskClass t)) (v (TaskUnit t)) []) (setRow ℓ q m))
+      (Steps.at t k (working (f2 (v (TaskClass t)) (v (TaskUnit t)) [])) (setRow ℓ q m))
   leads-f2 =
       let ws = TaskPlace t := F2 ∷ GroupCount t := 0 ∷ Head ℓ := advanced v t x ∷ [] in
-      wins w K W ws (toPlace F2 (toGrouped 0 (slotOf v t))) (f2 (v (TaskClass t)) (v (TaskUnit t)) [])
+      wins w K W ws (toPlace F2 (toGrouped 0 (slotOf v t))) (working (f2 (v (TaskClass t)) (v (TaskUnit t)) []))
       (head-written v (slotOf (assigned ws v)) area ℓ (advanced v t x))
-      (rw (eq-eqb t t refl)) (λ j n. rw (ne-eqb t j n)) refl refl (r-f2 refl refl)
+      (rw (eq-eqb t t refl)) (λ j n. rw (ne-eqb t j n)) refl refl (r-working (r-f2 refl refl))
 
   -- to step 6 of a free
   pub leads-six : (e : Decided)
       → Both regions v area m (Lists.f6 v regions t (v (TaskClass t)) e (Head ℓ := advanced v t x ∷ []))
-      (Steps.at t k (Steps.f6 (k (v (TaskClass t))) (v (TaskClass t)) (v (TaskUnit t))) (setRow ℓ q m), going e)
+      (Steps.to t k (Steps.f6 (k (v (TaskClass t))) (v (TaskClass t)) (v (TaskUnit t))) (setRow ℓ q m), going e)
   leads-six e =
       six w e (Head ℓ := advanced v t x ∷ []) (setRow ℓ q m) (v (TaskUnit t)) exchange-sound (refl, refl)
-      (leads F1 (f1 (v (TaskClass t)) (v (TaskUnit t))) (r-f1 refl)) leads-f2
+      (leads F1 (working (f1 (v (TaskClass t)) (v (TaskUnit t)))) (r-working (r-f1 refl))) leads-f2
 
   -- to step 5
   pub leads-five : (e : Decided) (z : State) → v (TaskState t) ≡ numberOf z
       → Both regions v area m
       (Lists.f5 v regions t (v (TaskClass t)) (v (TaskState t)) e (Head ℓ := advanced v t x ∷ [])) (
-        Steps.at t k (Steps.f5 z (k (v (TaskClass t))) (v (TaskClass t)) (v (TaskUnit t)) (v (TaskDescriptor t)))
+        Steps.to t k (Steps.f5 z (k (v (TaskClass t))) (v (TaskClass t)) (v (TaskUnit t)) (v (TaskDescriptor t)))
             (setRow ℓ q m),
         going e,
       )
@@ -90,5 +90,5 @@ module _ {regions : ℕ} {v : View} {area : List ℕ} {m : Mem} {t : ℕ} {p : P
       let c = v (TaskClass t) in
       let u = v (TaskUnit t) in
       let d = v (TaskDescriptor t) in
-      five w e (Head ℓ := advanced v t x ∷ []) (setRow ℓ q m) u exchange-sound (refl, refl) (leads F1 (f1 c u) (r-f1 refl)) leads-f2
-      (v (TaskState t)) z d f (leads PUSH-OFFER (pushing (offer c u d) read) (r-offer (PushRelated.at-read refl)))
+      five w e (Head ℓ := advanced v t x ∷ []) (setRow ℓ q m) u exchange-sound (refl, refl) (leads F1 (working (f1 c u)) (r-working (r-f1 refl))) leads-f2
+      (v (TaskState t)) z d f (leads PUSH-OFFER (working (pushing (offer c u d) read)) (r-working (r-offer (PushRelated.at-read refl))))

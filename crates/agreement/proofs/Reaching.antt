@@ -16,7 +16,7 @@ use Rattle.agreement.proofs.OneEvent.{alike}
 reached : {h : History} {s₁ : Memories} {s : Pool} → Reached h s₁ s → Tied s₁ s × NotedStates (s₁ .control)
 unfolding Plain.call
 reached (from-unstarted U) = (unstarted-tied U, λ k. absurd (omega (arith, U .tasks)))
-reached (from-start s₁ s area tasks a t) = (accepted-start s₁ s area tasks a t .tied, accepted-noted s₁ area tasks a t)
+reached (from-start s₁ s b area a t) = (accepted-start s₁ s b area a t .tied, accepted-noted s₁ b area a t)
 reached (by-event {s₁ = s₁} {s = s} R e p) =
     let T = reached R in
     (alike e s₁ s (T .0) p .tied, event-noted e s₁ (T .0 .length) (T .0 .bytes) (T .1))

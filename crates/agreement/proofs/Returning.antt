@@ -14,20 +14,20 @@ use Rattle.links.specs.Link.{link}
 use Rattle.words.specs.Anchor.{anchorOf}
 use Rattle.classes.specs.Classes.{perRegion}
 use Rattle.classes.specs.Places.{regionOf}
-use Rattle.plain.specs.State.{Mem, Note, f3-read, f3-link, f3-exchange}
+use Rattle.plain.specs.State.{Mem, Note, f3-read, f3-link, f3-exchange, working}
 use Rattle.plain.specs.Moves.{going, nothing}
-use Rattle.plain.specs.Steps.{noted}
+use Rattle.plain.specs.Steps.{noteOf}
 use Rattle.plain.specs.Steps as Steps
 use Rattle.plain.proofs.Owners.{home-of, owner}
 use Rattle.plain.proofs.Places.{placeHolds, taskOf}
 use Rattle.plain.proofs.Groups as Joined
 use Rattle.plain.proofs.States.{open-holds}
-use Rattle.control.specs.Layout.{Anchor, GroupCount, GroupLast, Map, TaskAnchor, TaskClass, TaskDescriptor}
-use Rattle.control.specs.Layout.{TaskPlace, TaskRegion, TaskUnit}
+use Rattle.control.specs.Layout.{Anchor, GroupCount, GroupLast, Map, TaskAnchor, TaskClass, TaskDescriptor, TaskPlace}
+use Rattle.control.specs.Layout.{TaskRegion, TaskUnit}
 use Rattle.control.specs.Places.{F3-LINK, F3-EXCHANGE}
 use Rattle.stepped.specs.Free as Free
 use Rattle.agreement.specs.Memory.{slotOf, memoryOf}
-use Rattle.agreement.specs.Relation.{GroupRelated, NoteRelated, r-f3-exchange, r-f3-link}
+use Rattle.agreement.specs.Relation.{GroupRelated, NoteRelated, r-f3-exchange, r-f3-link, r-working}
 use Rattle.agreement.proofs.Slots.{toPlace, toAnchor, toDescriptor}
 use Rattle.agreement.proofs.Blocks.{cache-agrees, mine-apart, mine-under, re-link, row-agrees, wrote}
 use Rattle.stepped.proofs.Conjunction.{both-true}
@@ -42,7 +42,7 @@ use Rattle.agreement.proofs.Groups.{region-below}
 module _ {regions : ℕ} {v : View} {area : List ℕ} {m : Mem} {t : ℕ} {k : ℕ → List ℕ} {y : ℕ} {g : List ℕ} where
   -- ---- the read
 
-  module _ (w : At regions v area m t (f3-read (v (TaskClass t)) (v (TaskUnit t)) y g) k) where
+  module _ (w : At regions v area m t (working (f3-read (v (TaskClass t)) (v (TaskUnit t)) y g)) k) where
     -- the group and the chain are no more than the region's blocks
     group-fits : (d : ℕ) → m .map (regionOf y) ≡ suc d
         → length (y ∷ (g ++ m .descriptor d .chain)) ≤ perRegion (v (TaskClass t))
@@ -52,7 +52,7 @@ module _ {regions : ℕ} {v : View} {area : List ℕ} {m : Mem} {t : ℕ} {k : �
     -- the anchor of the descriptor d
     read-of : (d : ℕ) → m .map (regionOf y) ≡ suc d → GroupRelated (memoryOf v area) (slotOf v t) y g
         → Both regions v area m (Free.f3ReadOf v (link area) regions t (v (TaskClass t)) d (v (GroupCount t)))
-        (Steps.at t k (f3-link (v (TaskClass t)) (v (TaskUnit t)) y g d (noted (m .descriptor d))) m, going nothing)
+        (Steps.at t k (working (f3-link (v (TaskClass t)) (v (TaskUnit t)) y g d (noteOf (m .descriptor d)))) m, going nothing)
     unfolding Free.f3ReadOf
     read-of d e G =
         let c = v (TaskClass t) in
@@ -69,14 +69,14 @@ module _ {regions : ℕ} {v : View} {area : List ℕ} {m : Mem} {t : ℕ} {k : �
           keeps = (refl, refl);
           rel = goes w (TaskPlace t := F3-LINK ∷ TaskDescriptor t := d ∷ TaskAnchor t := v (Anchor d) ∷ [])
               (toPlace F3-LINK (toDescriptor d (toAnchor (anchorOf (v (Anchor d))) (slotOf v t))))
-              (f3-link c (v (TaskUnit t)) y g d (noted (m .descriptor d)))
+              (working (f3-link c (v (TaskUnit t)) y g d (noteOf (m .descriptor d))))
               refl (rw (eq-eqb t t refl)) (λ j n. rw (ne-eqb t j n)) refl refl
-              (r-f3-link refl (same-group refl refl refl refl G) (re-note refl refl N) l);
+              (r-working (r-f3-link refl (same-group refl refl refl refl G) (re-note refl refl N) l));
           sound = omega (arith, w .pair .turn .fits, F .fits, w .fitting (Anchor d) (omega (arith, F .fits)));
           apart = tt;
         })
 
-  pub f3-read-both : At regions v area m t (f3-read (v (TaskClass t)) (v (TaskUnit t)) y g) k
+  pub f3-read-both : At regions v area m t (working (f3-read (v (TaskClass t)) (v (TaskUnit t)) y g)) k
       → GroupRelated (memoryOf v area) (slotOf v t) y g
       → Both regions v area m (Free.f3Read v (link area) regions t (v (TaskClass t)))
       (Steps.stepAt t k (f3-read (v (TaskClass t)) (v (TaskUnit t)) y g) m)
@@ -98,7 +98,7 @@ module _ {regions : ℕ} {v : View} {area : List ℕ} {m : Mem} {t : ℕ} {k : �
   -- ---- the last link
 
   pub f3-link-both : {n : Note}
-      → At regions v area m t (f3-link (v (TaskClass t)) (v (TaskUnit t)) y g (v (TaskDescriptor t)) n) k
+      → At regions v area m t (working (f3-link (v (TaskClass t)) (v (TaskUnit t)) y g (v (TaskDescriptor t)) n)) k
       → GroupRelated (memoryOf v area) (slotOf v t) y g
       → NoteRelated m (v (TaskClass t)) (v (TaskDescriptor t)) n (anchorOf (v (TaskAnchor t)))
       → v (GroupCount t) + anchorOf (v (TaskAnchor t)) .count ≤ perRegion (v (TaskClass t))
@@ -118,7 +118,7 @@ module _ {regions : ℕ} {v : View} {area : List ℕ} {m : Mem} {t : ℕ} {k : �
       let z : 0 + anchorOf a .count ≤ perRegion c = omega arith in
       let wr = wrote (w .pair) l x lu (omega (arith, note-max N)) in
       let s = toPlace F3-EXCHANGE (slotOf v t) in
-      let p = f3-exchange c (v (TaskUnit t)) y g (v (TaskDescriptor t)) n in
+      let p = working (f3-exchange c (v (TaskUnit t)) y g (v (TaskDescriptor t)) n) in
       pass _ (both-true (both-true (both-true
       (lt-ltb (v (TaskRegion t)) regions (region-below (w .pair) G (λ z. omega arith) refl (o .2)))
       (lt-ltb (v (GroupLast t)) (perRegion c) (last-below (w .pair) G (λ z. omega arith) refl (o .2))))
@@ -130,7 +130,7 @@ module _ {regions : ℕ} {v : View} {area : List ℕ} {m : Mem} {t : ℕ} {k : �
             (record { shared = refl; own = rw (eq-eqb t t refl); others = λ j d. rw (ne-eqb t j d) })
             (mine-under (w .pair) l lu .0)
             (re-link (w .pair) _ _ s p (λ e i. cache-agrees (w .pair) l x lu e i) refl refl
-            (r-f3-exchange refl (record {
+            (r-working (r-f3-exchange refl (record {
               front = G .front;
               last = l;
               is = G .is;
@@ -138,7 +138,7 @@ module _ {regions : ℕ} {v : View} {area : List ℕ} {m : Mem} {t : ℕ} {k : �
               lastIs = G .lastIs;
               counts = G .counts;
               region = G .region;
-            }) (re-note refl refl N) b wr)));
+            }) (re-note refl refl N) b wr))));
         sound = omega (arith, w .pair .turn .fits);
         apart = (rw (L .at) (mine-apart (w .pair) l (mine-under (w .pair) l lu .0)), tt);
       })

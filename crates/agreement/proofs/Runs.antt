@@ -9,17 +9,20 @@ use Rattle.limits.specs.Limits.{UNIT-BYTES, TAGS}
 use Rattle.rows.specs.Branch.{both}
 use Rattle.classes.specs.Classes.{block}
 use Rattle.classes.specs.Places.{unitOf, regionOf, indexOf}
-use Rattle.plain.specs.State.{Phase, read, next, exchange, Place, idle, a1, popping, pushing, a3-read, a3-exchange}
-use Rattle.plain.specs.State.{a4, a7, a8, f1, f2, f3-read, f3-link, f3-exchange, f4-clear, Mem}
+use Rattle.plain.specs.State.{Phase, read, next, exchange}
+use Rattle.plain.specs.Noted.{Noted, unnoted, pop-noted, push-noted, anchor-noted, entry-noted, noted}
 use Rattle.plain.specs.Moves.{Answer}
 use Rattle.plain.specs.Steps.{popList, pushList}
-use Rattle.plain.specs.Calls.{Pool, unstarted}
 use Rattle.plain.specs.Calls as Plain
+use Rattle.plain.specs.Calls.{Pool, Start, unstarted, Call, start, allocate, free, step, Lengths}
 use Rattle.plain.specs.Codes.{AtMost}
+use Rattle.plain.specs.Held.{held}
 use Rattle.plain.proofs.Answers.{most}
 use Rattle.stepped.specs.Outcome.{Memories}
-use Rattle.agreement.specs.Events.{Event, start, allocate, free, go, write, stepped, whole, Recent, Near}
-use Rattle.agreement.specs.Events.{classThere, Premises, Unstarted}
+use Rattle.agreement.specs.Events.{Event, write, stepped, whole, Recent, Near, classThere}
+use Rattle.agreement.specs.Events.{Premises, Unstarted, call, CallPremise}
+use Rattle.stepped.specs.Calls.{lengths}
+use Rattle.agreement.specs.Reached.{starting}
 use Rattle.agreement.specs.Agreement.{Agree}
 use Rattle.agreement.proofs.Theorem.{agreement, agreement-from-start}
 
@@ -47,11 +50,11 @@ pub answered : (es : List Event) (s₁ : Memories) → Unstarted s₁ → Premis
 answered es s₁ U p = same-answers es s₁ unstarted (agreement es s₁ U p)
 
 -- the same from an accepted start on any memories
-pub answered-from-start : (es : List Event) (s₁ : Memories) (s : Pool) (area : List ℕ) (tasks : ℕ)
-    → Plain.Area (length area) → Plain.Tasks tasks → Premises es (whole (start 8192 area tasks) s .0)
-    → steppedAnswers (start 8192 area tasks ∷ es) s₁ ≡ wholeAnswers (start 8192 area tasks ∷ es) s
-answered-from-start es s₁ s area tasks a t p =
-    same-answers (start 8192 area tasks ∷ es) s₁ s (agreement-from-start es s₁ s area tasks a t p)
+pub answered-from-start : (es : List Event) (s₁ : Memories) (s : Pool) (b : Start) (area : List ℕ) → Plain.Area (length area)
+    → Plain.Tasks (b .tasks) → Premises es (whole (starting b area) s .0)
+    → steppedAnswers (starting b area ∷ es) s₁ ≡ wholeAnswers (starting b area ∷ es) s
+answered-from-start es s₁ s b area a t p =
+    same-answers (starting b area ∷ es) s₁ s (agreement-from-start es s₁ s b area a t p)
 
 -- the plain pool after a list of events
 abbrev pub after : List Event → Pool → Pool
@@ -66,22 +69,20 @@ recent won read h = tt
 recent won (next n) h = tt
 recent won (exchange n) h = omega arith
 
-near : (m : Mem) (p : Place) → ((ℓ : ℕ) → m .won ℓ < TAGS) → Near m p
-near m idle h = tt
-near m (a1 c) h = tt
-near m (popping p φ) h = recent (m .won (popList p)) φ (h (popList p))
-near m (pushing p φ) h = recent (m .won (pushList p)) φ (h (pushList p))
-near m (a3-read c d) h = tt
-near m (a3-exchange c d n) h = tt
-near m (a4 c x q) h = tt
-near m (a7 c d r) h = tt
-near m (a8 c r i) h = tt
-near m (f1 c u) h = tt
-near m (f2 c u g) h = tt
-near m (f3-read c u y g) h = tt
-near m (f3-link c u y g d n) h = tt
-near m (f3-exchange c u y g d n) h = tt
-near m (f4-clear c u d w r) h = tt
+near : (won : ℕ → ℕ) (n : Noted) → ((ℓ : ℕ) → won ℓ < TAGS) → Near won n
+near won unnoted h = tt
+near won (pop-noted p φ) h = recent (won (popList p)) φ (h (popList p))
+near won (push-noted p φ) h = recent (won (pushList p)) φ (h (pushList p))
+near won (anchor-noted d n) h = tt
+near won (entry-noted y d n) h = tt
+
+-- so no call of a pool whose lists have won so few exchanges fails its premise
+call-near : (k : Call) (lent : Lengths) (s : Pool) → (1 ≤ s .tasks → (ℓ : ℕ) → s .mem .won ℓ < TAGS)
+    → CallPremise k lent s
+call-near (start b) lent s h = tt
+call-near (allocate t size) lent s h = tt
+call-near (free t u) lent s h = tt
+call-near (step t) lent s h = λ T. near (s .mem .won) (noted (s .mem .task t .place)) (h (T .started))
 
 -- ---- the premise on users' writes
 
@@ -98,19 +99,13 @@ HeldAt at s =
 -- every write of the list is into a block in a user's hands
 abbrev pub Writes : List Event → Pool → Type 0
 Writes [] s = Unit {0}
-Writes (start control area tasks ∷ es) s = Writes es (whole (start control area tasks) s .0)
-Writes (allocate control area t size ∷ es) s = Writes es (whole (allocate control area t size) s .0)
-Writes (free control area t u ∷ es) s = Writes es (whole (free control area t u) s .0)
-Writes (go control area t ∷ es) s = Writes es (whole (go control area t) s .0)
+Writes (call k lent ∷ es) s = Writes es (whole (call k lent) s .0)
 Writes (write at b ∷ es) s = HeldAt at s × Writes es s
 
 -- whether it is so is found by running the plain pool
 unfoldable pub writes? : (es : List Event) (s : Pool) → Dec (Writes es s)
 writes? [] s = yes tt
-writes? (start control area tasks ∷ es) s = writes? es (whole (start control area tasks) s .0)
-writes? (allocate control area t size ∷ es) s = writes? es (whole (allocate control area t size) s .0)
-writes? (free control area t u ∷ es) s = writes? es (whole (free control area t u) s .0)
-writes? (go control area t ∷ es) s = writes? es (whole (go control area t) s .0)
+writes? (call k lent ∷ es) s = writes? es (whole (call k lent) s .0)
 writes? (write at b ∷ es) s =
     let u = blockAt at s in
     both
@@ -132,15 +127,9 @@ found (no n) h = absurd h
 -- ask is that of the writes. No list of the pool s has won more than n exchanges.
 pub short : (n : ℕ) (es : List Event) (s : Pool) → AtMost n s → n + length es ≤ TAGS → Writes es s → Premises es s
 short n [] s a l w = tt
-short n (start control area tasks ∷ es) s a l w =
-    (tt, short (suc n) es _ (most n (Plain.start control (length area) tasks) s a) (omega arith) w)
-short n (allocate control area t size ∷ es) s a l w =
-    (tt, short (suc n) es _ (most n (Plain.allocate control area t size) s a) (omega arith) w)
-short n (free control area t u ∷ es) s a l w =
-    (tt, short (suc n) es _ (most n (Plain.free control area t u) s a) (omega arith) w)
-short n (go control area t ∷ es) s a l w = (
-  λ T. near (s .mem) (s .mem .task t .place) (λ ℓ. omega (arith, a (T .started) ℓ)),
-  short (suc n) es _ (most n (Plain.go control area t) s a) (omega arith) w,
+short n (call k lent ∷ es) s a l w = (
+  call-near k (lengths lent) s (λ h ℓ. omega (arith, a h ℓ)),
+  short (suc n) es _ (most n k (lengths lent) s a) (omega arith) w,
 )
 short n (write at b ∷ es) s a l w = (
   record {

@@ -18,14 +18,14 @@ use Rattle.fields.proofs.Layouts.{length-written, bytes-written}
 use Rattle.links.specs.Link.{linked}
 use Rattle.plain.specs.Moves.{Answer}
 use Rattle.plain.specs.Steps.{Result}
-use Rattle.plain.specs.Calls.{Pool}
+use Rattle.plain.specs.Calls.{Pool, Lengths}
 use Rattle.plain.specs.Calls as Plain
 use Rattle.plain.specs.Invariant.{Good}
+use Rattle.plain.specs.Held.{held}
 use Rattle.control.specs.Layout.{layout, Tasks, Regions, seen, changed}
 use Rattle.control.proofs.Fields.{seen-changed}
-use Rattle.stepped.specs.Outcome.{Outcome, effect, refuse}
+use Rattle.stepped.specs.Outcome.{Outcome, effect, refuse, Memories}
 use Rattle.stepped.specs.Calls as Stepped
-use Rattle.stepped.specs.Outcome.{Memories}
 use Rattle.agreement.specs.Events.{ran, Taken}
 use Rattle.agreement.specs.Tied.{Tied}
 use Rattle.agreement.specs.Agreement.{Kept}
@@ -77,15 +77,16 @@ module _ {s₁ : Memories} {s : Pool} (S : Tied s₁ s) where
 
   -- ---- tests 1, 4, 2, 5
 
-  module _ (control area t : ℕ) (x : Outcome) (y : Result) (g : Taken control area t s → Good (Plain.became s y .0))
-      (both : Taken control area t s → Both (s .regions) v (s₁ .area) (s .mem) x y) where
+  module _ (control area t : ℕ) (x : Outcome) (y : Result)
+      (g : Taken (record { control = control; area = area }) t s → Good (Plain.became s y .0))
+      (both : Taken (record { control = control; area = area }) t s → Both (s .regions) v (s₁ .area) (s .mem) x y) where
     abbrev Run : Outcome → Memories × Answer
     Run o = ran (effect o (s₁ .control) (s₁ .area))
 
     test-five : control ≡ CONTROL-BYTES → 1 ≤ s .tasks → area ≡ REGION-BYTES * s .regions → (d : Dec (t < s .tasks))
         → Alike (Kept s₁ s) (Run (cond (ltb t (v Tasks)) x (refuse 5))) (if d (Plain.became s y) (Plain.refuse 5 s))
     test-five p q r (yes l) =
-        let T : Taken control area t s = record { control-is = p; started = q; area-is = r; below = l } in
+        let T : Taken (record { control = control; area = area }) t s = record { control-is = p; started = q; area-is = r; below = l } in
         rw (S .tasks, lt-ltb t (s .tasks) l) (moves x y q (g T) (both T))
     test-five p q r (no l) = rw (S .tasks, le-ltb t (s .tasks) (omega arith)) (stays (Kept s₁ s) (λ at k. refl) 5)
 
@@ -125,8 +126,9 @@ module _ {s₁ : Memories} {s : Pool} (S : Tied s₁ s) where
     tested-alike (no e) = rw (ne-eqb control CONTROL-BYTES e) (stays (Kept s₁ s) (λ at k. refl) 1)
 
 -- a call that passes the tests does what follows them
-pub taken-is : {control area t : ℕ} {s : Pool} (y : Result) → Taken control area t s → Plain.tested control area t s y ≡ Plain.became s y
-taken-is {control} {area} {t} {s} y T =
-    if-yes (ℕ-discrete control CONTROL-BYTES) _ _ (T .control-is)
+pub taken-is : {lent : Lengths} {t : ℕ} {s : Pool} (y : Result) → Taken lent t s → Plain.tested t lent s y ≡ Plain.became s y
+taken-is {lent} {t} {s} y T =
+    if-yes (ℕ-discrete (lent .control) CONTROL-BYTES) _ _ (T .control-is)
     ∙ if-no (ℕ-discrete (s .tasks) 0) _ _ (λ e. absurd (omega (arith, T .started)))
-    ∙ if-yes (ℕ-discrete area (REGION-BYTES * s .regions)) _ _ (T .area-is) ∙ if-yes (decLt t (s .tasks)) _ _ (T .below)
+    ∙ if-yes (ℕ-discrete (lent .area) (REGION-BYTES * s .regions)) _ _ (T .area-is)
+    ∙ if-yes (decLt t (s .tasks)) _ _ (T .below)

@@ -13,24 +13,23 @@ use Rattle.rows.proofs.Branch.{if-yes}
 use Rattle.fields.specs.Columns.{Field, at, width, Has, Sound}
 use Rattle.fields.proofs.Layouts.{length-written, bytes-written}
 use Rattle.plain.specs.Moves.{going, nothing}
-use Rattle.plain.specs.Calls.{Pool}
+use Rattle.plain.specs.Calls.{Pool, Start}
 use Rattle.control.specs.declared.answer.Answer.the-variants.{Accepted}
 use Rattle.plain.specs.Calls as Plain
 use Rattle.plain.specs.Invariant.{Good}
 use Rattle.plain.proofs.Starts.{start-inv}
-use Rattle.control.specs.Layout.{CACHES, layout, Tasks, Regions, seen, DescriptorNext, RegionNext, Top}
-use Rattle.control.specs.Layout.{CACHES, descriptorNexts, regionNexts, cacheTops}
+use Rattle.control.specs.Layout.{CACHES, layout, Tasks, Regions, seen, DescriptorNext, RegionNext, Top, descriptorNexts}
+use Rattle.control.specs.Layout.{regionNexts, cacheTops}
 use Rattle.control.proofs.Fields.{seen-changed}
-use Rattle.stepped.specs.Outcome.{effect, refuse}
+use Rattle.stepped.specs.Outcome.{effect, refuse, Memories}
 use Rattle.stepped.specs.Ranges.{oneTo}
 use Rattle.stepped.specs.Start.{fill, nextUp, startWrites, startImage}
 use Rattle.stepped.specs.Calls as Stepped
-use Rattle.stepped.specs.Outcome.{Memories}
-use Rattle.agreement.specs.Events.{ran, startOn}
+use Rattle.agreement.specs.Events.{ran, stepped}
+use Rattle.agreement.specs.Reached.{starting}
 use Rattle.fields.proofs.Layouts.{assigned-same}
 use Rattle.agreement.proofs.Images.{getLE-zeros, zeros, fill-sound, append-sound}
-use Rattle.agreement.proofs.Starts.{zeroed, startView, start-view, at-tasks, at-regions, next-max}
-use Rattle.agreement.proofs.Starts.{start-related}
+use Rattle.agreement.proofs.Starts.{zeroed, startView, start-view, at-tasks, at-regions, next-max, start-related}
 use Rattle.agreement.proofs.Views.{views-related}
 use Rattle.agreement.specs.Tied.{Tied}
 use Rattle.agreement.proofs.Simulation.{Alike, stays}
@@ -126,7 +125,7 @@ module _ {s₁ : Memories} {s : Pool} (S : Tied s₁ s) (control : ℕ) (area : 
   ]
 
   pub start-alike : (d : Dec (control ≡ CONTROL-BYTES)) → (Plain.Area bytes → Plain.Tasks tasks → Good (new tasks (bytes / REGION-BYTES)))
-      → Alike (λ z. Unit {0}) (startOn control area tasks s₁)
+      → Alike (λ z. Unit {0}) (ran (Stepped.startIn control area tasks (s₁ .control) (s₁ .area)))
       (if d
       (if (Plain.area? bytes) (if (Plain.tasks? tasks) (new tasks (bytes / REGION-BYTES), going nothing) (Plain.refuse 3 s)) (Plain.refuse 2 s))
       (Plain.refuse 1 s))
@@ -135,10 +134,11 @@ module _ {s₁ : Memories} {s : Pool} (S : Tied s₁ s) (control : ℕ) (area : 
   start-alike (no e) g = rw (ne-eqb control CONTROL-BYTES e) (stays S (λ z. Unit {0}) tt 1)
 
 -- an accepted start, whatever was before: the control memory may have looked like a started pool, or have held anything
-pub accepted-start : (s₁ : Memories) (s : Pool) (area : List ℕ) (tasks : ℕ) → Plain.Area (length area) → Plain.Tasks tasks
-    → Alike (λ z. Unit {0}) (startOn CONTROL-BYTES area tasks s₁) (Plain.startCall CONTROL-BYTES (length area) tasks s)
+pub accepted-start : (s₁ : Memories) (s : Pool) (b : Start) (area : List ℕ) → Plain.Area (length area) → Plain.Tasks (b .tasks)
+    → Alike (λ z. Unit {0}) (stepped (starting b area) s₁) (Plain.startCall b (record { control = CONTROL-BYTES; area = length area }) s)
 unfolding Stepped.startIn
-accepted-start s₁ s area tasks a t =
+accepted-start s₁ s b area a t =
+    let tasks = b .tasks in
     let regions = length area / REGION-BYTES in
     rw (
       eq-eqb (length area % REGION-BYTES) 0 (a .0),

@@ -1,26 +1,27 @@
 -- One step of one task, in both pools, wherever it is in the step list.
-use mathlib.Core.Path.{_≡_, refl}
+use mathlib.Core.Path.{refl}
 use mathlib.Core.List.{List}
 use Prim.Native.Nat.{ℕ, _≤_, _<_}
 use native.Mathlib.Omega.{arith}
-use borrow.Author.Tests.{lt-ltb, ltb-false}
+use borrow.Author.Tests.{lt-ltb, ltb-false, ltb-true}
 use lib.Dec.{ltb}
 use Rattle.limits.specs.Limits.{REGIONS, TASKS, CLASSES}
 use Rattle.fields.specs.Columns.{View}
 use Rattle.links.specs.Link.{link}
-use Rattle.plain.specs.State.{EMPTY, Place, Mem}
+use Rattle.plain.specs.State.{EMPTY, Place, Mem, Work, working}
 use Rattle.plain.specs.Steps as Steps
 use Rattle.plain.specs.Invariant.{Invariant}
+use Rattle.plain.specs.Noted.{notedAt, noted}
 use Rattle.control.specs.Layout.{TaskPlace, TaskClass}
 use Rattle.control.specs.Places.{IDLE}
 use Rattle.control.specs.declared.moves.Pop.the-variants.{Partial, Spare, Region}
 use Rattle.control.specs.declared.moves.Push.the-variants.{Retire, Back, Release, Offer}
-use Rattle.stepped.specs.Outcome.{refuse}
 use Rattle.stepped.specs.Steps as Stepped
 use Rattle.agreement.specs.Memory.{slotOf, memoryOf}
 use Rattle.agreement.specs.Relation.{PlaceRelated, r-idle, r-a1, r-partial, r-spare, r-region, r-retire, r-back}
 use Rattle.agreement.specs.Relation.{r-release, r-offer, r-a3-read, r-a3-exchange, r-a4, r-a7, r-a8, r-f1, r-f2}
 use Rattle.agreement.specs.Relation.{r-f2-more, r-f3-read, r-f3-link, r-f3-exchange, r-f4-clear, Related}
+use Rattle.agreement.specs.Relation.{WorkRelated, r-working}
 use Rattle.agreement.specs.Events
 use Rattle.agreement.proofs.Both.{Both, Fitting, pass, choose}
 use Rattle.agreement.proofs.Turns.{At}
@@ -36,48 +37,52 @@ use Rattle.agreement.proofs.Grouping.{f2-both, f2-more-both}
 use Rattle.agreement.proofs.Returning.{f3-read-both, f3-link-both}
 use Rattle.agreement.proofs.Exchanging.{f3-exchange-both}
 use Rattle.agreement.proofs.Clearing.{f4-clear-both}
+use Rattle.agreement.proofs.WorkPlaces.{work-place}
 
 module _ {regions : ℕ} {v : View} {area : List ℕ} {m : Mem} {t : ℕ} {k : ℕ → List ℕ} where
-  by-place : {p : Place} → At regions v area m t p k → PlaceRelated regions (memoryOf v area) m (slotOf v t) p → Events.Near m p
+  work-both : {p : Work} → At regions v area m t (working p) k → WorkRelated regions (memoryOf v area) m (slotOf v t) p
+      → Events.Near (m .won) (notedAt p)
       → Both regions v area m (Stepped.stepAt v (link area) regions t (v (TaskClass t)) (v (TaskPlace t))) (Steps.stepAt t k p m)
   unfolding Stepped.stepAt
-  by-place w (r-idle e) n = rw e (refusal (w .pair .rel) 7)
-  by-place w (r-a1 e) n = rw e (a1-both w)
-  by-place w (r-partial h) n = pop-both (link area) Partial w h n
-  by-place w (r-spare h) n = pop-both (link area) Spare w h n
-  by-place w (r-region h) n = pop-both (link area) Region w h n
-  by-place w (r-retire h) n = push-both (link area) Retire EMPTY w tt h n
-  by-place w (r-back h) n = push-both (link area) Back EMPTY w tt h n
-  by-place w (r-release {w = z} e h) n = push-both (link area) Release z w e h n
-  by-place w (r-offer h) n = push-both (link area) Offer EMPTY w tt h n
-  by-place w (r-a3-read e) n = rw e (a3-read-both w)
-  by-place w (r-a3-exchange e N i j l o) n = rw e (a3-exchange-both w N i j l o)
-  by-place w (r-a4 e l i h) n = rw e (a4-both w e l i h)
-  by-place w (r-a7 e) n = rw e (a7-both w)
-  by-place w (r-a8 e) n = rw e (a8-both w e)
-  by-place w (r-f1 e) n = rw e (f1-both w)
-  by-place w (r-f2 e z) n = rw e (f2-both w e z)
-  by-place w (r-f2-more e G) n = rw e (f2-more-both w e G)
-  by-place w (r-f3-read e G) n = rw e (f3-read-both w G)
-  by-place w (r-f3-link e G N l) n = rw e (f3-link-both w G N l)
-  by-place w (r-f3-exchange e G N l i) n = rw e (f3-exchange-both w G N l i)
-  by-place w (r-f4-clear e i) n = rw e (f4-clear-both w i)
+  work-both w (r-a1 e) n = rw e (a1-both w)
+  work-both w (r-partial h) n = pop-both (link area) Partial w h n
+  work-both w (r-spare h) n = pop-both (link area) Spare w h n
+  work-both w (r-region h) n = pop-both (link area) Region w h n
+  work-both w (r-retire h) n = push-both (link area) Retire EMPTY w tt h n
+  work-both w (r-back h) n = push-both (link area) Back EMPTY w tt h n
+  work-both w (r-release {w = z} e h) n = push-both (link area) Release z w e h n
+  work-both w (r-offer h) n = push-both (link area) Offer EMPTY w tt h n
+  work-both w (r-a3-read e) n = rw e (a3-read-both w)
+  work-both w (r-a3-exchange e N i j l o) n = rw e (a3-exchange-both w N i j l o)
+  work-both w (r-a4 e l i h) n = rw e (a4-both w e l i h)
+  work-both w (r-a7 e) n = rw e (a7-both w)
+  work-both w (r-a8 e) n = rw e (a8-both w e)
+  work-both w (r-f1 e) n = rw e (f1-both w)
+  work-both w (r-f2 e z) n = rw e (f2-both w e z)
+  work-both w (r-f2-more e G) n = rw e (f2-more-both w e G)
+  work-both w (r-f3-read e G) n = rw e (f3-read-both w G)
+  work-both w (r-f3-link e G N l) n = rw e (f3-link-both w G N l)
+  work-both w (r-f3-exchange e G N l i) n = rw e (f3-exchange-both w G N l i)
+  work-both w (r-f4-clear e i) n = rw e (f4-clear-both w i)
 
--- at the idle place the list of steps has test 7
-idle-step : {regions : ℕ} {v : View} {area : List ℕ} {m : Mem} (t n : ℕ) {y : Steps.Result} → n ≡ IDLE
-    → Both regions v area m (Stepped.stepAt v (link area) regions t (v (TaskClass t)) n) y → Both regions v area m (refuse 7) y
-unfolding Stepped.stepAt
-idle-step t n e h = rw e at h
+  -- one step: test 7, the class, and the step at the place
+  place-both : {p : Place} → At regions v area m t p k → v (TaskClass t) < CLASSES
+      → PlaceRelated regions (memoryOf v area) m (slotOf v t) p → Events.Near (m .won) (noted p)
+      → Both regions v area m (Stepped.step v (link area) regions t) (Steps.whenWorking p (λ q. Steps.stepAt t k q m) m)
+  unfolding Stepped.step
+  place-both w l (r-idle e) n =
+      choose (ltb IDLE (v (TaskPlace t))) (λ h. absurd (omega (arith, ltb-true IDLE (v (TaskPlace t)) h)))
+      (λ h. refusal (w .pair .rel) 7)
+  place-both w l (r-working W) n =
+      choose (ltb IDLE (v (TaskPlace t)))
+      (λ h. pass (ltb (v (TaskClass t)) CLASSES) (lt-ltb (v (TaskClass t)) CLASSES l) (work-both w W n))
+      (λ h. absurd (omega (arith, ltb-false IDLE (v (TaskPlace t)) h, work-place W)))
 
--- one step: test 7, the class, and the step at the place
 pub step-both : {regions : ℕ} {v : View} {area : List ℕ} {m : Mem} (t : ℕ) → t < TASKS → regions ≤ REGIONS → Fitting v
-    → Related regions (memoryOf v area) m → Invariant regions m → Events.Near m (m .task t .place)
-    → Both regions v area m (Stepped.step v (link area) regions t) (Steps.step t m)
-unfolding Stepped.step Steps.step
+    → Related regions (memoryOf v area) m → Invariant regions m → Events.Near (m .won) (noted (m .task t .place))
+    → Both regions v area m (Stepped.step v (link area) regions t) (Steps.stepOf t m)
+unfolding Steps.stepOf
 step-both {regions} {v} {area} {m} t l small F R I near =
     let w : At regions v area m t (m .task t .place) (m .task t .cache) =
     record { pair = record { rel = R; turn = record { inv = I; fits = l; is = refl }; small = small }; fitting = F } in
-    let B = by-place w (R .slots t l .place) near in
-    choose (ltb IDLE (v (TaskPlace t)))
-    (λ e. pass (ltb (v (TaskClass t)) CLASSES) (lt-ltb (v (TaskClass t)) CLASSES (R .slots t l .fits)) B)
-    (λ e. idle-step t (v (TaskPlace t)) (omega (arith, ltb-false IDLE (v (TaskPlace t)) e)) B)
+    place-both w (R .slots t l .fits) (R .slots t l .place) near

@@ -18,7 +18,7 @@ use Rattle.words.specs.Mark.{withSet}
 use Rattle.words.proofs.Marks.{set-below}
 use Rattle.classes.specs.Classes.{perRegion}
 use Rattle.links.specs.Link.{link}
-use Rattle.plain.specs.State.{read, partial, popping, idle, a1, Mem, setHands}
+use Rattle.plain.specs.State.{read, partial, popping, idle, a1, Mem, setHands, working}
 use Rattle.plain.specs.Moves.{nothing}
 use Rattle.plain.specs.Steps as Steps
 use Rattle.plain.proofs.Places.{taskOf, lengths}
@@ -30,7 +30,7 @@ use Rattle.stepped.specs.Ranges
 use Rattle.stepped.specs.Ranges.{isTop}
 use Rattle.stepped.specs.Allocate as Allocate
 use Rattle.agreement.specs.Memory.{Memory, slotOf, memoryOf}
-use Rattle.agreement.specs.Relation.{PopRelated, Related, r-idle, r-partial}
+use Rattle.agreement.specs.Relation.{PopRelated, Related, r-idle, r-partial, r-working}
 use Rattle.agreement.proofs.Slots.{toPlace, toCache}
 use Rattle.agreement.proofs.Sets.{setMark}
 use Rattle.agreement.proofs.Bridge.{mark-set-written}
@@ -45,7 +45,7 @@ use Rattle.agreement.proofs.Caching.{cache-becomes}
 
 module _ {regions : ℕ} {v : View} {area : List ℕ} {m : Mem} {t : ℕ} {k : ℕ → List ℕ} where
   -- the cache has the block x on top, and q below
-  take-both : At regions v area m t (a1 (v (TaskClass t))) k → (x : ℕ) (q : List ℕ) → k (v (TaskClass t)) ≡ x ∷ q
+  take-both : At regions v area m t (working (a1 (v (TaskClass t)))) k → (x : ℕ) (q : List ℕ) → k (v (TaskClass t)) ≡ x ∷ q
       → Both regions v area m
       (Allocate.a1Take v (link area) regions t (v (TaskClass t)) (v (CacheCount t (v (TaskClass t))))
       (v (CacheTop t (v (TaskClass t)))))
@@ -97,7 +97,7 @@ module _ {regions : ℕ} {v : View} {area : List ℕ} {m : Mem} {t : ℕ} {k : �
         apart = tt;
       }))
 
-  pub a1-both : At regions v area m t (a1 (v (TaskClass t))) k
+  pub a1-both : At regions v area m t (working (a1 (v (TaskClass t)))) k
       → Both regions v area m (Allocate.a1 v (link area) regions t (v (TaskClass t))) (Steps.stepAt t k (a1 (v (TaskClass t))) m)
   unfolding Allocate.a1
   a1-both w =
@@ -109,8 +109,8 @@ module _ {regions : ℕ} {v : View} {area : List ℕ} {m : Mem} {t : ℕ} {k : �
       (λ e. record {
         says = refl;
         keeps = (refl, refl);
-        rel = goes w (TaskPlace t := POP-PARTIAL ∷ []) (toPlace POP-PARTIAL (slotOf v t)) (popping (partial c) read) refl
-            (rw (eq-eqb t t refl)) (λ j d. rw (ne-eqb t j d)) refl refl (r-partial (PopRelated.at-read refl));
+        rel = goes w (TaskPlace t := POP-PARTIAL ∷ []) (toPlace POP-PARTIAL (slotOf v t)) (working (popping (partial c) read)) refl
+            (rw (eq-eqb t t refl)) (λ j d. rw (ne-eqb t j d)) refl refl (r-working (r-partial (PopRelated.at-read refl)));
         sound = omega (arith, w .pair .turn .fits);
         apart = tt;
       })

@@ -1,6 +1,6 @@
 -- The fields of a task are in their ranges, by its place.
 use Prim.Native.Nat.{ℕ, suc, _+_, _-_, _≤_, _<_}
-use mathlib.Core.Path.{_≡_, refl, ap}
+use mathlib.Core.Path.{_≡_, refl, sym, ap, _∙_}
 use mathlib.Core.List.{List, _∷_}
 use native.Mathlib.Omega.{arith}
 use Rattle.limits.specs.Limits.{DESCRIPTORS}
@@ -13,40 +13,32 @@ use Rattle.words.specs.declared.anchor.Anchor.{Anchor}
 use Rattle.classes.specs.Classes.{perRegion}
 use Rattle.classes.specs.Places.{Block, unitOf}
 use Rattle.classes.proofs.Places.{block-at, index-below, region-is}
-use Rattle.plain.specs.State.{Phase, Place, Note, Mem, region}
-use Rattle.plain.specs.Held.{classAt, underWay, holdsDescriptor, holdsRegion}
+use Rattle.plain.specs.State.{State, numberOf, Place, Note, Mem, region, Work, working}
+use Rattle.plain.specs.Held.{owed, classAt, underWay, holdsDescriptor, holdsRegion}
 use Rattle.plain.specs.Blocks.{blocksFrom}
 use Rattle.plain.specs.Places.{Together}
 use Rattle.plain.proofs.Blocks.{counts-block}
 use Rattle.plain.proofs.Owners.{home-of, owner}
-use Rattle.plain.proofs.Places.{placeHolds}
-use Rattle.control.specs.Layout.{TaskAnchor, TaskIndex, GroupFirst, GroupLast, GroupCount}
-use Rattle.control.specs.Layout.{TaskPlace, TaskClass, TaskDescriptor, TaskRegion, TaskState}
-use Rattle.control.specs.Places.{F3-LINK, F3-EXCHANGE}
+use Rattle.plain.proofs.Places.{placeHolds, noteHolds}
+use Rattle.control.specs.Layout.{TaskAnchor, TaskIndex, GroupFirst, GroupLast, GroupCount, TaskPlace, TaskClass}
+use Rattle.control.specs.Layout.{TaskDescriptor, TaskRegion, TaskUnit, TaskState}
+use Rattle.control.specs.Places.{POP-PARTIAL, PUSH-OFFER, A3-READ, F3-LINK, F3-EXCHANGE}
+use Rattle.control.specs.declared.moves.Pop.the-variants.{Partial, Spare, Region}
+use Rattle.control.specs.declared.moves.Push.the-variants.{Retire, Back, Release, Offer}
 use Rattle.agreement.specs.Memory.{Slot, slotOf, memoryOf}
-use Rattle.agreement.specs.Relation.{PopRelated, PushRelated, NoteRelated, GroupRelated, PlaceRelated}
-use Rattle.agreement.specs.Relation.{r-idle, r-a1, r-partial, r-spare, r-region, r-retire, r-back, r-release}
-use Rattle.agreement.specs.Relation.{r-offer, r-a3-read, r-a3-exchange}
-use Rattle.agreement.specs.Relation.{r-a4, r-a7, r-a8, r-f1, r-f2, r-f2-more, r-f3-read, r-f3-link}
-use Rattle.agreement.specs.Relation.{r-f3-exchange, r-f4-clear}
-use Rattle.agreement.specs.InRange.{TaskHands, TaskChains}
+use Rattle.agreement.specs.Relation.{NoteRelated, GroupRelated, PlaceRelated, r-idle, r-a1, r-partial, r-spare}
+use Rattle.agreement.specs.Relation.{r-region, r-retire, r-back, r-release, r-offer, r-a3-read, r-a3-exchange}
+use Rattle.agreement.specs.Relation.{r-a4, r-a7, r-a8, r-f1, r-f2, r-f2-more, r-f3-read, r-f3-link, r-f3-exchange}
+use Rattle.agreement.specs.Relation.{r-f4-clear, WorkRelated, r-working}
+use Rattle.agreement.specs.InRange.{TaskLists, TaskHands, TaskChains}
+use Rattle.agreement.proofs.WorkPlaces.{pop-span, push-span}
+use Rattle.agreement.proofs.Freeing.{Freeing, allocates, fills, frees, owes, owed-one}
+use Rattle.agreement.proofs.TaskLists.{none, of-pop, of-push}
 use Rattle.agreement.proofs.Tops.{first-of, descriptor-in-hand, region-in-hand}
 use Rattle.agreement.proofs.Couple.{Pair}
 use Rattle.agreement.proofs.Blocks.{home-below}
 use Rattle.agreement.proofs.Groups.{first-below, last-below, region-below}
 use Rattle.agreement.proofs.Notes.{first-max, number-max}
-
--- a move's places, which are three
-pub pop-span : {m : Mem} {s : Slot} {b ℓ items : ℕ} {φ : Phase} → PopRelated m s b ℓ items φ → (b ≤ s .place) × (s .place ≤ b + 2)
-pop-span (PopRelated.at-read e) = omega arith
-pop-span (PopRelated.at-next e N i j) = omega arith
-pop-span (PopRelated.at-exchange e N i j x f) = omega arith
-
-pub push-span : {m : Mem} {s : Slot} {b ℓ items x : ℕ} {nx : ℕ → ℕ} {φ : Phase} → PushRelated m s b ℓ items x nx φ
-    → (b ≤ s .place) × (s .place ≤ b + 2)
-push-span (PushRelated.at-read e) = omega arith
-push-span (PushRelated.at-next e N i) = omega arith
-push-span (PushRelated.at-exchange e N i j) = omega arith
 
 -- a noted anchor
 note-in : {m : Mem} {c d : ℕ} {n : Note} {b : Anchor} → NoteRelated m c d n b → (b .state ≤ 2) × (b .avail ≤ perRegion c)
@@ -108,53 +100,116 @@ module _ (regions : ℕ) (v : View) (area : List ℕ) (m : Mem) (t : ℕ) (k : �
       → v (GroupCount t) + anchorOf (v (TaskAnchor t)) .count ≤ perRegion c → Numbers
   returns i j F f N l = let a = note-in N in (omega arith, omega arith)
 
-  pub hands-at : {p : Place} → Turning p → PlaceRelated regions (memoryOf v area) m s p → Numbers
-  hands-at w (r-idle e) = (omega arith, omega arith)
-  hands-at w (r-a1 e) = (omega arith, omega arith)
-  hands-at w (r-partial h) = let i = pop-span h in (omega arith, omega arith)
-  hands-at w (r-spare h) = let i = pop-span h in (omega arith, omega arith)
-  hands-at w (r-region h) = let i = pop-span h in let f = descriptor-held w (omega arith) in (omega arith, omega arith)
-  hands-at w (r-retire h) = let i = push-span h in let f = descriptor-held w (omega arith) in (omega arith, omega arith)
-  hands-at w (r-back h) = let i = push-span h in let f = descriptor-held w (omega arith) in (omega arith, omega arith)
-  hands-at w (r-release e h) = let f = region-held w (omega arith) in let i = push-span h in (omega arith, omega arith)
-  hands-at w (r-offer h) = let i = push-span h in let f = descriptor-held w (omega arith) in (omega arith, omega arith)
-  hands-at w (r-a3-read e) = let f = descriptor-held w (omega arith) in (omega arith, omega arith)
-  hands-at w (r-a3-exchange e N i j l o) = let f = descriptor-held w (omega arith) in (omega arith, omega arith)
-  hands-at w (r-a4 {x = x} e l n h) =
+  abbrev u : ℕ
+  u = v (TaskUnit t)
+
+  -- the block that is freed, alone or with what follows it
+  freeing : {p : Place} → PUSH-OFFER ≤ v (TaskPlace t) → v (TaskPlace t) ≤ F3-EXCHANGE → classAt p ≡ c → one u u ≤ count u (underWay p)
+      → Freeing v t p
+  freeing i j e h = frees i j e (omega (arith, when-same u 1))
+
+  -- the same, and the descriptor that is owed where the anchor was found FULL
+  owing : {p : Place} (z : State) → v (TaskState t) ≡ numberOf z → count d (owed z d) ≤ holdsDescriptor d p → classAt p ≡ c
+      → one u u ≤ count u (underWay p) → Freeing v t p
+  owing z i o e h = owes (λ f. omega (arith, owed-one z d (sym i ∙ f))) e (omega (arith, when-same u 1))
+
+  abbrev Lists : Type 0
+  Lists = TaskLists regions v t
+
+  -- what is shown at each place: of what was noted of a list, of what is in hand, and of what a free has under way
+  abbrev Shown : Place → Type 0
+  Shown p = Lists × Numbers × Freeing v t p
+
+  -- no move of a list is under way
+  no-move : (POP-PARTIAL ≤ v (TaskPlace t) → v (TaskPlace t) < A3-READ → ⊥) → Lists
+  no-move h = none regions v m t h
+
+  numbers-at-work : {p : Work} → Turning (working p) → WorkRelated regions (memoryOf v area) m s p → Shown (working p)
+  numbers-at-work w (r-a1 e) = (no-move (omega arith), (omega arith, omega arith), allocates (omega arith))
+  numbers-at-work w (r-partial h) =
+      let i = pop-span h in
+      (of-pop regions v m t Partial h, (omega arith, omega arith), allocates (omega arith))
+  numbers-at-work w (r-spare h) =
+      let i = pop-span h in
+      (of-pop regions v m t Spare h, (omega arith, omega arith), allocates (omega arith))
+  numbers-at-work w (r-region h) =
+      let i = pop-span h in
+      let f = descriptor-held w (omega arith) in
+      (of-pop regions v m t Region h, (omega arith, omega arith), allocates (omega arith))
+  numbers-at-work w (r-retire h) =
+      let i = push-span h in
+      let f = descriptor-held w (omega arith) in
+      (of-push regions v m t Retire h, (omega arith, omega arith), allocates (omega arith))
+  numbers-at-work w (r-back h) =
+      let i = push-span h in
+      let f = descriptor-held w (omega arith) in
+      (of-push regions v m t Back h, (omega arith, omega arith), allocates (omega arith))
+  numbers-at-work w (r-release {w = z} e h) =
+      let f = region-held w (omega arith) in
+      let i = push-span h in
+      (of-push regions v m t Release h, (omega arith, omega arith), owing z e (omega arith) refl (omega arith))
+  numbers-at-work w (r-offer h) =
+      let i = push-span h in
+      let f = descriptor-held w (omega arith) in
+      (of-push regions v m t Offer h, (omega arith, omega arith), freeing (omega arith) (omega arith) refl (omega arith))
+  numbers-at-work w (r-a3-read e) =
+      let f = descriptor-held w (omega arith) in
+      (no-move (omega arith), (omega arith, omega arith), fills (omega arith) (omega arith))
+  numbers-at-work w (r-a3-exchange e N i j l o) =
+      let f = descriptor-held w (omega arith) in
+      (no-move (omega arith), (omega arith, omega arith), fills (omega arith) (omega arith))
+  numbers-at-work w (r-a4 {x = x} e l n h) =
       let b : Block r c x = counts-block r c x (omega (arith, h x, when-same x 1)) in
       let o : r < regions = under-region w b (omega (arith, when-same x 1)) in
       let i : v (TaskIndex t) < perRegion c = omega (arith, first-of l, index-below b) in
       let f = placeHolds (w .turn) .1 in
-      (omega arith, omega arith)
-  hands-at w (r-a7 e) =
+      (no-move (omega arith), (omega arith, omega arith), fills (omega arith) (omega arith))
+  numbers-at-work w (r-a7 e) =
       let f = descriptor-held w (omega arith) in
       let g = region-held w (omega arith) in
-      (omega arith, omega arith)
-  hands-at w (r-a8 e) =
+      (no-move (omega arith), (omega arith, omega arith), fills (omega arith) (omega arith))
+  numbers-at-work w (r-a8 e) =
       let i = v (TaskIndex t) in
       let h : i < perRegion c = placeHolds (w .turn) .2 in
       let f : perRegion c - i ≡ suc (perRegion c - suc i) = omega arith in
       let u = unitOf r c i in
-      let o : r < regions = under-region w (block-at r c i h) (omega (arith, ap (λ (n : ℕ). count u (blocksFrom r c i n)) f, when-same u 1)) in
-      (omega arith, omega arith)
-  hands-at w (r-f1 e) = (omega arith, omega arith)
-  hands-at w (r-f2 e z) = (omega arith, omega arith)
-  hands-at w (r-f2-more e G) =
+      let b : 1 ≤ count u (blocksFrom r c i (perRegion c - i)) =
+      omega (arith, ap (λ (n : ℕ). count u (blocksFrom r c i n)) f, when-same u 1) in
+      let o : r < regions = under-region w (block-at r c i h) b in
+      (no-move (omega arith), (omega arith, omega arith), fills (omega arith) (omega arith))
+  numbers-at-work w (r-f1 e) =
+      (no-move (omega arith), (omega arith, omega arith), freeing (omega arith) (omega arith) refl (omega arith))
+  numbers-at-work w (r-f2 e z) =
+      (no-move (omega arith), (omega arith, omega arith), freeing (omega arith) (omega arith) refl (omega arith))
+  numbers-at-work w (r-f2-more e G) =
       let o = placeHolds (w .turn) in
       let F = grouped w G (λ x. omega arith) refl (o .3) in
       let n : v (GroupCount t) ≤ perRegion c = omega (arith, G .counts, o .2) in
-      (omega arith, omega arith)
-  hands-at w (r-f3-read e G) =
+      (no-move (omega arith), (omega arith, omega arith), freeing (omega arith) (omega arith) refl (omega arith))
+  numbers-at-work w (r-f3-read e G) =
       let o = placeHolds (w .turn) in
       let F = grouped w G (λ x. omega arith) refl (o .2) in
       let n : v (GroupCount t) ≤ perRegion c = omega (arith, G .counts, o .1) in
-      (omega arith, omega arith)
-  hands-at w (r-f3-link {y = y} e G N l) =
-      let o = placeHolds (w .turn) in
-      returns (omega arith) (omega arith) (grouped w G (λ x. omega arith) refl (o .2))
-      (owner (w .turn) y d (omega (arith, when-same y 1)) (o .3) .fits) N l
-  hands-at w (r-f3-exchange {y = y} e G N l i) =
-      let o = placeHolds (w .turn) in
-      returns (omega arith) (omega arith) (grouped w G (λ x. omega arith) refl (o .2))
-      (owner (w .turn) y d (omega (arith, when-same y 1)) (o .3) .fits) N l
-  hands-at w (r-f4-clear e i) = let f = region-held w (omega arith) in (omega arith, omega arith)
+      (no-move (omega arith), (omega arith, omega arith), freeing (omega arith) (omega arith) refl (omega arith))
+  numbers-at-work w (r-f3-link {y = y} e G N l) =
+      let n = noteHolds (w .turn) in
+      let F = grouped w G (λ x. omega arith) refl (placeHolds (w .turn) .2) in (
+        no-move (omega arith),
+        returns (omega arith) (omega arith) F (owner (w .turn) y d (n .0) (n .1) .fits) N l,
+        freeing (omega arith) (omega arith) refl (omega arith),
+      )
+  numbers-at-work w (r-f3-exchange {y = y} e G N l i) =
+      let n = noteHolds (w .turn) in
+      let F = grouped w G (λ x. omega arith) refl (placeHolds (w .turn) .2) in (
+        no-move (omega arith),
+        returns (omega arith) (omega arith) F (owner (w .turn) y d (n .0) (n .1) .fits) N l,
+        freeing (omega arith) (omega arith) refl (omega arith),
+      )
+  numbers-at-work w (r-f4-clear {w = z} e i) =
+      let f = region-held w (omega arith) in
+      (no-move (omega arith), (omega arith, omega arith), owing z i (omega arith) refl (omega arith))
+
+  -- every place
+  pub numbers-at : {p : Place} → Turning p → PlaceRelated regions (memoryOf v area) m s p → Shown p
+  numbers-at w (r-idle e) = (no-move (omega arith), (omega arith, omega arith), allocates (omega arith))
+  numbers-at w (r-working W) = numbers-at-work w W

@@ -2,13 +2,12 @@
 use Prim.Native.Nat.{ℕ, _+_, _≤_, _<_}
 use mathlib.Core.Path.{_≡_, sym, subst, _∙_}
 use mathlib.Core.Bool.{cond}
-use mathlib.Core.List.{List}
 use native.Mathlib.Omega.{arith}
 use borrow.Author.Tests.{lt-ltb, le-ltb}
 use lib.Dec.{ltb}
 use Rattle.fields.specs.Columns.{View}
 use Rattle.words.specs.Head.{itemOf}
-use Rattle.plain.specs.State.{Phase, Place, Mem}
+use Rattle.plain.specs.State.{Phase, Mem}
 use Rattle.control.specs.Layout.{TaskHead, TaskPlace, TaskNext}
 use Rattle.control.specs.Places.{POP-PARTIAL, POP-SPARE, POP-REGION, PUSH-RETIRE, PUSH-BACK, PUSH-RELEASE, PUSH-OFFER}
 use Rattle.control.specs.Places.{A3-READ}
@@ -17,14 +16,10 @@ use Rattle.control.specs.declared.moves.Pop.the-variants.{Partial, Spare, Regio
 use Rattle.control.specs.declared.moves.Push.{Push}
 use Rattle.control.specs.declared.moves.Push.the-variants.{Retire, Back, Release, Offer}
 use Rattle.stepped.specs.Lists.{popPlace, popItems, pushPlace, pushItems}
-use Rattle.agreement.specs.Memory.{Slot, slotOf, memoryOf}
-use Rattle.agreement.specs.Relation.{PopRelated, PushRelated, PlaceRelated}
-use Rattle.agreement.specs.Relation.{r-idle, r-a1, r-partial, r-spare, r-region, r-retire, r-back, r-release}
-use Rattle.agreement.specs.Relation.{r-offer, r-a3-read, r-a3-exchange}
-use Rattle.agreement.specs.Relation.{r-a4, r-a7, r-a8, r-f1, r-f2, r-f2-more, r-f3-read, r-f3-link}
-use Rattle.agreement.specs.Relation.{r-f3-exchange, r-f4-clear}
+use Rattle.agreement.specs.Memory.{Slot, slotOf}
+use Rattle.agreement.specs.Relation.{PopRelated, PushRelated}
 use Rattle.agreement.specs.InRange.{OneTo, TaskLists}
-use Rattle.agreement.proofs.TaskHands.{pop-span, push-span}
+use Rattle.agreement.proofs.WorkPlaces.{pop-span, push-span}
 
 -- ---- a place belongs to one move
 
@@ -81,9 +76,9 @@ module _ {m : Mem} {s : Slot} {b ℓ items : ℕ} where
   pushed-head (PushRelated.at-next e N i) h = i
   pushed-head (PushRelated.at-exchange e N i j) h = i
 
--- ---- every place
+-- ---- one task
 
-module _ (regions : ℕ) (v : View) (area : List ℕ) (m : Mem) (t : ℕ) where
+module _ (regions : ℕ) (v : View) (m : Mem) (t : ℕ) where
   abbrev q : ℕ
   q = v (TaskPlace t)
 
@@ -91,7 +86,7 @@ module _ (regions : ℕ) (v : View) (area : List ℕ) (m : Mem) (t : ℕ) where
   Lists = TaskLists regions v t
 
   -- no move is under way
-  none : (POP-PARTIAL ≤ q → q < A3-READ → ⊥) → Lists
+  pub none : (POP-PARTIAL ≤ q → q < A3-READ → ⊥) → Lists
   none h = record {
     pop-head = λ p i j. absurd (h (omega (arith, pop-first p)) (omega (arith, pop-first p)));
     pop-next = λ p i j. absurd (h (omega (arith, pop-first p)) (omega (arith, pop-first p)));
@@ -99,7 +94,7 @@ module _ (regions : ℕ) (v : View) (area : List ℕ) (m : Mem) (t : ℕ) where
   }
 
   -- the pop P is under way
-  of-pop : {ℓ : ℕ} {φ : Phase} (P : Pop) → PopRelated m (slotOf v t) (popPlace P) ℓ (popItems P regions) φ → Lists
+  pub of-pop : {ℓ : ℕ} {φ : Phase} (P : Pop) → PopRelated m (slotOf v t) (popPlace P) ℓ (popItems P regions) φ → Lists
   of-pop P h =
       let i = pop-span h in
       let own : Span (popPlace P) q = omega arith in
@@ -114,7 +109,7 @@ module _ (regions : ℕ) (v : View) (area : List ℕ) (m : Mem) (t : ℕ) where
       }
 
   -- the push P is under way
-  of-push : {ℓ x : ℕ} {nx : ℕ → ℕ} {φ : Phase} (P : Push)
+  pub of-push : {ℓ x : ℕ} {nx : ℕ → ℕ} {φ : Phase} (P : Push)
       → PushRelated m (slotOf v t) (pushPlace P) ℓ (pushItems P regions) x nx φ → Lists
   of-push P h =
       let i = push-span h in
@@ -126,26 +121,3 @@ module _ (regions : ℕ) (v : View) (area : List ℕ) (m : Mem) (t : ℕ) where
             subst (λ (z : Push). pushPlace z + 1 ≤ q → itemOf (v (TaskHead t)) ≤ pushItems z regions)
             (sym (push-at P q own) ∙ push-at p q (omega arith)) (pushed-head h) a;
       }
-
-  pub noted-at : {p : Place} → PlaceRelated regions (memoryOf v area) m (slotOf v t) p → Lists
-  noted-at (r-idle e) = none (omega arith)
-  noted-at (r-a1 e) = none (omega arith)
-  noted-at (r-partial h) = of-pop Partial h
-  noted-at (r-spare h) = of-pop Spare h
-  noted-at (r-region h) = of-pop Region h
-  noted-at (r-retire h) = of-push Retire h
-  noted-at (r-back h) = of-push Back h
-  noted-at (r-release e h) = of-push Release h
-  noted-at (r-offer h) = of-push Offer h
-  noted-at (r-a3-read e) = none (omega arith)
-  noted-at (r-a3-exchange e N i j l o) = none (omega arith)
-  noted-at (r-a4 e l n h) = none (omega arith)
-  noted-at (r-a7 e) = none (omega arith)
-  noted-at (r-a8 e) = none (omega arith)
-  noted-at (r-f1 e) = none (omega arith)
-  noted-at (r-f2 e z) = none (omega arith)
-  noted-at (r-f2-more e G) = none (omega arith)
-  noted-at (r-f3-read e G) = none (omega arith)
-  noted-at (r-f3-link e G N l) = none (omega arith)
-  noted-at (r-f3-exchange e G N l i) = none (omega arith)
-  noted-at (r-f4-clear e i) = none (omega arith)

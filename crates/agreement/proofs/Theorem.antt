@@ -5,52 +5,42 @@ use mathlib.Core.List.{List, _∷_}
 use Prim.Native.Nat.{ℕ}
 use native.Mathlib.Omega.{arith}
 use lib.ListN.{length}
-use Rattle.limits.specs.Limits.{CONTROL-BYTES}
-use Rattle.links.specs.Link.{link}
 use Rattle.plain.specs.Moves.{Answer}
-use Rattle.plain.specs.Calls.{Pool, unstarted}
+use Rattle.plain.specs.Calls.{Pool, Call, Start, start, allocate, free, step, unstarted}
 use Rattle.plain.specs.Calls as Plain
 use Rattle.plain.proofs.Answers.{never-14}
-use Rattle.control.specs.Layout.{seen}
 use Rattle.stepped.specs.Outcome.{Memories}
-use Rattle.stepped.specs.Calls as Stepped
-use Rattle.agreement.specs.Events.{Event, start, allocate, free, go, write, stepped, whole, Premises, Unstarted}
-use Rattle.agreement.specs.Reached.{from-unstarted, from-start, Wherever}
-use Rattle.agreement.specs.Agreement.{Agrees, Unchanged, Untouched, AgreesAt, Agree}
+use Rattle.stepped.specs.Calls.{Lent, lengths, effectIn}
+use Rattle.agreement.specs.Events.{Event, call, write, stepped, whole, Premises, Unstarted}
+use Rattle.agreement.specs.Reached.{starting, from-unstarted, from-start, Wherever}
+use Rattle.agreement.specs.Agreement.{Agrees, Unchanged, CallUntouched, Untouched, AgreesAt, Agree}
 use Rattle.agreement.proofs.Simulation.{Alike}
 use Rattle.agreement.proofs.Starting.{accepted-start}
-use Rattle.agreement.proofs.OneEvent.{Shown, alike}
+use Rattle.agreement.proofs.OneEvent.{CallShown, Shown, alike}
 use Rattle.agreement.proofs.Reaching.{reached-tied, along}
-use Rattle.agreement.proofs.Lent.{start-leaves, refused-leaves, outcome-leaves}
-use Rattle.agreement.proofs.Ends.{start-ends, allocate-ends, free-ends, step-ends}
+use Rattle.agreement.proofs.Lent.{start-leaves, refused-leaves}
+use Rattle.agreement.proofs.Ends.{effect-leaves}
 use Rattle.agreement.proofs.Observing.{observed}
 
 -- the plain pool never answers 14
 never : (e : Event) (s : Pool) → whole e s .1 .code ≢ 14
-never (start control area tasks) s = never-14 (Plain.start control (length area) tasks) s
-never (allocate control area t size) s = never-14 (Plain.allocate control area t size) s
-never (free control area t u) s = never-14 (Plain.free control area t u) s
-never (go control area t) s = never-14 (Plain.go control area t) s
+never (call k lent) s = never-14 k (lengths lent) s
 never (write at b) s = λ e. absurd (omega arith)
 
+call-untouched : (k : Call) (lent : Lent) (s₁ : Memories) (s : Pool) → CallShown k s₁ s (stepped (call k lent) s₁ .0)
+    → CallUntouched k lent s₁ (stepped (call k lent) s₁) s
+call-untouched (start b) lent s₁ s h = start-leaves (lent .area) (b .tasks) (lent .control) (s₁ .control) (s₁ .area)
+call-untouched (allocate t size) lent s₁ s h = h
+call-untouched (free t u) lent s₁ s h = h
+call-untouched (step t) lent s₁ s h = h
+
 untouched : (e : Event) (s₁ : Memories) (s : Pool) → Shown e s₁ s (stepped e s₁ .0) → Untouched e s₁ (stepped e s₁) s
-untouched (start control area tasks) s₁ s h = start-leaves area tasks control (s₁ .control) (s₁ .area)
-untouched (allocate control area t size) s₁ s h = h
-untouched (free control area t u) s₁ s h = h
-untouched (go control area t) s₁ s h = h
+untouched (call k lent) s₁ s h = call-untouched k lent s₁ s h
 untouched (write at b) s₁ s h = tt
 
 -- a refused call leaves both memories
 unchanged : (e : Event) (s₁ : Memories) → Unchanged s₁ (stepped e s₁)
-unchanged (start control area tasks) s₁ =
-    refused-leaves (Stepped.startIn control area tasks (s₁ .control) (s₁ .area)) s₁ (start-ends control area tasks (s₁ .control) (s₁ .area) .leaves)
-unchanged (allocate control area t size) s₁ =
-    outcome-leaves (Stepped.allocateOutcome control area (seen (s₁ .control)) t size) s₁ (allocate-ends control area (seen (s₁ .control)) t size .nothing)
-unchanged (free control area t u) s₁ =
-    outcome-leaves (Stepped.freeOutcome control area (seen (s₁ .control)) t u) s₁ (free-ends control area (seen (s₁ .control)) t u .nothing)
-unchanged (go control area t) s₁ =
-    outcome-leaves (Stepped.stepOutcome control area (seen (s₁ .control)) (link (s₁ .area)) t) s₁
-    (step-ends control area (seen (s₁ .control)) (link (s₁ .area)) t .nothing)
+unchanged (call k lent) s₁ = refused-leaves (effectIn k lent s₁) s₁ (effect-leaves k lent s₁)
 unchanged (write at b) s₁ = λ h k. absurd (omega arith)
 
 agrees : (e : Event) (s₁ : Memories) (s : Pool) → Alike (Shown e s₁ s) (stepped e s₁) (whole e s) → Agrees (stepped e s₁) (whole e s)
@@ -79,12 +69,13 @@ agreement es s₁ U p = along AgreesAt reached-agrees (from-unstarted U) es p
 
 -- The same from an accepted start on any memories and in any pool, the start itself with it: the control memory before it may look
 -- like a started pool, or hold anything.
-pub agreement-from-start : (es : List Event) (s₁ : Memories) (s : Pool) (area : List ℕ) (tasks : ℕ) → Plain.Area (length area)
-    → Plain.Tasks tasks → Premises es (whole (start CONTROL-BYTES area tasks) s .0) → Agree (start CONTROL-BYTES area tasks ∷ es) s₁ s
+pub agreement-from-start : (es : List Event) (s₁ : Memories) (s : Pool) (b : Start) (area : List ℕ)
+    → Plain.Area (length area) → Plain.Tasks (b .tasks) → Premises es (whole (starting b area) s .0)
+    → Agree (starting b area ∷ es) s₁ s
 unfolding Plain.call
-agreement-from-start es s₁ s area tasks a t p =
-    let e = start CONTROL-BYTES area tasks in
-    let A = accepted-start s₁ s area tasks a t in (
+agreement-from-start es s₁ s b area a t p =
+    let e = starting b area in
+    let A = accepted-start s₁ s b area a t in (
       (agrees e s₁ s A, unchanged e s₁, untouched e s₁ s tt),
-      along AgreesAt reached-agrees (from-start s₁ s area tasks a t) es p,
+      along AgreesAt reached-agrees (from-start s₁ s b area a t) es p,
     )

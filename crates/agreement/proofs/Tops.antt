@@ -18,7 +18,7 @@ use Rattle.plain.specs.Invariant.{Invariant}
 use Rattle.plain.specs.Weights.{descriptorWeight, regionWeight, rowWeight}
 use Rattle.plain.proofs.Places.{taskOf}
 use Rattle.plain.proofs.Turn.{Turn}
-use Rattle.agreement.specs.Relation.{Noted, tail, wrap}
+use Rattle.agreement.specs.Relation.{HeadNoted, tail, wrap}
 
 pub first-of : {nx enc : ℕ → ℕ} {e f y : ℕ} {q : List ℕ} → Linked nx enc e f (y ∷ q) → f ≡ enc y
 first-of (links e l) = e
@@ -61,7 +61,7 @@ pub word-same : (w x : ℕ) → w ≡ x → SameHead (headOf w) (headOf x)
 word-same w x e = (ap (λ (z : ℕ). headOf z .item) e, ap (λ (z : ℕ). headOf z .tag) e)
 
 -- the exchange is won in both or in neither
-module _ {m : Mem} {ℓ n : ℕ} {h : Head} (N : Noted m ℓ h n) (g : Head) (tags : g .tag ≡ wrap (m .won ℓ)) where
+module _ {m : Mem} {ℓ n : ℕ} {h : Head} (N : HeadNoted m ℓ h n) (g : Head) (tags : g .tag ≡ wrap (m .won ℓ)) where
   pub won-same : m .won ℓ < n + TAGS → SameHead g h → m .won ℓ ≡ n
   won-same near u = omega (arith, u .1, N .tags, N .past)
 
@@ -72,7 +72,7 @@ module _ {m : Mem} {ℓ n : ℕ} {h : Head} (N : Noted m ℓ h n) (g : Head) (ta
   next-tag e = omega (arith, N .tags)
 
 -- a head just read
-pub fresh : {m : Mem} {ℓ : ℕ} (h : Head) → h .tag ≡ wrap (m .won ℓ) → h .item ≡ top (m .row ℓ) → Noted m ℓ h (m .won ℓ)
+pub fresh : {m : Mem} {ℓ : ℕ} (h : Head) → h .tag ≡ wrap (m .won ℓ) → h .item ≡ top (m .row ℓ) → HeadNoted m ℓ h (m .won ℓ)
 fresh h e f = record { past = omega arith; tags = e; same = λ i. f }
 
 -- an item in hand is one of the pool's

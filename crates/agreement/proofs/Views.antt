@@ -18,7 +18,7 @@ use Rattle.plain.specs.Invariant.{Invariant}
 use Rattle.plain.proofs.Places.{taskOf}
 use Rattle.plain.proofs.Turn.{Turn}
 use Rattle.control.specs.Layout
-use Rattle.control.specs.Layout.{layout}
+use Rattle.control.specs.Layout.{layout, TaskUnit, TaskState}
 use Rattle.agreement.specs.Memory.{Slot, byClass, slotOf, memoryOf}
 use Rattle.agreement.specs.Relation.{DescriptorRelated, SlotRelated, Core, Related}
 use Rattle.agreement.proofs.Frames.{Kept, kept-slot}

@@ -6,11 +6,12 @@ use Prim.Native.Nat.{ℕ, _*_, _≤_}
 use lib.ListN.{length, getD}
 use Rattle.limits.specs.Limits.{CONTROL-BYTES, REGION-BYTES}
 use Rattle.plain.specs.Moves.{Answer}
-use Rattle.plain.specs.Calls.{Pool}
+use Rattle.plain.specs.Calls.{Pool, Call, start, allocate, free, step}
 use Rattle.control.specs.Layout.{Tasks, Regions, seen}
 use Rattle.agreement.specs.Memory.{Memory, memoryOf}
 use Rattle.stepped.specs.Outcome.{Memories}
-use Rattle.agreement.specs.Events.{Event, start, allocate, free, go, write, stepped, whole, InHands}
+use Rattle.stepped.specs.Calls.{Lent}
+use Rattle.agreement.specs.Events.{Event, call, write, stepped, whole, InHands}
 use Rattle.agreement.specs.Reached.{Along}
 use Rattle.agreement.specs.Observe.{Same}
 
@@ -38,11 +39,14 @@ Kept s₁ s after = (at : ℕ) → InHands at s → getD (after .area) at 0 ≡ 
 
 -- "No call changes a byte of a block in a user's hands" (the demands). An accepted start begins anew: "It leaves the area as it
 -- is" (the paper), which is the area that it is lent. A user's own write is no call.
+abbrev pub CallUntouched : Call → Lent → Memories → Memories × Answer → Pool → Type 0
+CallUntouched (start b) lent s₁ x s = x .1 .code ≡ 0 → x .0 .area ≡ lent .area
+CallUntouched (allocate t size) lent s₁ x s = Kept s₁ s (x .0)
+CallUntouched (free t u) lent s₁ x s = Kept s₁ s (x .0)
+CallUntouched (step t) lent s₁ x s = Kept s₁ s (x .0)
+
 abbrev pub Untouched : Event → Memories → Memories × Answer → Pool → Type 0
-Untouched (start control area tasks) s₁ x s = x .1 .code ≡ 0 → x .0 .area ≡ area
-Untouched (allocate control area t size) s₁ x s = Kept s₁ s (x .0)
-Untouched (free control area t u) s₁ x s = Kept s₁ s (x .0)
-Untouched (go control area t) s₁ x s = Kept s₁ s (x .0)
+Untouched (call k lent) s₁ x s = CallUntouched k lent s₁ x s
 Untouched (write at b) s₁ x s = Unit {0}
 
 -- "A refused call .. leaves both memories unchanged" (the paper): the pool's, also where it was lent others.

@@ -7,26 +7,22 @@ use Prim.Native.Nat.{ℕ, pred, _+_, _*_, _≤_, _<_}
 use lib.ListN.{length, set}
 use Rattle.classes.specs.Classes.{block}
 use Rattle.classes.specs.Places.{regionOf}
-use Rattle.links.specs.Link.{link}
-use Rattle.plain.specs.State.{Phase, read, next, exchange, Place, idle, a1, popping, pushing, a3-read, a3-exchange}
-use Rattle.plain.specs.State.{a4, a7, a8, f1, f2, f3-read, f3-link, f3-exchange, f4-clear, Mem}
+use Rattle.plain.specs.State.{Phase, read, next, exchange}
 use Rattle.plain.specs.Moves.{Answer, going, nothing}
 use Rattle.plain.specs.Steps.{popList, pushList}
-use Rattle.plain.specs.Calls.{Pool}
+use Rattle.plain.specs.Noted.{Noted, unnoted, pop-noted, push-noted, anchor-noted, entry-noted, noted}
+use Rattle.plain.specs.Calls.{Pool, Call, start, allocate, free, step, Lengths}
 use Rattle.plain.specs.Calls as Plain
 use Rattle.control.specs.Layout.{Tasks, seen}
 use Rattle.control.specs.Answers.{codeOf, valueOf}
-use Rattle.stepped.specs.Outcome.{Memories, Effect, effect}
-use Rattle.stepped.specs.Calls as Stepped
+use Rattle.stepped.specs.Outcome.{Memories, Effect}
+use Rattle.stepped.specs.Calls.{Lent, lengths, effectIn}
 
--- A call that is no start names the lengths that it is lent: the pool's memories if they are of these lengths, else others,
--- which it refuses and does not touch. A start is lent an area with any bytes, and a control memory with any bytes of the
--- length that is named. A user writes the byte b at the place `at` of the area.
+-- A call, with what it is lent. A call that is no start is lent the pool's memories if they have these lengths, else others,
+-- which it refuses and does not touch. A start is lent an area with any bytes, and a control memory with any bytes of the length
+-- that is named. A user writes the byte b at the place `at` of the area.
 pub data Event : Type 0 where
-  start : (control : ℕ) (area : List ℕ) (tasks : ℕ) → Event
-  allocate : (control area task size : ℕ) → Event
-  free : (control area task unit : ℕ) → Event
-  go : (control area task : ℕ) → Event
+  call : (k : Call) (lent : Lent) → Event
   write : (at b : ℕ) → Event
 
 -- ---- the stepped run: on the bytes of the two memories
@@ -39,35 +35,23 @@ ran e = (
 )
 
 -- a start that is accepted takes the memories that it is lent for the pool's; one that is refused leaves the pool's
-abbrev pub startOn : ℕ → List ℕ → ℕ → Memories → Memories × Answer
-startOn control area tasks s = ran (Stepped.startIn control area tasks (s .control) (s .area))
-
 abbrev pub stepped : Event → Memories → Memories × Answer
-stepped (start control area tasks) s = startOn control area tasks s
-stepped (allocate control area t size) s =
-    ran (effect (Stepped.allocateOutcome control area (seen (s .control)) t size) (s .control) (s .area))
-stepped (free control area t u) s =
-    ran (effect (Stepped.freeOutcome control area (seen (s .control)) t u) (s .control) (s .area))
-stepped (go control area t) s =
-    ran (effect (Stepped.stepOutcome control area (seen (s .control)) (link (s .area)) t) (s .control) (s .area))
+stepped (call k lent) s = ran (effectIn k lent s)
 stepped (write at b) s = (record { control = s .control; area = set (s .area) at b }, going nothing)
 
 -- ---- the whole run: the plain pool, "fed only each call's numbers and the lengths lent"; it sees no write
 
 abbrev pub whole : Event → Pool → Pool × Answer
-whole (start control area tasks) s = Plain.call (Plain.start control (length area) tasks) s
-whole (allocate control area t size) s = Plain.call (Plain.allocate control area t size) s
-whole (free control area t u) s = Plain.call (Plain.free control area t u) s
-whole (go control area t) s = Plain.call (Plain.go control area t) s
+whole (call k lent) s = Plain.call k (lengths lent) s
 whole (write at b) s = (s, going nothing)
 
 -- ---- the premises
 
 -- a step that passes the tests 1, 4, 2, 5
-pub record Taken (control area t : ℕ) (s : Pool) : Type 0 where
-  pub control-is : control ≡ CONTROL-BYTES
+pub record Taken (lent : Lengths) (t : ℕ) (s : Pool) : Type 0 where
+  pub control-is : lent .control ≡ CONTROL-BYTES
   pub started : 1 ≤ s .tasks
-  pub area-is : area ≡ REGION-BYTES * s .regions
+  pub area-is : lent .area ≡ REGION-BYTES * s .regions
   pub below : t < s .tasks
 
 -- "no head changes 2^32 times or more between a task's read and its exchange" (the demands): asked of a head exchange alone.
@@ -78,22 +62,13 @@ Recent won read = Unit {0}
 Recent won (next n) = Unit {0}
 Recent won (exchange n) = won < n + TAGS
 
-abbrev pub Near : Mem → Place → Type 0
-Near m idle = Unit {0}
-Near m (a1 c) = Unit {0}
-Near m (popping p φ) = Recent (m .won (popList p)) φ
-Near m (pushing p φ) = Recent (m .won (pushList p)) φ
-Near m (a3-read c d) = Unit {0}
-Near m (a3-exchange c d n) = Unit {0}
-Near m (a4 c x q) = Unit {0}
-Near m (a7 c d r) = Unit {0}
-Near m (a8 c r i) = Unit {0}
-Near m (f1 c u) = Unit {0}
-Near m (f2 c u g) = Unit {0}
-Near m (f3-read c u y g) = Unit {0}
-Near m (f3-link c u y g d n) = Unit {0}
-Near m (f3-exchange c u y g d n) = Unit {0}
-Near m (f4-clear c u d w r) = Unit {0}
+-- .. of what a task has noted
+abbrev pub Near : (ℕ → ℕ) → Noted → Type 0
+Near won unnoted = Unit {0}
+Near won (pop-noted p φ) = Recent (won (popList p)) φ
+Near won (push-noted p φ) = Recent (won (pushList p)) φ
+Near won (anchor-noted d n) = Unit {0}
+Near won (entry-noted y d n) = Unit {0}
 
 -- the class of the blocks of the unit's region, by the descriptor that the map names
 abbrev pub classThere : ℕ → Pool → ℕ
@@ -108,11 +83,15 @@ pub record InHands (at : ℕ) (s : Pool) : Type 0 where
   pub from : UNIT-BYTES * unit ≤ at
   pub to : at < UNIT-BYTES * unit + block (classThere unit s)
 
+-- of calls, a step's alone
+abbrev pub CallPremise : Call → Lengths → Pool → Type 0
+CallPremise (start b) lent s = Unit {0}
+CallPremise (allocate t size) lent s = Unit {0}
+CallPremise (free t u) lent s = Unit {0}
+CallPremise (step t) lent s = Taken lent t s → Near (s .mem .won) (noted (s .mem .task t .place))
+
 abbrev pub Premise : Event → Pool → Type 0
-Premise (start control area tasks) s = Unit {0}
-Premise (allocate control area t size) s = Unit {0}
-Premise (free control area t u) s = Unit {0}
-Premise (go control area t) s = Taken control area t s → Near (s .mem) (s .mem .task t .place)
+Premise (call k lent) s = CallPremise k (lengths lent) s
 Premise (write at b) s = InHands at s
 
 -- along the run of the plain pool

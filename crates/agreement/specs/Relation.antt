@@ -3,8 +3,8 @@ use mathlib.Core.Path.{_≡_}
 use mathlib.Core.List.{List, [], _∷_, _++_}
 use Prim.Native.Nat.{ℕ, zero, suc, _+_, _*_, _%_, _≤_, _<_}
 use lib.ListN.{length}
-use Rattle.limits.specs.Limits.{REGION-BYTES, UNITS, TASKS, CLASSES, DESCRIPTORS, MOST-BLOCKS, TAGS}
-use Rattle.limits.specs.Limits.{SPARE-DESCRIPTORS, SPARE-REGIONS, LISTS}
+use Rattle.limits.specs.Limits.{REGION-BYTES, UNITS, TASKS, CLASSES, DESCRIPTORS, MOST-BLOCKS, TAGS, SPARE-DESCRIPTORS}
+use Rattle.limits.specs.Limits.{SPARE-REGIONS, LISTS}
 use Rattle.rows.specs.Counting.{count}
 use Rattle.rows.specs.Linked.{Linked}
 use Rattle.classes.specs.Classes.{perRegion}
@@ -13,9 +13,9 @@ use Rattle.words.specs.declared.head.Head.{Head}
 use Rattle.words.specs.declared.anchor.Anchor.{Anchor}
 use Rattle.links.specs.Link.{link}
 use Rattle.plain.specs.State.{State, numberOf, Descriptor, Note, Phase, read, next, exchange, Pop, partial, spare}
-use Rattle.plain.specs.State.{region, retire, back, release, offer}
-use Rattle.plain.specs.State.{Place, idle, a1, popping, pushing, a3-read, a3-exchange, a4, a7, a8, f1, f2, f3-read}
-use Rattle.plain.specs.State.{f3-link, f3-exchange, f4-clear, Task, Mem}
+use Rattle.plain.specs.State.{region, retire, back, release, offer, Place, idle, a1, popping, pushing, a3-read}
+use Rattle.plain.specs.State.{a3-exchange, a4, a7, a8, f1, f2, f3-read, f3-link, f3-exchange, f4-clear, Task, Mem, Work}
+use Rattle.plain.specs.State.{working}
 use Rattle.plain.specs.Steps.{top}
 use Rattle.plain.specs.States.{IfOpen}
 use Rattle.plain.specs.Blocks.{isBlock}
@@ -36,7 +36,7 @@ tail (x ∷ q) = q
 -- ---- what a task noted
 
 -- A noted head: its tag is the noted number's, and while that number stands, its item is the row's top.
-pub record Noted (m : Mem) (ℓ : ℕ) (h : Head) (n : ℕ) : Type 0 where
+pub record HeadNoted (m : Mem) (ℓ : ℕ) (h : Head) (n : ℕ) : Type 0 where
   pub past : n ≤ m .won ℓ
   pub tags : h .tag ≡ wrap n
   pub same : n ≡ m .won ℓ → h .item ≡ top (m .row ℓ)
@@ -45,17 +45,17 @@ pub record Noted (m : Mem) (ℓ : ℕ) (h : Head) (n : ℕ) : Type 0 where
 -- what stands below the row's top: nothing is said of the links, so that the steps of others leave it.
 pub data PopRelated (m : Mem) (s : Slot) (b ℓ items : ℕ) : Phase → Type 0 where
   at-read : s .place ≡ b → PopRelated m s b ℓ items read
-  at-next : {n : ℕ} → s .place ≡ b + 1 → Noted m ℓ (s .noted .head) n → 1 ≤ s .noted .head .item → s .noted .head .item ≤ items
+  at-next : {n : ℕ} → s .place ≡ b + 1 → HeadNoted m ℓ (s .noted .head) n → 1 ≤ s .noted .head .item → s .noted .head .item ≤ items
       → PopRelated m s b ℓ items (next n)
-  at-exchange : {n : ℕ} → s .place ≡ b + 2 → Noted m ℓ (s .noted .head) n → 1 ≤ s .noted .head .item → s .noted .head .item ≤ items
+  at-exchange : {n : ℕ} → s .place ≡ b + 2 → HeadNoted m ℓ (s .noted .head) n → 1 ≤ s .noted .head .item → s .noted .head .item ≤ items
       → s .noted .next ≤ items → (n ≡ m .won ℓ → s .noted .next ≡ top (tail (m .row ℓ))) → PopRelated m s b ℓ items (exchange n)
 
 -- A push of the item x, whose next, which its owner alone writes, is the noted head's item.
 pub data PushRelated (m : Mem) (s : Slot) (b ℓ items x : ℕ) (nx : ℕ → ℕ) : Phase → Type 0 where
   at-read : s .place ≡ b → PushRelated m s b ℓ items x nx read
-  at-next : {n : ℕ} → s .place ≡ b + 1 → Noted m ℓ (s .noted .head) n → s .noted .head .item ≤ items
+  at-next : {n : ℕ} → s .place ≡ b + 1 → HeadNoted m ℓ (s .noted .head) n → s .noted .head .item ≤ items
       → PushRelated m s b ℓ items x nx (next n)
-  at-exchange : {n : ℕ} → s .place ≡ b + 2 → Noted m ℓ (s .noted .head) n → s .noted .head .item ≤ items → nx x ≡ s .noted .head .item
+  at-exchange : {n : ℕ} → s .place ≡ b + 2 → HeadNoted m ℓ (s .noted .head) n → s .noted .head .item ≤ items → nx x ≡ s .noted .head .item
       → PushRelated m s b ℓ items x nx (exchange n)
 
 -- the index by which an anchor names a chain's first block, which is given plus one, or 0 for none: n for none
@@ -88,51 +88,57 @@ pub record GroupRelated (a : Memory) (s : Slot) (y : ℕ) (g : List ℕ) : Type 
 
 -- ---- a task
 
--- The place, with what is under way; the plain place is built from the task's fields.
-pub data PlaceRelated (regions : ℕ) (a : Memory) (m : Mem) (s : Slot) : Place → Type 0 where
-  r-idle : s .place ≡ IDLE → PlaceRelated regions a m s idle
-  r-a1 : s .place ≡ A1 → PlaceRelated regions a m s (a1 (s .class))
-  r-partial : {φ : Phase} → PopRelated m s POP-PARTIAL (s .class) DESCRIPTORS φ → PlaceRelated regions a m s (popping (partial (s .class)) φ)
-  r-spare : {φ : Phase} → PopRelated m s POP-SPARE SPARE-DESCRIPTORS DESCRIPTORS φ → PlaceRelated regions a m s (popping (spare (s .class)) φ)
+-- A place of a task at work, with what is under way; the plain place is built from the task's fields.
+pub data WorkRelated (regions : ℕ) (a : Memory) (m : Mem) (s : Slot) : Work → Type 0 where
+  r-a1 : s .place ≡ A1 → WorkRelated regions a m s (a1 (s .class))
+  r-partial : {φ : Phase} → PopRelated m s POP-PARTIAL (s .class) DESCRIPTORS φ
+      → WorkRelated regions a m s (popping (partial (s .class)) φ)
+  r-spare : {φ : Phase} → PopRelated m s POP-SPARE SPARE-DESCRIPTORS DESCRIPTORS φ
+      → WorkRelated regions a m s (popping (spare (s .class)) φ)
   r-region : {φ : Phase} → PopRelated m s POP-REGION SPARE-REGIONS regions φ
-      → PlaceRelated regions a m s (popping (Pop.region (s .class) (s .hand .descriptor)) φ)
+      → WorkRelated regions a m s (popping (Pop.region (s .class) (s .hand .descriptor)) φ)
   r-retire : {φ : Phase} → PushRelated m s PUSH-RETIRE SPARE-DESCRIPTORS DESCRIPTORS (s .hand .descriptor) (a .lists .descriptorNext) φ
-      → PlaceRelated regions a m s (pushing (retire (s .class) (s .hand .descriptor)) φ)
+      → WorkRelated regions a m s (pushing (retire (s .class) (s .hand .descriptor)) φ)
   r-back : {φ : Phase} → PushRelated m s PUSH-BACK SPARE-DESCRIPTORS DESCRIPTORS (s .hand .descriptor) (a .lists .descriptorNext) φ
-      → PlaceRelated regions a m s (pushing (back (s .class) (s .hand .descriptor)) φ)
+      → WorkRelated regions a m s (pushing (back (s .class) (s .hand .descriptor)) φ)
   r-release : {w : State} {φ : Phase} → s .hand .state ≡ numberOf w
       → PushRelated m s PUSH-RELEASE SPARE-REGIONS regions (s .hand .region) (a .lists .regionNext) φ
-      → PlaceRelated regions a m s (pushing (release (s .class) (s .unit) (s .hand .descriptor) w (s .hand .region)) φ)
+      → WorkRelated regions a m s (pushing (release (s .class) (s .unit) (s .hand .descriptor) w (s .hand .region)) φ)
   r-offer : {φ : Phase} → PushRelated m s PUSH-OFFER (s .class) DESCRIPTORS (s .hand .descriptor) (a .lists .descriptorNext) φ
-      → PlaceRelated regions a m s (pushing (offer (s .class) (s .unit) (s .hand .descriptor)) φ)
-  r-a3-read : s .place ≡ A3-READ → PlaceRelated regions a m s (a3-read (s .class) (s .hand .descriptor))
+      → WorkRelated regions a m s (pushing (offer (s .class) (s .unit) (s .hand .descriptor)) φ)
+  r-a3-read : s .place ≡ A3-READ → WorkRelated regions a m s (a3-read (s .class) (s .hand .descriptor))
   -- the noted anchor is PARTIAL, names a block, and counts 1 to n
   r-a3-exchange : {n : Note} → s .place ≡ A3-EXCHANGE → NoteRelated m (s .class) (s .hand .descriptor) n (s .noted .anchor)
       → s .noted .anchor .state ≡ 1 → 1 ≤ s .noted .anchor .count → s .noted .anchor .count ≤ perRegion (s .class)
       → s .noted .anchor .avail < perRegion (s .class)
-      → PlaceRelated regions a m s (a3-exchange (s .class) (s .hand .descriptor) n)
+      → WorkRelated regions a m s (a3-exchange (s .class) (s .hand .descriptor) n)
   r-a4 : {x : ℕ} {q : List ℕ} → s .place ≡ A4
       → Linked (link (a .area)) (indexOf (s .class)) (perRegion (s .class)) (s .hand .index) (x ∷ q)
       → s .hand .left ≡ suc (length q) → ((v : ℕ) → count v (x ∷ q) ≤ isBlock v (s .hand .region) (s .class))
-      → PlaceRelated regions a m s (a4 (s .class) x q)
-  r-a7 : s .place ≡ A7 → PlaceRelated regions a m s (a7 (s .class) (s .hand .descriptor) (s .hand .region))
-  r-a8 : s .place ≡ A8 → PlaceRelated regions a m s (a8 (s .class) (s .hand .region) (s .hand .index))
-  r-f1 : s .place ≡ F1 → PlaceRelated regions a m s (f1 (s .class) (s .unit))
-  r-f2 : s .place ≡ F2 → s .group .count ≡ 0 → PlaceRelated regions a m s (f2 (s .class) (s .unit) [])
+      → WorkRelated regions a m s (a4 (s .class) x q)
+  r-a7 : s .place ≡ A7 → WorkRelated regions a m s (a7 (s .class) (s .hand .descriptor) (s .hand .region))
+  r-a8 : s .place ≡ A8 → WorkRelated regions a m s (a8 (s .class) (s .hand .region) (s .hand .index))
+  r-f1 : s .place ≡ F1 → WorkRelated regions a m s (f1 (s .class) (s .unit))
+  r-f2 : s .place ≡ F2 → s .group .count ≡ 0 → WorkRelated regions a m s (f2 (s .class) (s .unit) [])
   r-f2-more : {y : ℕ} {g : List ℕ} → s .place ≡ F2 → GroupRelated a s y g
-      → PlaceRelated regions a m s (f2 (s .class) (s .unit) (y ∷ g))
+      → WorkRelated regions a m s (f2 (s .class) (s .unit) (y ∷ g))
   r-f3-read : {y : ℕ} {g : List ℕ} → s .place ≡ F3-READ → GroupRelated a s y g
-      → PlaceRelated regions a m s (f3-read (s .class) (s .unit) y g)
+      → WorkRelated regions a m s (f3-read (s .class) (s .unit) y g)
   r-f3-link : {y : ℕ} {g : List ℕ} {n : Note} → s .place ≡ F3-LINK → GroupRelated a s y g
       → NoteRelated m (s .class) (s .hand .descriptor) n (s .noted .anchor)
       → s .group .count + s .noted .anchor .count ≤ perRegion (s .class)
-      → PlaceRelated regions a m s (f3-link (s .class) (s .unit) y g (s .hand .descriptor) n)
+      → WorkRelated regions a m s (f3-link (s .class) (s .unit) y g (s .hand .descriptor) n)
   r-f3-exchange : {y : ℕ} {g : List ℕ} {n : Note} → s .place ≡ F3-EXCHANGE → (G : GroupRelated a s y g)
       → NoteRelated m (s .class) (s .hand .descriptor) n (s .noted .anchor)
       → s .group .count + s .noted .anchor .count ≤ perRegion (s .class) → link (a .area) (G .last) ≡ s .noted .anchor .avail
-      → PlaceRelated regions a m s (f3-exchange (s .class) (s .unit) y g (s .hand .descriptor) n)
+      → WorkRelated regions a m s (f3-exchange (s .class) (s .unit) y g (s .hand .descriptor) n)
   r-f4-clear : {w : State} → s .place ≡ F4-CLEAR → s .hand .state ≡ numberOf w
-      → PlaceRelated regions a m s (f4-clear (s .class) (s .unit) (s .hand .descriptor) w (s .hand .region))
+      → WorkRelated regions a m s (f4-clear (s .class) (s .unit) (s .hand .descriptor) w (s .hand .region))
+
+-- Any place: a task is idle, or at work.
+pub data PlaceRelated (regions : ℕ) (a : Memory) (m : Mem) (s : Slot) : Place → Type 0 where
+  r-idle : s .place ≡ IDLE → PlaceRelated regions a m s idle
+  r-working : {w : Work} → WorkRelated regions a m s w → PlaceRelated regions a m s (working w)
 
 -- The caches: each is linked from its top.
 pub record CachesRelated (nx : ℕ → ℕ) (k : TaskCaches) (cache : ℕ → List ℕ) : Type 0 where

@@ -4,12 +4,12 @@ use mathlib.Core.List.{List}
 use Prim.Native.Nat.{ℕ, _≤_, _<_}
 use native.Mathlib.Omega.{arith}
 use lib.ListN.{length}
-use Rattle.rows.specs.Counting.{count}
 use Rattle.classes.specs.Places.{regionOf}
 use Rattle.plain.specs.State.{Phase, read, next, exchange, Mem}
 use Rattle.plain.specs.Steps.{popList, pushList}
 use Rattle.plain.specs.Places.{PopNote, PushNote, NotedHolds}
 use Rattle.plain.specs.Noted.{Noted, unnoted, pop-noted, push-noted, anchor-noted, entry-noted}
+use Rattle.plain.specs.Held.{Held, blockIn}
 
 -- ---- the lists
 
@@ -36,13 +36,13 @@ push-note (next i) (one-more l) h = omega arith
 push-note (exchange i) (as-before e l) h = omega arith
 push-note (exchange i) (one-more l) h = omega arith
 
--- And every note of a task with the blocks b under way, if the map's entries of their regions stay.
-pub note-kept : (m m′ : Mem) (b : List ℕ) (n : Noted)
+-- And every note of a task that has h under way, if the map's entries of its blocks' regions stay.
+pub note-kept : (m m′ : Mem) (h : Held) (n : Noted)
     → ((ℓ : ℕ) → Exchanges (m .won ℓ) (m .row ℓ) (m′ .won ℓ) (m′ .row ℓ))
-    → ((y : ℕ) → 1 ≤ count y b → m′ .map (regionOf y) ≡ m .map (regionOf y))
-    → NotedHolds (m .row) (m .won) (m .map) b n → NotedHolds (m′ .row) (m′ .won) (m′ .map) b n
-note-kept m m′ b unnoted e g h = tt
-note-kept m m′ b (pop-noted p φ) e g h = pop-note φ (e (popList p)) h
-note-kept m m′ b (push-noted p φ) e g h = push-note φ (e (pushList p)) h
-note-kept m m′ b (anchor-noted d n) e g h = tt
-note-kept m m′ b (entry-noted y d n) e g h = (h .0, g y (h .0) ∙ h .1)
+    → ((y : ℕ) → 1 ≤ blockIn y h → m′ .map (regionOf y) ≡ m .map (regionOf y))
+    → NotedHolds (m .row) (m .won) (m .map) h n → NotedHolds (m′ .row) (m′ .won) (m′ .map) h n
+note-kept m m′ h unnoted e g i = tt
+note-kept m m′ h (pop-noted p φ) e g i = pop-note φ (e (popList p)) i
+note-kept m m′ h (push-noted p φ) e g i = push-note φ (e (pushList p)) i
+note-kept m m′ h (anchor-noted d n) e g i = i
+note-kept m m′ h (entry-noted y d n) e g i = (i .0, g y (i .0) ∙ i .1)

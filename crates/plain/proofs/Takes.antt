@@ -85,9 +85,9 @@ module _ {area : ℕ} {m : Mem} {t : ℕ} {k : ℕ → List ℕ} where
     exchanges = λ ℓ. as-before refl refl;
   })
   a3-read-inv c d PARTIAL e w = placed w _ refl
-      (placeHolds w .0, placeHolds w .1, omega (arith, ap numberOf e)) tt
+      (placeHolds w .0, placeHolds w .1, omega (arith, ap numberOf e)) (omega (arith, when-same d 1))
   a3-read-inv c d FULL e w = placed w _ refl
-      (placeHolds w .0, placeHolds w .1, omega (arith, ap numberOf e)) tt
+      (placeHolds w .0, placeHolds w .1, omega (arith, ap numberOf e)) (omega (arith, when-same d 1))
 
   -- The won exchange: the chain's blocks are under way from now on.
   take-inv : (c d : ℕ) (n : Note) (q : List ℕ) → m .descriptor d .chain ≡ q

@@ -15,7 +15,7 @@ use Rattle.classes.specs.Places.{regionOf}
 use Rattle.plain.specs.State.{Task, Mem, setTask}
 use Rattle.plain.specs.Steps.{at}
 use Rattle.plain.specs.States.{IfOpen, IfEmpty, isEmpty}
-use Rattle.plain.specs.Held.{classAt, underWay}
+use Rattle.plain.specs.Held.{classAt, underWay, held}
 use Rattle.plain.specs.Weights.{rowWeight, insideWeight, insideClassWeight, chainWeight, chainClassWeight}
 use Rattle.plain.specs.Weights.{openWeight, fullWeight, blockWeight, blockClassWeight, descriptorWeight}
 use Rattle.plain.specs.Weights.{descriptorClassWeight, spareWeight, regionWeight, unmappedWeight}
@@ -192,7 +192,7 @@ module _ {area : ℕ} {m : Mem} {t : ℕ} {T : Task} (w : Turn area m t T) where
           record {
             lengths = o .lengths;
             place = o .place;
-            note = note-kept m m′ (underWay (m .task j .place)) (noted (m .task j .place)) (s .exchanges)
+            note = note-kept m m′ (held (m .task j .place)) (noted (m .task j .place)) (s .exchanges)
                 (λ y h. s .kept (regionOf y) (underWay-open j y l h)) (o .note);
           }
 

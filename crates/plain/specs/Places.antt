@@ -11,7 +11,7 @@ use Rattle.plain.specs.State.{numberOf, Phase, read, next, exchange, ret
 use Rattle.plain.specs.State.{a1, popping, pushing, a3-read, a3-exchange, a4, a7, a8, f1, f2, f3-read, f3-link}
 use Rattle.plain.specs.State.{f3-exchange, f4-clear, Task, Mem, Work, working, Push}
 use Rattle.plain.specs.Steps.{popList, pushList}
-use Rattle.plain.specs.Held.{popHeld, underWay}
+use Rattle.plain.specs.Held.{popHeld, Held, blockIn, descriptorIn, held}
 use Rattle.plain.specs.Noted.{Noted, unnoted, pop-noted, push-noted, anchor-noted, entry-noted, noted}
 
 -- the items of a row lie in one region with y
@@ -81,17 +81,17 @@ PushNote won read = Unit {0}
 PushNote won (next n) = n ≤ won
 PushNote won (exchange n) = n ≤ won
 
--- What holds of the note of a task that has the blocks b under way. Where a free noted the anchor of a descriptor, the
--- map still names it for the region of a block under way.
-abbrev pub NotedHolds : (ℕ → List ℕ) → (won map : ℕ → ℕ) → List ℕ → Noted → Type 0
-NotedHolds row won map b unnoted = Unit {0}
-NotedHolds row won map b (pop-noted p φ) = PopNote (row (popList p)) (won (popList p)) φ
-NotedHolds row won map b (push-noted p φ) = PushNote (won (pushList p)) φ
-NotedHolds row won map b (anchor-noted d n) = Unit {0}
-NotedHolds row won map b (entry-noted y d n) = (1 ≤ count y b) × (map (regionOf y) ≡ suc d)
+-- What holds of the note of a task that has h under way. Where an allocate noted the anchor of a descriptor, it has it in
+-- hand; where a free did, the map still names it for the region of a block under way.
+abbrev pub NotedHolds : (ℕ → List ℕ) → (won map : ℕ → ℕ) → Held → Noted → Type 0
+NotedHolds row won map h unnoted = Unit {0}
+NotedHolds row won map h (pop-noted p φ) = PopNote (row (popList p)) (won (popList p)) φ
+NotedHolds row won map h (push-noted p φ) = PushNote (won (pushList p)) φ
+NotedHolds row won map h (anchor-noted d n) = 1 ≤ descriptorIn d h
+NotedHolds row won map h (entry-noted y d n) = (1 ≤ blockIn y h) × (map (regionOf y) ≡ suc d)
 
 abbrev pub NoteHolds : (ℕ → List ℕ) → (won map : ℕ → ℕ) → Place → Type 0
-NoteHolds row won map p = NotedHolds row won map (underWay p) (noted p)
+NoteHolds row won map p = NotedHolds row won map (held p) (noted p)
 
 -- a task T of the memory m: each cache has at most n blocks, and what holds at its place and of its note
 pub record TaskHolds (m : Mem) (T : Task) : Type 0 where
