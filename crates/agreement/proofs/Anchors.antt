@@ -95,7 +95,8 @@ module _ {regions : ℕ} {v : View} {area : List ℕ} {m : Mem} {t : ℕ} {k : �
   -- ---- the read
 
   -- the anchor's state is z
-  read-state : At regions v area m t (working (a3-read (v (TaskClass t)) (v (TaskDescriptor t)))) k → v (TaskDescriptor t) < DESCRIPTORS
+  read-state : At regions v area m t (working (a3-read (v (TaskClass t)) (v (TaskDescriptor t)))) k
+      → v (TaskDescriptor t) < DESCRIPTORS
       → (z : State) → m .descriptor (v (TaskDescriptor t)) .state ≡ z
       → Both regions v area m (Allocate.a3ReadOf v (link area) regions t (v (TaskClass t)) (v (TaskDescriptor t)))
       (Steps.a3Read t k (v (TaskClass t)) (v (TaskDescriptor t)) z m)
@@ -105,11 +106,15 @@ module _ {regions : ℕ} {v : View} {area : List ℕ} {m : Mem} {t : ℕ} {k : �
       let d = v (TaskDescriptor t) in
       let b = anchorOf (v (Layout.Anchor d)) in
       pass (isAnchor (v (Layout.Anchor d))) (anchor-tested w d l)
-      (meet _ (eqb (b .state) 0) (eq-eqb (b .state) 0 (w .pair .rel .core .descriptors .each d l .state ∙ ap numberOf g)) (record {
+      (meet _ (eqb (b .state) 0)
+      (eq-eqb (b .state) 0 (w .pair .rel .core .descriptors .each d l .state ∙ ap numberOf g)) (record {
         says = refl;
         keeps = (refl, refl);
-        rel = goes w (TaskPlace t := PUSH-RETIRE ∷ []) (toPlace PUSH-RETIRE (slotOf v t)) (working (pushing (retire c d) read)) refl
-            (rw (eq-eqb t t refl)) (λ j n. rw (ne-eqb t j n)) refl refl (r-working (r-retire (PushRelated.at-read refl)));
+        rel =
+            goes w (TaskPlace t := PUSH-RETIRE ∷ []) (toPlace PUSH-RETIRE (slotOf v t))
+            (working (pushing (retire c d) read)) refl
+            (rw (eq-eqb t t refl)) (λ j n. rw (ne-eqb t j n)) refl refl
+            (r-working (r-retire (PushRelated.at-read refl)));
         sound = omega (arith, w .pair .turn .fits);
         apart = tt;
       }))
@@ -133,13 +138,16 @@ module _ {regions : ℕ} {v : View} {area : List ℕ} {m : Mem} {t : ℕ} {k : �
       let st : b .state ≡ 1 = D .state ∙ ap numberOf g in
       let low : 1 ≤ b .count = omega (arith, C .counts, sz) in
       let high : b .count ≤ perRegion c = omega (arith, C .counts, sz, en) in
-      let first : b .avail < perRegion c = omega (arith, en, first-below (E .region) (E .class) (E .chain) (C .linked) (sz .0) (L .inside)) in
+      let first : b .avail < perRegion c =
+      omega (arith, en, first-below (E .region) (E .class) (E .chain) (C .linked) (sz .0) (L .inside)) in
       pass (isAnchor word) (anchor-tested w d l)
       (miss _ (eqb (b .state) 0) (ne-eqb (b .state) 0 (omega arith))
       (pass (hasChain (perRegion c) word) (chain-tested (perRegion c) word st low high first) (record {
         says = refl;
         keeps = (refl, refl);
-        rel = goes w (TaskPlace t := A3-EXCHANGE ∷ TaskAnchor t := word ∷ []) (toPlace A3-EXCHANGE (toAnchor b (slotOf v t)))
+        rel =
+            goes w (TaskPlace t := A3-EXCHANGE ∷ TaskAnchor t := word ∷ [])
+            (toPlace A3-EXCHANGE (toAnchor b (slotOf v t)))
             (working (a3-exchange c d (noteOf E))) refl (rw (eq-eqb t t refl)) (λ j n. rw (ne-eqb t j n)) refl refl
             (r-working (r-a3-exchange refl (re-note refl (sym ec) (note-of m d D C L)) st low high first));
         sound = omega (arith, w .pair .turn .fits, w .fitting (Layout.Anchor d) (omega (arith, l)));
@@ -183,14 +191,22 @@ module _ {regions : ℕ} {v : View} {area : List ℕ} {m : Mem} {t : ℕ} {k : �
       let E = m .descriptor d in
       let T = taken (w .pair .turn) u in
       let D = w .pair .rel .core .descriptors .each d (T .fits) in
-      let C : ChainRelated (link area) (anchorOf (v (Layout.Anchor d))) E = open-holds (E .state) (T .counts) (D .chain) in
+      let C : ChainRelated (link area) (anchorOf (v (Layout.Anchor d))) E =
+      open-holds (E .state) (T .counts) (D .chain) in
       let same = anchor-word-same (v (Layout.Anchor d)) (v (TaskAnchor t)) e in
       let s = toPlace A4 (toChain r (b .avail) (b .count) (slotOf v t)) in
       let lk : Linked (link area) (indexOf c) (perRegion c) (b .avail) (E .chain) =
       subst (λ (z : ℕ). Linked (link area) (indexOf z) (perRegion z) (b .avail) (E .chain)) (sym (T .class))
-      (subst (λ (z : ℕ). Linked (link area) (indexOf (E .class)) (perRegion (E .class)) z (E .chain)) (same .0 .1) (C .linked)) in
+      (subst (λ (z : ℕ). Linked (link area) (indexOf (E .class)) (perRegion (E .class)) z (E .chain)) (same .0 .1)
+      (C .linked)) in
       let inside : (y : ℕ) → count y (E .chain) ≤ isBlock y r c =
-      λ y. omega (arith, T .opened .inside y, ap (λ (z : ℕ). isBlock y z (E .class)) (D .region), ap (isBlock y r) (T .class)) in
+      λ y. omega (
+        arith,
+        T .opened .inside y,
+        ap (λ (z : ℕ). isBlock y z (E .class)) (D .region),
+        ap (isBlock y r)
+            (T .class),
+      ) in
       let own = TaskRegion t := r ∷ TaskIndex t := b .avail ∷ TaskLeft t := b .count ∷ [] in
       let S = slotOf (assigned (TaskPlace t := A4 ∷ own) v) in
       has-top (λ q. (Steps.to t k (moving c q) (setDescriptor d (chained E FULL []) m), going (took d))) (E .chain)
@@ -200,8 +216,10 @@ module _ {regions : ℕ} {v : View} {area : List ℕ} {m : Mem} {t : ℕ} {k : �
         keeps = (refl, refl);
         rel = shares w
             (TaskPlace t := A4 ∷ Layout.Anchor d := anchorWord (full (perRegion c)) ∷ own)
-            s (working (a4 c x q)) (setAnchor d (full (perRegion c)) (memoryOf v area)) (setDescriptor d (chained E FULL []) m)
-            (anchoring (w .pair) d (full (perRegion c)) (chained E FULL []) s (taskOf (working (a4 c x q)) k) (T .fits) refl refl refl
+            s (working (a4 c x q)) (setAnchor d (full (perRegion c)) (memoryOf v area))
+            (setDescriptor d (chained E FULL []) m)
+            (anchoring (w .pair) d (full (perRegion c)) (chained E FULL []) s (taskOf (working (a4 c x q)) k) (T .fits)
+            refl refl refl
             (record { linked = ends (ap perRegion (T .class)); counts = refl }) (perRegion-high c) (omega arith))
             (anchor-written v S area d (anchorWord (full (perRegion c)))
             ∙ ap (λ (z : Anchor). withSlots S (setAnchor d z (memoryOf v area))) (full-read c))
@@ -222,7 +240,8 @@ module _ {regions : ℕ} {v : View} {area : List ℕ} {m : Mem} {t : ℕ} {k : �
         apart = tt;
       })
 
-  pub a3-exchange-both : {n : Note} → At regions v area m t (working (a3-exchange (v (TaskClass t)) (v (TaskDescriptor t)) n)) k
+  pub a3-exchange-both : {n : Note} → At regions v area m t
+      (working (a3-exchange (v (TaskClass t)) (v (TaskDescriptor t)) n)) k
       → NoteRelated m (v (TaskClass t)) (v (TaskDescriptor t)) n (anchorOf (v (TaskAnchor t)))
       → anchorOf (v (TaskAnchor t)) .state ≡ 1 → 1 ≤ anchorOf (v (TaskAnchor t)) .count
       → anchorOf (v (TaskAnchor t)) .count ≤ perRegion (v (TaskClass t))
@@ -255,9 +274,11 @@ module _ {regions : ℕ} {v : View} {area : List ℕ} {m : Mem} {t : ℕ} {k : �
       same-unmoved m d n D (C z) (L z) N′ same)
       (λ h.
       let z : 1 ≤ numberOf (E .state) = omega (arith, h, N .state) in
-      eq-eqb (v (Layout.Anchor d)) word (same-anchor-word (v (Layout.Anchor d)) word (unmoved-same m d n D (C z) (L z) N′ h)))
+      eq-eqb (v (Layout.Anchor d)) word
+      (same-anchor-word (v (Layout.Anchor d)) word (unmoved-same m d n D (C z) (L z) N′ h)))
       (λ g h.
-      pass (ltb (v (DescriptorRegion d)) regions) (lt-ltb (v (DescriptorRegion d)) regions (w .pair .rel .core .descriptors .regionNumbers d l))
+      pass (ltb (v (DescriptorRegion d)) regions)
+      (lt-ltb (v (DescriptorRegion d)) regions (w .pair .rel .core .descriptors .regionNumbers d l))
       (exchange-won n w high first (eqb-true (v (Layout.Anchor d)) word g) h))
       (λ g h. record {
         says = refl;

@@ -54,22 +54,26 @@ module _ {regions : ℕ} {v : View} {area : List ℕ} {m : Mem} (R : Related reg
 
   module _ (t : ℕ) (x : Outcome) (y : Result) where
     -- "6 the task has a request in hand"
-    pub when-idle : (p : Place) → PlaceRelated regions (memoryOf v area) m (slotOf v t) p → (p ≡ idle → Both regions v area m x y)
+    pub when-idle : (p : Place) → PlaceRelated regions (memoryOf v area) m (slotOf v t) p
+        → (p ≡ idle → Both regions v area m x y)
         → Both regions v area m (Stepped.whenIdle v t x) (Plain.whenIdle p y m)
     unfolding Stepped.whenIdle
-    when-idle p (r-idle e) h = rw (lt-ltb (v (TaskPlace t)) PLACES (omega arith), eq-eqb (v (TaskPlace t)) IDLE e) (h refl)
+    when-idle p (r-idle e) h =
+        rw (lt-ltb (v (TaskPlace t)) PLACES (omega arith), eq-eqb (v (TaskPlace t)) IDLE e) (h refl)
     when-idle p (r-working W) h =
         let i = work-place W in
         rw (lt-ltb (v (TaskPlace t)) PLACES (omega arith), ne-eqb (v (TaskPlace t)) IDLE (omega arith)) (refusal 6)
 
 -- ---- an idle task begins a request
 
-module _ {regions : ℕ} {v : View} {area : List ℕ} {m : Mem} {t : ℕ} {k : ℕ → List ℕ} (w : At regions v area m t idle k) where
+module _ {regions : ℕ} {v : View} {area : List ℕ} {m : Mem} {t : ℕ} {k : ℕ → List ℕ}
+    (w : At regions v area m t idle k) where
   abbrev R : Related regions (memoryOf v area) m
   R = w .pair .rel
 
   -- a task's part with its caches as they were, and another class
-  begun : (a′ : Memory) (m′ : Mem) (s : Slot) (p : Place) → a′ .area ≡ area → s .class < CLASSES → s .caches ≡ slotOf v t .caches
+  begun : (a′ : Memory) (m′ : Mem) (s : Slot) (p : Place) → a′ .area ≡ area → s .class < CLASSES
+      → s .caches ≡ slotOf v t .caches
       → PlaceRelated regions a′ m′ s p → SlotRelated regions a′ m′ s (taskOf p k)
   begun a′ m′ s p e f g pl = record {
     fits = f;
@@ -83,17 +87,23 @@ module _ {regions : ℕ} {v : View} {area : List ℕ} {m : Mem} {t : ℕ} {k : �
   unfolding Stepped.beginAllocate
   allocate-both size =
       decide (eqb size 0) (ℕ-discrete size 0) (eqb-true size 0) (eq-eqb size 0) (λ e f. refusal R 8)
-      (λ e f. decide (ltb MOST-BYTES size) (decLt MOST-BYTES size) (ltb-true MOST-BYTES size) (lt-ltb MOST-BYTES size) (λ g h. refusal R 9)
+      (λ e f. decide (ltb MOST-BYTES size) (decLt MOST-BYTES size) (ltb-true MOST-BYTES size) (lt-ltb MOST-BYTES size)
+      (λ g h. refusal R 9)
       (λ g h.
       let l : classOf size < CLASSES = is-class size (omega arith) in
       let s = toRequest A1 (classOf size) (v (TaskUnit t)) (slotOf v t) in
       let ws = TaskPlace t := A1 ∷ TaskClass t := classOf size ∷ [] in
       record {
         says = refl;
-        rel = subst (λ (z : Memory). Related regions z (setTask t (record { place = working (a1 (classOf size)); cache = m .task t .cache }) m))
-            (sym (becomes v (assigned ws v) area t s (memoryOf v area) refl refl (rw (eq-eqb t t refl)) (λ j n. rw (ne-eqb t j n))))
-            (subst (λ (q : ℕ → List ℕ). Related regions (setSlot t s (memoryOf v area)) (setTask t (record { place = working (a1 (classOf size)); cache = q }) m)) (sym cache-is)
-            (quiet (w .pair) s (taskOf (working (a1 (classOf size))) k) (begun _ _ s (working (a1 (classOf size))) refl l refl (r-working (r-a1 refl)))));
+        rel =
+            subst (λ (z : Memory). Related regions z
+            (setTask t (record { place = working (a1 (classOf size)); cache = m .task t .cache }) m))
+            (sym (becomes v (assigned ws v) area t s (memoryOf v area) refl refl (rw (eq-eqb t t refl))
+            (λ j n. rw (ne-eqb t j n))))
+            (subst (λ (q : ℕ → List ℕ). Related regions (setSlot t s (memoryOf v area))
+            (setTask t (record { place = working (a1 (classOf size)); cache = q }) m)) (sym cache-is)
+            (quiet (w .pair) s (taskOf (working (a1 (classOf size))) k)
+            (begun _ _ s (working (a1 (classOf size))) refl l refl (r-working (r-a1 refl)))));
         keeps = (refl, refl);
         sound = omega (arith, w .pair .turn .fits);
         apart = tt;
@@ -119,15 +129,18 @@ numbered FULL h = omega arith
 first-same : (c u : ℕ) → isFirst c u ≡ true → Plain.First c u
 unfolding isFirst
 first-same c u e = (
-  eqb-true (u % REGION-UNITS % units c) 0 (left-true (eqb (u % REGION-UNITS % units c) 0) (ltb (indexOf c u) (perRegion c)) e),
-  ltb-true (indexOf c u) (perRegion c) (right-true (eqb (u % REGION-UNITS % units c) 0) (ltb (indexOf c u) (perRegion c)) e),
+  eqb-true (u % REGION-UNITS % units c) 0
+      (left-true (eqb (u % REGION-UNITS % units c) 0) (ltb (indexOf c u) (perRegion c)) e),
+  ltb-true (indexOf c u) (perRegion c)
+      (right-true (eqb (u % REGION-UNITS % units c) 0) (ltb (indexOf c u) (perRegion c)) e),
 )
 
 same-first : (c u : ℕ) → Plain.First c u → isFirst c u ≡ true
 unfolding isFirst
 same-first c u p = both-true (eq-eqb (u % REGION-UNITS % units c) 0 (p .0)) (lt-ltb (indexOf c u) (perRegion c) (p .1))
 
-module _ {regions : ℕ} {v : View} {area : List ℕ} {m : Mem} {t : ℕ} {k : ℕ → List ℕ} (w : At regions v area m t idle k) (u : ℕ)
+module _ {regions : ℕ} {v : View} {area : List ℕ} {m : Mem} {t : ℕ} {k : ℕ → List ℕ} (w : At regions v area m t idle k)
+    (u : ℕ)
     (inside : regionOf u < regions) where
   abbrev I : Invariant regions m
   I = w .pair .turn .inv
@@ -142,22 +155,35 @@ module _ {regions : ℕ} {v : View} {area : List ℕ} {m : Mem} {t : ℕ} {k : �
   ten (no p) y n = refusal (R w) 10
 
   -- "11 such a unit, but its mark is clear"; else the mark is cleared
-  marked : (c : ℕ) → c < CLASSES → (e : Dec (m .hands u ≡ 0)) → Both regions v area m (Stepped.freeMarked v t u c) (if e (m, refused 11) (freed c))
+  marked : (c : ℕ) → c < CLASSES → (e : Dec (m .hands u ≡ 0))
+      → Both regions v area m (Stepped.freeMarked v t u c) (if e (m, refused 11) (freed c))
   unfolding Stepped.freeMarked
   marked c l (yes e) = rw (ne-eqb (bitAt (v (Marks (u / 64))) (u % 64)) 1 (λ i. omega (arith, mark))) (refusal (R w) 11)
     where
       mark : bitAt (v (Marks (u / 64))) (u % 64) ≡ m .hands u
       mark = R w .core .entries .marks u (omega (arith, w .pair .small))
   marked c l (no e) =
-      meet (refuse 11) (isSet (v (Marks (u / 64))) (u % 64)) (eq-eqb (bitAt (v (Marks (u / 64))) (u % 64)) 1 (mark ∙ one))
+      meet (refuse 11) (isSet (v (Marks (u / 64))) (u % 64))
+      (eq-eqb (bitAt (v (Marks (u / 64))) (u % 64)) 1 (mark ∙ one))
       (record {
         says = refl;
         rel = subst (λ (z : Memory). Related regions z (freed c .0))
-            (sym (becomes v (assigned ws v) area t s (setMark u 0 (memoryOf v area)) (mark-clear-written v (slotOf (assigned ws v)) area u) refl (rw (eq-eqb t t refl)) (λ j n. rw (ne-eqb t j n))))
-            (subst (λ (q : ℕ → List ℕ). Related regions (setSlot t s (setMark u 0 (memoryOf v area))) (setTask t (record { place = working (f1 c u); cache = q }) (setHands u 0 m))) (sym cache-is)
-            (marking (w .pair) u 0 s (taskOf (working (f1 c u)) k) (begun w _ _ s (working (f1 c u)) refl l refl (r-working (r-f1 refl)))));
+            (sym (becomes v (assigned ws v) area t s (setMark u 0 (memoryOf v area))
+            (mark-clear-written v (slotOf (assigned ws v)) area u) refl (rw (eq-eqb t t refl))
+            (λ j n. rw (ne-eqb t j n))))
+            (subst (λ (q : ℕ → List ℕ). Related regions (setSlot t s (setMark u 0 (memoryOf v area)))
+            (setTask t (record { place = working (f1 c u); cache = q }) (setHands u 0 m))) (sym cache-is)
+            (marking (w .pair) u 0 s (taskOf (working (f1 c u)) k)
+            (begun w _ _ s (working (f1 c u)) refl l refl (r-working (r-f1 refl)))));
         keeps = (refl, refl);
-        sound = omega (arith, w .pair .turn .fits, w .pair .small, clear-below (v (Marks (u / 64))) (u % 64) 64 (w .fitting (Marks (u / 64)) (omega (arith, w .pair .small))) (omega arith));
+        sound =
+            omega (
+              arith,
+              w .pair .turn .fits,
+              w .pair .small,
+              clear-below (v (Marks (u / 64))) (u % 64) 64
+                  (w .fitting (Marks (u / 64)) (omega (arith, w .pair .small))) (omega arith),
+            );
         apart = tt;
       })
     where
@@ -168,7 +194,9 @@ module _ {regions : ℕ} {v : View} {area : List ℕ} {m : Mem} {t : ℕ} {k : �
       one = omega (arith, I .blocks u, inside-open I u)
 
       ws : List Write
-      ws = TaskPlace t := F1 ∷ TaskClass t := c ∷ TaskUnit t := u ∷ Marks (u / 64) := withClear (v (Marks (u / 64))) (u % 64) ∷ []
+      ws =
+          TaskPlace t := F1 ∷ TaskClass t := c ∷ TaskUnit t := u
+          ∷ Marks (u / 64) := withClear (v (Marks (u / 64))) (u % 64) ∷ []
 
       s : Slot
       s = toRequest F1 c u (slotOf v t)
@@ -177,28 +205,49 @@ module _ {regions : ℕ} {v : View} {area : List ℕ} {m : Mem} {t : ℕ} {k : �
       cache-is = ap (λ (T : Task). T .cache) (w .pair .turn .is)
 
   -- the descriptor d, which the map names for the region, opens it or not; then its class and the unit
-  opened : (d : ℕ) → d < DESCRIPTORS → Both regions v area m (Stepped.freeBy v regions t u d) (Plain.freeIn (m .descriptor d) t u m)
+  opened : (d : ℕ) → d < DESCRIPTORS → Both regions v area m (Stepped.freeBy v regions t u d)
+      (Plain.freeIn (m .descriptor d) t u m)
   unfolding Stepped.freeBy Stepped.freeOpen
   opened d l =
       let D = R w .core .descriptors .each d l in
       let n = numberOf (m .descriptor d .state) in
       let test = both (Plain.opens? (m .descriptor d) (regionOf u)) (Plain.first? (m .descriptor d .class) u) in
-      pass (ltb (v (DescriptorRegion d)) regions) (lt-ltb (v (DescriptorRegion d)) regions (R w .core .descriptors .regionNumbers d l))
+      pass (ltb (v (DescriptorRegion d)) regions)
+      (lt-ltb (v (DescriptorRegion d)) regions (R w .core .descriptors .regionNumbers d l))
       (choose (eqb (v (DescriptorRegion d)) (regionOf u))
       (λ e.
       pass (isAnchor (v (Anchor d)))
-      (both-true (both-true (le-leb (anchorOf (v (Anchor d)) .state) 2 (omega (arith, D .state, number-max (m .descriptor d .state)))) (le-leb (anchorOf (v (Anchor d)) .avail) MOST-BLOCKS (R w .core .descriptors .avails d l)))
+      (both-true
+      (both-true
+      (le-leb (anchorOf (v (Anchor d)) .state) 2 (omega (arith, D .state, number-max (m .descriptor d .state))))
+      (le-leb (anchorOf (v (Anchor d)) .avail) MOST-BLOCKS (R w .core .descriptors .avails d l)))
       (le-leb (anchorOf (v (Anchor d)) .count) MOST-BLOCKS (R w .core .descriptors .chainCounts d l)))
       (choose (eqb (anchorOf (v (Anchor d)) .state) 0)
-      (λ z. ten test _ (λ p. absurd (omega (arith, eqb-true (anchorOf (v (Anchor d)) .state) 0 z, D .state, numbered (m .descriptor d .state) (p .0 .1)))))
+      (λ z. ten test _
+      (λ p. absurd
+      (omega (
+        arith,
+        eqb-true (anchorOf (v (Anchor d)) .state) 0 z,
+        D .state,
+        numbered (m .descriptor d .state)
+            (p .0 .1),
+      ))))
       (λ z.
-      let live : Plain.NotEmpty (m .descriptor d .state) = notEmpty (m .descriptor d .state) (omega (arith, eqb-false (anchorOf (v (Anchor d)) .state) 0 z, D .state)) in
-      pass (ltb (v (DescriptorClass d)) CLASSES) (lt-ltb (v (DescriptorClass d)) CLASSES (R w .core .descriptors .classNumbers d l))
-      (subst (λ (c : ℕ). Both regions v area m (cond (isFirst c u) (Stepped.freeMarked v t u c) (refuse 10)) (Plain.freeIn (m .descriptor d) t u m)) (sym (D .class))
+      let live : Plain.NotEmpty (m .descriptor d .state) =
+      notEmpty (m .descriptor d .state) (omega (arith, eqb-false (anchorOf (v (Anchor d)) .state) 0 z, D .state)) in
+      pass (ltb (v (DescriptorClass d)) CLASSES)
+      (lt-ltb (v (DescriptorClass d)) CLASSES (R w .core .descriptors .classNumbers d l))
+      (subst (λ (c : ℕ). Both regions v area m (cond (isFirst c u) (Stepped.freeMarked v t u c) (refuse 10))
+      (Plain.freeIn (m .descriptor d) t u m)) (sym (D .class))
       (decide (isFirst (m .descriptor d .class) u) test
-      (λ f. ((sym (D .region) ∙ eqb-true (v (DescriptorRegion d)) (regionOf u) e, live), first-same (m .descriptor d .class) u f))
+      (λ f. (
+        (sym (D .region) ∙ eqb-true (v (DescriptorRegion d)) (regionOf u) e, live),
+        first-same
+            (m .descriptor d .class) u f,
+      ))
       (λ p. same-first (m .descriptor d .class) u (p .1))
-      (λ f p. marked (m .descriptor d .class) (omega (arith, D .class, R w .core .descriptors .classNumbers d l)) (ℕ-discrete (m .hands u) 0))
+      (λ f p. marked (m .descriptor d .class) (omega (arith, D .class, R w .core .descriptors .classNumbers d l))
+      (ℕ-discrete (m .hands u) 0))
       (λ f p. refusal (R w) 10))))))
       (λ e. ten test _ (λ p. absurd (eqb-false (v (DescriptorRegion d)) (regionOf u) e (D .region ∙ p .0 .0)))))
 
@@ -211,11 +260,16 @@ module _ {regions : ℕ} {v : View} {area : List ℕ} {m : Mem} {t : ℕ} {k : �
       (opened d l)
 
 -- "10 not the first unit of a block of an open region"
-pub free-both : {regions : ℕ} {v : View} {area : List ℕ} {m : Mem} {t : ℕ} {k : ℕ → List ℕ} (w : At regions v area m t idle k) (u : ℕ)
+pub free-both : {regions : ℕ} {v : View} {area : List ℕ} {m : Mem} {t : ℕ} {k : ℕ → List ℕ}
+    (w : At regions v area m t idle k) (u : ℕ)
     → Both regions v area m (Stepped.beginFree v regions t u) (Plain.beginFree t u regions m)
 unfolding Stepped.beginFree
 free-both {regions} {v} {area} {m} {t} w u =
-    decide (ltb (regionOf u) regions) (decLt (regionOf u) regions) (ltb-true (regionOf u) regions) (lt-ltb (regionOf u) regions)
-    (λ e l. subst (λ (z : ℕ). Both regions v area m (Stepped.freeEntry v regions t u z) (Plain.freeBy (m .map (regionOf u)) t u m))
-    (sym (R w .core .entries .maps (regionOf u) l)) (entry w u l (m .map (regionOf u)) (w .pair .turn .inv .entries (regionOf u))))
+    decide (ltb (regionOf u) regions) (decLt (regionOf u) regions) (ltb-true (regionOf u) regions)
+    (lt-ltb (regionOf u) regions)
+    (λ e l. subst
+    (λ (z : ℕ). Both regions v area m (Stepped.freeEntry v regions t u z)
+    (Plain.freeBy (m .map (regionOf u)) t u m))
+    (sym (R w .core .entries .maps (regionOf u) l))
+    (entry w u l (m .map (regionOf u)) (w .pair .turn .inv .entries (regionOf u))))
     (λ e l. refusal (R w) 10)

@@ -72,7 +72,8 @@ table =
 
 -- ---- what a row says
 
--- What the beginning of an allocation shows: the block of its class where the code is 0, else the number that refuses it.
+-- What the beginning of an allocation shows: the block of its class where the code is 0, else the number that refuses
+-- it.
 abbrev pub begins : (code class : ℕ) → Shown
 begins code class = cond (eqb code 0) (bytes (block class)) (number code)
 
@@ -97,10 +98,10 @@ abbrev pub allocating : (area : List ℕ) (tasks t size n : ℕ) → List Event
 allocating area tasks t size n =
     starting (of-tasks tasks) area ∷ call (allocate t size) (lends area) ∷ replicate n (call (step t) (lends area))
 
--- Of sizes, in both pools, whatever they hold, and of every task. Of first allocations, on the bytes: after every accepted start,
--- whatever bytes the memories held before, and of each of its tasks; the start, the beginning and all of the n steps but the last
--- are code 0 with value 0, and the last finishes with the unit. Of tags, in every head word and with every item put on top; of
--- groups, with every first block.
+-- Of sizes, in both pools, whatever they hold, and of every task. Of first allocations, on the bytes: after every
+-- accepted start, whatever bytes the memories held before, and of each of its tasks; the start, the beginning and all
+-- of the n steps but the last are code 0 with value 0, and the last finishes with the unit. Of tags, in every head word
+-- and with every item put on top; of groups, with every first block.
 abbrev pub Holds : Row → Type 0
 Holds (of-size s x) =
     (t : ℕ) (v : View) (m : Mem)
@@ -135,12 +136,19 @@ unfolding choice
 plain-size s t m = by (ℕ-discrete s 0) (decLt MOST-BYTES s)
   where
     by : (a : Dec (s ≡ 0)) (b : Dec (MOST-BYTES < s))
-        → plainBegins t (if a (m, refused 8) (if b (m, refused 9) (setTask t (taskOf (working (a1 (classOf s))) (m .task t .cache)) m, going nothing)))
+        → plainBegins t
+        (if a (m, refused 8)
+        (if b (m, refused 9) (setTask t (taskOf (working (a1 (classOf s))) (m .task t .cache)) m, going nothing)))
         ≡ shown (choice s)
     by (yes e) b = rw (eq-eqb s 0 e)
     by (no e) (yes l) = rw (ne-eqb s 0 e, lt-ltb MOST-BYTES s l)
     by (no e) (no l) =
-        rw (ne-eqb s 0 e, le-ltb MOST-BYTES s (omega arith), update-same (m .task) t (taskOf (working (a1 (classOf s))) (m .task t .cache)))
+        rw (
+          ne-eqb s 0 e,
+          le-ltb MOST-BYTES s (omega arith),
+          update-same (m .task) t
+              (taskOf (working (a1 (classOf s))) (m .task t .cache)),
+        )
 
 -- a list of sizes that are shown as they should be
 each : (q : List (ℕ × Shown)) → map (λ r. shown (choice (r .0))) q ≡ map (λ r. r .1) q
@@ -170,7 +178,8 @@ module _ (area : List ℕ) (tasks t : ℕ) (a : Plain.Area (length area)) (T : P
   starts : whole (starting (of-tasks tasks) area) unstarted ≡ (pool (startMem regions), going nothing)
   unfolding Plain.call
   starts =
-      if-yes (ℕ-discrete CONTROL-BYTES CONTROL-BYTES) _ _ refl ∙ if-yes (Plain.area? (length area)) _ _ a ∙ if-yes (Plain.tasks? tasks) _ _ T
+      if-yes (ℕ-discrete CONTROL-BYTES CONTROL-BYTES) _ _ refl ∙ if-yes (Plain.area? (length area)) _ _ a
+      ∙ if-yes (Plain.tasks? tasks) _ _ T
 
   -- the pool with the allocation begun: no cache has a block
   abbrev begun : ℕ → Mem
@@ -182,7 +191,8 @@ module _ (area : List ℕ) (tasks t : ℕ) (a : Plain.Area (length area)) (T : P
   begins-so size p q =
       taken-is (Plain.beginAllocate t size (startMem regions)) (passes (startMem regions))
       ∙ ap (Plain.became (pool (startMem regions)))
-      (if-no (ℕ-discrete size 0) _ _ (λ e. absurd (omega arith)) ∙ if-no (decLt MOST-BYTES size) _ _ (λ e. absurd (omega arith)))
+      (if-no (ℕ-discrete size 0) _ _ (λ e. absurd (omega arith))
+      ∙ if-no (decLt MOST-BYTES size) _ _ (λ e. absurd (omega arith)))
 
   -- n steps of the task
   steps-so : (n : ℕ) (m : Mem) → wholeAnswers (replicate n (call (step t) (lends area))) (pool m) ≡ taskAnswers t n m
@@ -196,7 +206,8 @@ module _ (area : List ℕ) (tasks t : ℕ) (a : Plain.Area (length area)) (T : P
   unlisted : (c : ℕ) → c < CLASSES → startMem regions .row c ≡ []
   unfolding startMem
   unlisted c i =
-      if-no (ℕ-discrete c SPARE-DESCRIPTORS) _ _ (λ e. absurd (omega arith)) ∙ if-no (ℕ-discrete c SPARE-REGIONS) _ _ (λ e. absurd (omega arith))
+      if-no (ℕ-discrete c SPARE-DESCRIPTORS) _ _ (λ e. absurd (omega arith))
+      ∙ if-no (ℕ-discrete c SPARE-REGIONS) _ _ (λ e. absurd (omega arith))
 
   spare-descriptors : startMem regions .row SPARE-DESCRIPTORS ≡ 0 ∷ rising (DESCRIPTORS - 1) 1
   unfolding startMem rising ℕ-discrete
@@ -212,11 +223,14 @@ module _ (area : List ℕ) (tasks t : ℕ) (a : Plain.Area (length area)) (T : P
   finishes : (size b : ℕ) → size ≤ MOST-BYTES → suc b ≡ perRegion (classOf size)
       → Finishes t (unitOf 0 (classOf size) b) (b + 10) (begun size)
   finishes size b q e =
-      opens t (classOf size) (λ c. []) 0 0 b (rising (DESCRIPTORS - 1) 1) (rising (regions - 1) 1) refl (unlisted (classOf size) (is-class size q))
-      spare-descriptors spare-regions e (update-same (startMem regions .task) t (taskOf (working (a1 (classOf size))) (λ c. [])))
+      opens t (classOf size) (λ c. []) 0 0 b (rising (DESCRIPTORS - 1) 1) (rising (regions - 1) 1) refl
+      (unlisted (classOf size) (is-class size q))
+      spare-descriptors spare-regions e
+      (update-same (startMem regions .task) t (taskOf (working (a1 (classOf size))) (λ c. [])))
 
   -- what the plain pool does is what the stepped run answers: so few events meet the premises, for they have no writes
-  carried : (size n unit : ℕ) → 1 ≤ size → size ≤ MOST-BYTES → n + 3 ≤ TAGS → Finishes t unit n (begun size) → (before : Memories)
+  carried : (size n unit : ℕ) → 1 ≤ size → size ≤ MOST-BYTES → n + 3 ≤ TAGS → Finishes t unit n (begun size)
+      → (before : Memories)
       → map brief (steppedAnswers (allocating area tasks t size (suc n)) before) ≡ finishing (suc (suc n)) unit
   unfolding unstarted
   carried size n unit p q few F before =
@@ -239,7 +253,8 @@ module _ (area : List ℕ) (tasks t : ℕ) (a : Plain.Area (length area)) (T : P
 pub first : (size b : ℕ) → 1 ≤ size → size ≤ MOST-BYTES → suc b ≡ perRegion (classOf size)
     → Holds (first-allocation size (suc (b + 10)) (unitOf 0 (classOf size) b))
 first size b p q e area tasks t before a T l =
-    carried area tasks t a T l size (b + 10) (unitOf 0 (classOf size) b) p q (omega (arith, perRegion-high (classOf size)))
+    carried area tasks t a T l size (b + 10) (unitOf 0 (classOf size) b) p q
+    (omega (arith, perRegion-high (classOf size)))
     (finishes area tasks t a T l size b q e) before
 
 first-256 : Holds (first-allocation 256 26 480)

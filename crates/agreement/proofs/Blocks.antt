@@ -41,7 +41,8 @@ block-tested {r = r} {c = c} {v = v} b l = both-true (lt-ltb (regionOf v) _ (rw 
 
 module _ {regions : ℕ} {a : Memory} {m : Mem} {t : ℕ} {p : Place} {k : ℕ → List ℕ} (w : Pair regions a m t p k) where
   home-region : {c v : ℕ} (h : Home m c v) → m .descriptor (h .d) .region < regions
-  home-region {v = v} h = region-below (w .turn .inv) {v = v} (record { d = h .d; fits = h .fits; counts = h .counts; block = h .block })
+  home-region {v = v} h =
+      region-below (w .turn .inv) {v = v} (record { d = h .d; fits = h .fits; counts = h .counts; block = h .block })
 
   home-unit : {c v : ℕ} → Home m c v → Ranges.isBlock regions c v ≡ true
   home-unit {c} {v} h = block-tested (rw (h .class) at (h .block)) (home-region h)
@@ -50,7 +51,14 @@ module _ {regions : ℕ} {a : Memory} {m : Mem} {t : ℕ} {p : Place} {k : ℕ �
   home-below h = rw (← (h .region)) (home-region h)
 
   pub cached-home : (c v : ℕ) → 1 ≤ count v (k c) → Home m c v
-  cached-home c v h = home (w .turn .inv) c v (omega (arith, w .turn .inv .blockClasses c v, total-one TASKS (blockClassWeight c v) (m .task) t (w .turn .fits), ap (blockClassWeight c v t) (w .turn .is)))
+  cached-home c v h =
+      home (w .turn .inv) c v
+      (omega (
+        arith,
+        w .turn .inv .blockClasses c v,
+        total-one TASKS (blockClassWeight c v) (m .task) t (w .turn .fits),
+        ap (blockClassWeight c v t) (w .turn .is),
+      ))
 
   pub cached-unit : (c v : ℕ) → 1 ≤ count v (k c) → Ranges.isBlock regions c v ≡ true
   cached-unit c v h = home-unit (cached-home c v h)
@@ -59,20 +67,26 @@ module _ {regions : ℕ} {a : Memory} {m : Mem} {t : ℕ} {p : Place} {k : ℕ �
   under-unit v h = home-unit (home-of (w .turn) v h)
 
   -- the top of a cache is a unit, or the bottom
-  pub top-max : (c f : ℕ) (q : List ℕ) → Linked (link (a .area)) (λ u. u) UNITS f q → ((v : ℕ) → count v q ≤ count v (k c)) → f ≤ UNITS
+  pub top-max : (c f : ℕ) (q : List ℕ) → Linked (link (a .area)) (λ u. u) UNITS f q
+      → ((v : ℕ) → count v q ≤ count v (k c)) → f ≤ UNITS
   top-max c f q (ends e) h = omega arith
-  top-max c f q (links {u = u} e i) h = omega (arith, w .small, home-below (cached-home c u (omega (arith, h u, when-same u 1))))
+  top-max c f q (links {u = u} e i) h =
+      omega (arith, w .small, home-below (cached-home c u (omega (arith, h u, when-same u 1))))
 
   -- a block under way: its link may be written, and the task's caches keep theirs
-  pub mine-under : (u : ℕ) → 1 ≤ count u (underWay p) → (1 ≤ blockWeight u t (taskOf p k)) × (total CLASSES (rowWeight u) k ≡ 0) × (count u (underWay p) ≡ 1)
+  pub mine-under : (u : ℕ) → 1 ≤ count u (underWay p)
+      → (1 ≤ blockWeight u t (taskOf p k)) × (total CLASSES (rowWeight u) k ≡ 0) × (count u (underWay p) ≡ 1)
   mine-under u h = omega (arith, own-block w u (omega arith))
 
-  pub cache-agrees : (u x : ℕ) → 1 ≤ count u (underWay p) → (c : ℕ) → c < CLASSES → Agree (link (a .area)) (link (withLink (a .area) u x)) (k c)
+  pub cache-agrees : (u x : ℕ) → 1 ≤ count u (underWay p) → (c : ℕ) → c < CLASSES
+      → Agree (link (a .area)) (link (withLink (a .area) u x)) (k c)
   cache-agrees u x h c l =
-      agrees w u x (k c) (mine-under u h .0) (λ v. omega (arith, total-one CLASSES (rowWeight v) k c l)) (omega (arith, mine-under u h, total-one CLASSES (rowWeight u) k c l))
+      agrees w u x (k c) (mine-under u h .0) (λ v. omega (arith, total-one CLASSES (rowWeight v) k c l))
+      (omega (arith, mine-under u h, total-one CLASSES (rowWeight u) k c l))
 
   -- a row under way that does not have u
-  pub row-agrees : (u x : ℕ) (q : List ℕ) → 1 ≤ count u (underWay p) → ((v : ℕ) → count v q ≤ count v (underWay p)) → count u q ≡ 0 → Agree (link (a .area)) (link (withLink (a .area) u x)) q
+  pub row-agrees : (u x : ℕ) (q : List ℕ) → 1 ≤ count u (underWay p) → ((v : ℕ) → count v q ≤ count v (underWay p))
+      → count u q ≡ 0 → Agree (link (a .area)) (link (withLink (a .area) u x)) q
   row-agrees u x q h sub n = agrees w u x q (mine-under u h .0) (λ v. omega (arith, sub v)) n
 
   pub wrote : (u x : ℕ) → 1 ≤ count u (underWay p) → x ≤ UNITS → link (withLink (a .area) u x) u ≡ x
@@ -87,7 +101,9 @@ module _ {regions : ℕ} {a : Memory} {m : Mem} {t : ℕ} {p : Place} {k : ℕ �
     fits = rw f (mine w .fits);
     place = pl;
     caches = subst (λ (z : TaskCaches). CachesRelated (link (a′ .area)) z (update k c q)) (sym i) (record {
-      tops = update-all₂ (λ e x r. e < CLASSES → Linked (link (a′ .area)) (λ u. u) UNITS x r) (a .slot t .caches .top) k c b q
+      tops =
+          update-all₂ (λ e x r. e < CLASSES → Linked (link (a′ .area)) (λ u. u) UNITS x r) (a .slot t .caches .top) k c
+          b q
           (λ i. l) (λ e d i. linked-frame (g e i) (mine w .caches .tops e i));
       counts = update-all₂ (λ e x r. e < CLASSES → x ≡ length r) (a .slot t .caches .count) k c n q
           (λ i. en) (λ e d i. mine w .caches .counts e i);
@@ -113,11 +129,14 @@ module _ {regions : ℕ} {a : Memory} {m : Mem} {t : ℕ} {p : Place} {k : ℕ �
   re-slot a′ m′ s p′ e f g pl = re-link a′ m′ s p′ (λ c l u i. ap (λ (z : List ℕ). link z u) e) f g pl
 
   -- the link below the top of a cache, with the row q below it
-  pub below-tested : (c b : ℕ) (q : List ℕ) → ((v : ℕ) → count v q ≤ count v (k c)) → Linked (link (a .area)) (λ u. u) UNITS b q
+  pub below-tested : (c b : ℕ) (q : List ℕ) → ((v : ℕ) → count v q ≤ count v (k c))
+      → Linked (link (a .area)) (λ u. u) UNITS b q
       → isTop regions c (length q) b ≡ true
   below-tested c b [] h (ends e) = eq-eqb b UNITS e
-  below-tested c b (y ∷ q) h (links e l) = rw (ne-eqb (suc (length q)) 0 (omega arith), e) (cached-unit c y (omega (arith, h y, when-same y 1)))
+  below-tested c b (y ∷ q) h (links e l) =
+      rw (ne-eqb (suc (length q)) 0 (omega arith), e) (cached-unit c y (omega (arith, h y, when-same y 1)))
 
   -- a block of the task is in no user's hands
-  pub mine-apart : (u : ℕ) → 1 ≤ blockWeight u t (taskOf p k) → (m .hands u ≡ 0) × (1 ≤ total DESCRIPTORS (insideWeight u) (m .descriptor))
+  pub mine-apart : (u : ℕ) → 1 ≤ blockWeight u t (taskOf p k)
+      → (m .hands u ≡ 0) × (1 ≤ total DESCRIPTORS (insideWeight u) (m .descriptor))
   mine-apart u o = (own-block w u o .2, own-block w u o .0)

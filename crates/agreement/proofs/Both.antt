@@ -81,7 +81,8 @@ module _ {regions : ℕ} {v : View} {area : List ℕ} {m : Mem} where
   -- a read that finds the row q empty, or not
   pub by-row : {o o′ : Outcome} (b : Bool) (F : List ℕ → Result) (q : List ℕ) → (q ≡ [] → b ≡ true)
       → ((x : ℕ) (r : List ℕ) → q ≡ x ∷ r → b ≡ false) → (q ≡ [] → Both regions v area m o (F []))
-      → ((x : ℕ) (r : List ℕ) → q ≡ x ∷ r → Both regions v area m o′ (F (x ∷ r))) → Both regions v area m (cond b o o′) (F q)
+      → ((x : ℕ) (r : List ℕ) → q ≡ x ∷ r → Both regions v area m o′ (F (x ∷ r)))
+      → Both regions v area m (cond b o o′) (F q)
   by-row true F [] f g h k = h refl
   by-row true F (x ∷ r) f g h k = absurd (mathlib.Core.Bool.false≢true (sym (g x r refl)))
   by-row false F [] f g h k = absurd (mathlib.Core.Bool.false≢true (f refl))

@@ -83,7 +83,8 @@ cache-there f t c x j l n = fun-ext (λ e. go e (decLt e CLASSES))
 -- the word of the unit u's mark, with one bit changed to b, changes that mark alone
 module _ (v : View) (u b made : ℕ) (here : bitAt made (u % 64) ≡ b)
     (others : (j : ℕ) → j ≢ u % 64 → bitAt made j ≡ bitAt (v (Marks (u / 64))) j) where
-  marks-update : (λ (w : ℕ). bitAt (cond (eqb (u / 64) (w / 64)) made (v (Marks (w / 64)))) (w % 64)) ≡ update (markOf v) u b
+  marks-update : (λ (w : ℕ). bitAt (cond (eqb (u / 64) (w / 64)) made (v (Marks (w / 64)))) (w % 64))
+      ≡ update (markOf v) u b
   unfolding update
   marks-update = fun-ext (λ w. go w (ℕ-discrete w u) (ℕ-discrete (u / 64) (w / 64)))
     where
@@ -97,14 +98,16 @@ module _ (v : View) (u b made : ℕ) (here : bitAt made (u % 64) ≡ b)
       go w (no d) (no e) = rw (ne-eqb (u / 64) (w / 64) e)
 
 pub mark-set : (v : View) (u : ℕ)
-    → (λ (w : ℕ). bitAt (cond (eqb (u / 64) (w / 64)) (withSet (v (Marks (u / 64))) (u % 64)) (v (Marks (w / 64)))) (w % 64))
+    → (λ (w : ℕ). bitAt (cond (eqb (u / 64) (w / 64)) (withSet (v (Marks (u / 64))) (u % 64)) (v (Marks (w / 64))))
+    (w % 64))
     ≡ update (markOf v) u 1
 mark-set v u =
     marks-update v u 1 (withSet (v (Marks (u / 64))) (u % 64)) (set-here (v (Marks (u / 64))) (u % 64))
     (set-others (v (Marks (u / 64))) (u % 64))
 
 pub mark-clear : (v : View) (u : ℕ)
-    → (λ (w : ℕ). bitAt (cond (eqb (u / 64) (w / 64)) (withClear (v (Marks (u / 64))) (u % 64)) (v (Marks (w / 64)))) (w % 64))
+    → (λ (w : ℕ). bitAt (cond (eqb (u / 64) (w / 64)) (withClear (v (Marks (u / 64))) (u % 64)) (v (Marks (w / 64))))
+    (w % 64))
     ≡ update (markOf v) u 0
 mark-clear v u =
     marks-update v u 0 (withClear (v (Marks (u / 64))) (u % 64)) (clear-here (v (Marks (u / 64))) (u % 64))
@@ -118,7 +121,8 @@ pub becomes : (v v′ : View) (area : List ℕ) (t : ℕ) (s : Slot) (b : Memory
     → b .slot ≡ slotOf v → slotOf v′ t ≡ s → ((j : ℕ) → t ≢ j → slotOf v′ j ≡ slotOf v j)
     → memoryOf v′ area ≡ setSlot t s b
 becomes v v′ area t s b e f own others =
-    e ∙ ap (λ (S : ℕ → Slot). withSlots S b) (slots-update v v′ t s own others ∙ ap (λ (S : ℕ → Slot). update S t s) (sym f))
+    e ∙ ap (λ (S : ℕ → Slot). withSlots S b)
+    (slots-update v v′ t s own others ∙ ap (λ (S : ℕ → Slot). update S t s) (sym f))
 
 -- What is shared, after a write of one of its columns; S are the tasks' parts. `put` puts a column into the memories.
 module _ (v : View) (S : ℕ → Slot) (area : List ℕ) where
@@ -139,7 +143,8 @@ module _ (v : View) (S : ℕ → Slot) (area : List ℕ) where
   pub descriptorNext-written : (d x : ℕ)
       → withSlots S (memoryOf (assigned (Layout.DescriptorNext d := x ∷ []) v) area)
       ≡ withSlots S (setDescriptorNext d x (memoryOf v area))
-  descriptorNext-written = column-written (λ f. onLists (withDescriptorNexts f)) (λ y. y) (λ j. v (Layout.DescriptorNext j))
+  descriptorNext-written =
+      column-written (λ f. onLists (withDescriptorNexts f)) (λ y. y) (λ j. v (Layout.DescriptorNext j))
 
   -- a region's next
   pub regionNext-written : (r x : ℕ)
@@ -174,12 +179,14 @@ module _ (v : View) (S : ℕ → Slot) (area : List ℕ) where
 
   -- a mark that is set
   pub mark-set-written : (u : ℕ)
-      → withSlots S (memoryOf (assigned (Layout.Marks (u / 64) := withSet (v (Layout.Marks (u / 64))) (u % 64) ∷ []) v) area)
+      → withSlots S
+      (memoryOf (assigned (Layout.Marks (u / 64) := withSet (v (Layout.Marks (u / 64))) (u % 64) ∷ []) v) area)
       ≡ withSlots S (setMark u 1 (memoryOf v area))
   mark-set-written u = ap (λ (f : ℕ → ℕ). onEntries (withMarks f) before) (mark-set v u)
 
   -- a mark that is cleared
   pub mark-clear-written : (u : ℕ)
-      → withSlots S (memoryOf (assigned (Layout.Marks (u / 64) := withClear (v (Layout.Marks (u / 64))) (u % 64) ∷ []) v) area)
+      → withSlots S
+      (memoryOf (assigned (Layout.Marks (u / 64) := withClear (v (Layout.Marks (u / 64))) (u % 64) ∷ []) v) area)
       ≡ withSlots S (setMark u 0 (memoryOf v area))
   mark-clear-written u = ap (λ (f : ℕ → ℕ). onEntries (withMarks f) before) (mark-clear v u)

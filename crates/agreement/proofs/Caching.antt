@@ -68,8 +68,8 @@ module _ (v : View) (t c b n : ℕ) (l : c < CLASSES) where
     count = cache-there (λ i. v (Layout.Count i)) t c n j l d z;
   }) (slotOf v j)
 
--- The memories after own and shared writes, which made v₁ of the view v, and those of a cache's two fields: what is shared is
--- as in a, and of the tasks' parts only that of t has changed, which is s with that cache.
+-- The memories after own and shared writes, which made v₁ of the view v, and those of a cache's two fields: what is
+-- shared is as in a, and of the tasks' parts only that of t has changed, which is s with that cache.
 pub cache-becomes : (v v₁ : View) (area : List ℕ) (t c b n : ℕ) (s : Slot) (a : Memory) → c < CLASSES
     → memoryOf v₁ area ≡ withSlots (slotOf v₁) a → a .slot ≡ slotOf v → slotOf v₁ t ≡ s
     → ((j : ℕ) → t ≢ j → slotOf v₁ j ≡ slotOf v j)
@@ -84,7 +84,8 @@ pushed : {regions : ℕ} {a : Memory} {m : Mem} {t : ℕ} {p : Place} {k : ℕ �
     (u x n : ℕ) (s : Slot) (p′ : Place) → 1 ≤ count u (underWay p) → a .slot t .caches .top (a .slot t .class) ≡ x
     → n ≡ suc (length (k (a .slot t .class))) → s .class ≡ a .slot t .class
     → s .caches ≡ toCache (a .slot t .class) u n (a .slot t) .caches
-    → PlaceRelated regions (setSlot t s (setLink u x a)) (cached t k (a .slot t .class) (u ∷ k (a .slot t .class)) p′ m) s p′
+    → PlaceRelated regions (setSlot t s (setLink u x a)) (cached t k (a .slot t .class) (u ∷ k (a .slot t .class)) p′ m)
+    s p′
     → Related regions (setSlot t s (setLink u x a)) (cached t k (a .slot t .class) (u ∷ k (a .slot t .class)) p′ m)
 pushed {a = a} {t = t} {k = k} w u x n s p′ o i e f j pl =
     let c = a .slot t .class in
@@ -100,18 +101,21 @@ pushed {a = a} {t = t} {k = k} w u x n s p′ o i e f j pl =
 module _ {regions : ℕ} {v : View} {area : List ℕ} {m : Mem} {t : ℕ} {p : Place} {k : ℕ → List ℕ}
     (w : At regions v area m t p k) where
   -- the top of the cache passes its test
-  pub top-tested : isTop regions (v (TaskClass t)) (v (CacheCount t (v (TaskClass t)))) (v (CacheTop t (v (TaskClass t)))) ≡ true
+  pub top-tested : isTop regions (v (TaskClass t)) (v (CacheCount t (v (TaskClass t))))
+      (v (CacheTop t (v (TaskClass t)))) ≡ true
   top-tested =
       let c = v (TaskClass t) in
       rw (cache-count w)
       (below-tested (w .pair) c (v (CacheTop t c)) (k c) (λ u. omega arith)
-      (subst (λ (z : ℕ). Linked (link area) (λ u. u) UNITS z (k c)) (cache-top w) (mine (w .pair) .caches .tops c (mine (w .pair) .fits))))
+      (subst (λ (z : ℕ). Linked (link area) (λ u. u) UNITS z (k c)) (cache-top w)
+      (mine (w .pair) .caches .tops c (mine (w .pair) .fits))))
 
   pub cache-top-max : v (CacheTop t (v (TaskClass t))) ≤ UNITS
   cache-top-max =
       let c = v (TaskClass t) in
       top-max (w .pair) c (v (CacheTop t c)) (k c)
-      (subst (λ (z : ℕ). Linked (link area) (λ u. u) UNITS z (k c)) (cache-top w) (mine (w .pair) .caches .tops c (mine (w .pair) .fits)))
+      (subst (λ (z : ℕ). Linked (link area) (λ u. u) UNITS z (k c)) (cache-top w)
+      (mine (w .pair) .caches .tops c (mine (w .pair) .fits)))
       (λ u. omega arith)
 
   -- a block under way is a unit
@@ -138,9 +142,11 @@ module _ {regions : ℕ} {v : View} {area : List ℕ} {m : Mem} {t : ℕ} {p : P
       let n = v (CacheCount t c) + 1 in
       let x = v (CacheTop t c) in
       subst (λ (z : Memory). Related regions z (cached t k c (u ∷ k c) p′ m))
-      (sym (cache-becomes v (assigned ws v) (withLink area u x) t c u n s (setLink u x (memoryOf v area)) (mine (w .pair) .fits)
+      (sym (cache-becomes v (assigned ws v) (withLink area u x) t c u n s (setLink u x (memoryOf v area))
+      (mine (w .pair) .fits)
       (ap (setLink u x) e) refl own others))
-      (pushed (w .pair) u x n (toCache c u n s) p′ o (cache-top w) (add-one (v (CacheCount t c)) ∙ ap suc (cache-count w)) f
+      (pushed (w .pair) u x n (toCache c u n s) p′ o (cache-top w)
+      (add-one (v (CacheCount t c)) ∙ ap suc (cache-count w)) f
       (ap (λ (z : TaskCaches). record { top = update (z .top) c u; count = update (z .count) c n }) g) pl)
 
   -- The same, as a step: the cache has fewer than n blocks, and ws are sound.
@@ -158,7 +164,8 @@ module _ {regions : ℕ} {v : View} {area : List ℕ} {m : Mem} {t : ℕ} {p : P
       → Both regions v area m
       (close answer e
       (ws
-      ++ (CacheTop t (v (TaskClass t)) := u ∷ CacheCount t (v (TaskClass t)) := (v (CacheCount t (v (TaskClass t))) + 1) ∷ []))
+      ++ (CacheTop t (v (TaskClass t)) := u ∷ CacheCount t (v (TaskClass t)) := (v (CacheCount t (v (TaskClass t))) + 1)
+      ∷ []))
       (u ⇒ v (CacheTop t (v (TaskClass t))) ∷ [])) (
         cached t k (v (TaskClass t)) (u ∷ k (v (TaskClass t))) p′ m,
         record { code = codeOf answer; value = valueOf answer; decided = e },
@@ -170,13 +177,23 @@ module _ {regions : ℕ} {v : View} {area : List ℕ} {m : Mem} {t : ℕ} {p : P
       record {
         says = refl;
         rel = subst
-            (λ (z : View). Related regions (memoryOf z (withLink area u (v (CacheTop t c)))) (cached t k c (u ∷ k c) p′ m))
+            (λ (z : View). Related regions (memoryOf z (withLink area u (v (CacheTop t c))))
+            (cached t k c (u ∷ k c) p′ m))
             (sym (assigned-append ws xs v)) (cache-push ws u s p′ o i own others f g pl);
         keeps = (
           ap (λ (z : View). z Tasks) (assigned-append ws xs v) ∙ keeps .0,
           ap (λ (z : View). z Regions) (assigned-append ws xs v) ∙ keeps .1,
         );
         sound = append-sound ws xs sound
-            (omega (arith, w .pair .turn .fits, mine (w .pair) .fits, under-max u o, cache-count w, room, perRegion-high c));
+            (omega (
+              arith,
+              w .pair .turn .fits,
+              mine (w .pair) .fits,
+              under-max u o,
+              cache-count w,
+              room,
+              perRegion-high
+                  c,
+            ));
         apart = (mine-apart (w .pair) u (mine-under (w .pair) u o .0), tt);
       }

@@ -33,8 +33,11 @@ use Rattle.agreement.proofs.Sets.{setAnchor, setDescriptorNext, setHead
 wins : (m : Mem) (ℓ j : ℕ) → m .won j ≤ update (m .won) ℓ (m .won ℓ + 1) j
 wins m ℓ = update-all (λ j x. m .won j ≤ x) (m .won) ℓ (m .won ℓ + 1) (omega arith) (λ j d. omega arith)
 
-still : (m : Mem) (ℓ : ℕ) (q : List ℕ) (j : ℕ) → update (m .won) ℓ (m .won ℓ + 1) j ≡ m .won j → update (m .row) ℓ q j ≡ m .row j
-still m ℓ q = update-all₂ (λ j x r. x ≡ m .won j → r ≡ m .row j) (m .won) (m .row) ℓ (m .won ℓ + 1) q (λ e. absurd (omega arith)) (λ j d e. refl)
+still : (m : Mem) (ℓ : ℕ) (q : List ℕ) (j : ℕ) → update (m .won) ℓ (m .won ℓ + 1) j ≡ m .won j
+    → update (m .row) ℓ q j ≡ m .row j
+still m ℓ q =
+    update-all₂ (λ j x r. x ≡ m .won j → r ≡ m .row j) (m .won) (m .row) ℓ (m .won ℓ + 1) q (λ e. absurd (omega arith))
+    (λ j d e. refl)
 
 module _ {regions : ℕ} {a : Memory} {m : Mem} {t : ℕ} {p : Place} {k : ℕ → List ℕ} (w : Pair regions a m t p k) where
   abbrev C : Core regions a m
@@ -55,7 +58,8 @@ module _ {regions : ℕ} {a : Memory} {m : Mem} {t : ℕ} {p : Place} {k : ℕ �
       })
       own
       (λ j l d. record {
-        lists = record { wins = wins m ℓ; still = still m ℓ q; descriptorNexts = λ x h. refl; regionNexts = λ x h. refl };
+        lists =
+            record { wins = wins m ℓ; still = still m ℓ q; descriptorNexts = λ x h. refl; regionNexts = λ x h. refl };
         links = λ v h. refl;
         regions = λ x h. refl;
       })
@@ -73,7 +77,15 @@ module _ {regions : ℕ} {a : Memory} {m : Mem} {t : ℕ} {p : Place} {k : ℕ �
   )
 
   off-regions : (x : ℕ) → 1 ≤ holdsRegion x p → count x (m .row SPARE-REGIONS) ≡ 0
-  off-regions x h = omega (arith, w .turn .inv .regions x, below-max x regions, total-one TASKS (regionWeight x) (m .task) t (w .turn .fits), ap (regionWeight x t) (w .turn .is))
+  off-regions x h =
+      omega (
+        arith,
+        w .turn .inv .regions x,
+        below-max x regions,
+        total-one TASKS (regionWeight x) (m .task) t
+            (w .turn .fits),
+        ap (regionWeight x t) (w .turn .is),
+      )
 
   pub dnexting : (x n : ℕ) (s : Slot) (T : Task) → 1 ≤ holdsDescriptor x p → n ≤ DESCRIPTORS
       → SlotRelated regions (setSlot t s (setDescriptorNext x n a)) (setTask t T m) s T
@@ -124,7 +136,8 @@ module _ {regions : ℕ} {a : Memory} {m : Mem} {t : ℕ} {p : Place} {k : ℕ �
       (w .rel .slots)
 
   -- ---- an anchor: the region and the class stay
-  pub anchoring : (d : ℕ) (b : Anchor) (E : Descriptor) (s : Slot) (T : Task) → d < DESCRIPTORS → b .state ≡ numberOf (E .state)
+  pub anchoring : (d : ℕ) (b : Anchor) (E : Descriptor) (s : Slot) (T : Task) → d < DESCRIPTORS
+      → b .state ≡ numberOf (E .state)
       → E .region ≡ m .descriptor d .region → E .class ≡ m .descriptor d .class
       → IfOpen (E .state) (ChainRelated (link (a .area)) b E) → b .avail ≤ MOST-BLOCKS → b .count ≤ MOST-BLOCKS
       → SlotRelated regions (setSlot t s (setAnchor d b a)) (setTask t T (setDescriptor d E m)) s T

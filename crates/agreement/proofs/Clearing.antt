@@ -24,7 +24,8 @@ use Rattle.agreement.proofs.Turns.{At}
 use Rattle.agreement.proofs.Writes.{entry-cleared}
 
 pub f4-clear-both : {regions : ℕ} {v : View} {area : List ℕ} {m : Mem} {t : ℕ} {k : ℕ → List ℕ} {z : State}
-    → At regions v area m t (working (f4-clear (v (TaskClass t)) (v (TaskUnit t)) (v (TaskDescriptor t)) z (v (TaskRegion t)))) k
+    → At regions v area m t
+    (working (f4-clear (v (TaskClass t)) (v (TaskUnit t)) (v (TaskDescriptor t)) z (v (TaskRegion t)))) k
     → v (TaskState t) ≡ numberOf z
     → Both regions v area m (Free.f4Clear v (link area) regions t (v (TaskClass t)))
     (Steps.stepAt t k (f4-clear (v (TaskClass t)) (v (TaskUnit t)) (v (TaskDescriptor t)) z (v (TaskRegion t))) m)

@@ -1,6 +1,6 @@
 -- The example's run, computed from the definitions of the stepped pool themselves, on fields and links.
--- The agreement implies as much, for every run; this one is found by computing alone, so that a definition that decides or
--- answers otherwise in it is seen by its values.
+-- The agreement implies as much, for every run; this one is found by computing alone, so that a definition that decides
+-- or answers otherwise in it is seen by its values.
 use mathlib.Core.Path.{_≡_, refl}
 use mathlib.Core.Bool.{cond}
 use mathlib.Core.List.{List, [], _∷_}
@@ -61,5 +61,11 @@ abbrev pub fresh : Contents
 fresh = record { view = assigned (startWrites 3 2) (λ f. 0); link = λ u. 0 }
 
 pub computed : told (run (events schedule) fresh) ≡ answers schedule
-unfolding startWrites units perRegion classOf isFirst Calls.tested Calls.whenIdle Calls.beginAllocate Calls.freeMarked Calls.freeOpen Calls.freeBy Calls.freeEntry Calls.beginFree Calls.allocateOutcome Calls.freeOutcome Calls.stepOutcome Steps.stepAt Steps.step Lists.f6 Lists.f5 Lists.popRead Lists.popNextOf Lists.popNext Lists.popExchange Lists.pushRead Lists.pushNext Lists.pushExchange Allocate.a1Take Allocate.a1 Allocate.a3ReadOf Allocate.a3Read Allocate.a3ExchangeOf Allocate.a3Exchange Allocate.a4Move Allocate.a4 Allocate.a7 Allocate.a8Put Allocate.a8 Free.f1Put Free.f1 Free.f2First Free.f2More Free.f2Top Free.f2 Free.f3ReadOf Free.f3ReadBy Free.f3Read Free.f3Link Free.f3Won Free.f3ExchangeOf Free.f3Exchange Free.f4Clear
+unfolding startWrites units perRegion classOf isFirst Calls.tested Calls.whenIdle Calls.beginAllocate Calls.freeMarked
+    Calls.freeOpen Calls.freeBy Calls.freeEntry Calls.beginFree Calls.allocateOutcome Calls.freeOutcome
+    Calls.stepOutcome Steps.stepAt Steps.step Lists.f6 Lists.f5 Lists.popRead Lists.popNextOf Lists.popNext
+    Lists.popExchange Lists.pushRead Lists.pushNext Lists.pushExchange Allocate.a1Take Allocate.a1 Allocate.a3ReadOf
+    Allocate.a3Read Allocate.a3ExchangeOf Allocate.a3Exchange Allocate.a4Move Allocate.a4 Allocate.a7 Allocate.a8Put
+    Allocate.a8 Free.f1Put Free.f1 Free.f2First Free.f2More Free.f2Top Free.f2 Free.f3ReadOf Free.f3ReadBy Free.f3Read
+    Free.f3Link Free.f3Won Free.f3ExchangeOf Free.f3Exchange Free.f4Clear
 computed = refl

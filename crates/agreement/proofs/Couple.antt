@@ -35,7 +35,8 @@ use Rattle.agreement.proofs.Frames.{after, lists-kept}
 use Rattle.agreement.proofs.Parts.{links-related}
 use Rattle.agreement.proofs.Sets.{setLink, setSlot}
 
--- the relation, and the plain pool's own invariant, at the turn of the task t, which is at the place p with the caches k
+-- the relation, and the plain pool's own invariant, at the turn of the task t, which is at the place p with the caches
+-- k
 pub record Pair (regions : ℕ) (a : Memory) (m : Mem) (t : ℕ) (p : Place) (k : ℕ → List ℕ) : Type 0 where
   pub rel : Related regions a m
   pub turn : Turn regions m t (taskOf p k)
@@ -51,11 +52,20 @@ pub record Valid (m : Mem) (v : ℕ) : Type 0 where
 pub valid : (m : Mem) (v : ℕ) → 1 ≤ total DESCRIPTORS (insideWeight v) (m .descriptor) → Valid m v
 valid m v h =
     let f = total-found DESCRIPTORS (insideWeight v) (m .descriptor) h in
-    let g = open-counts (m .descriptor (f .at) .state) (isBlock v (m .descriptor (f .at) .region) (m .descriptor (f .at) .class)) (f .has) in
-    record { d = f .at; fits = f .fits; counts = g .1; block = counts-block (m .descriptor (f .at) .region) (m .descriptor (f .at) .class) v (g .0) }
+    let g =
+    open-counts (m .descriptor (f .at) .state)
+    (isBlock v (m .descriptor (f .at) .region) (m .descriptor (f .at) .class)) (f .has) in
+    record {
+      d = f .at;
+      fits = f .fits;
+      counts = g .1;
+      block = counts-block (m .descriptor (f .at) .region)
+          (m .descriptor (f .at) .class) v (g .0);
+    }
 
 module _ {regions : ℕ} {m : Mem} (I : Invariant regions m) where
-  same-desc : {u v : ℕ} (b : Valid m u) (c : Valid m v) → m .descriptor (b .d) .region ≡ m .descriptor (c .d) .region → b .d ≡ c .d
+  same-desc : {u v : ℕ} (b : Valid m u) (c : Valid m v) → m .descriptor (b .d) .region ≡ m .descriptor (c .d) .region
+      → b .d ≡ c .d
   same-desc b c e = elim (same? (b .d) (c .d)) [
     | same i ↦ i
     | other n ↦ absurd (let r = m .descriptor (b .d) .region in
@@ -71,15 +81,26 @@ module _ {regions : ℕ} {m : Mem} (I : Invariant regions m) where
         ))
   ]
 
-  pub same-class : {u v : ℕ} (b : Valid m u) (c : Valid m v) → m .descriptor (b .d) .region ≡ m .descriptor (c .d) .region → m .descriptor (b .d) .class ≡ m .descriptor (c .d) .class
+  pub same-class : {u v : ℕ} (b : Valid m u) (c : Valid m v)
+      → m .descriptor (b .d) .region ≡ m .descriptor (c .d) .region
+      → m .descriptor (b .d) .class ≡ m .descriptor (c .d) .class
   same-class b c e = ap (λ (i : ℕ). m .descriptor i .class) (same-desc b c e)
 
   pub region-below : {v : ℕ} (b : Valid m v) → m .descriptor (b .d) .region < regions
   region-below b =
       let r = m .descriptor (b .d) .region in
-      below-is r regions (omega (arith, total-one DESCRIPTORS (openWeight r) (m .descriptor) (b .d) (b .fits), I .regions r, b .counts (one r r), when-same r 1))
+      below-is r regions
+      (omega (
+        arith,
+        total-one DESCRIPTORS (openWeight r) (m .descriptor) (b .d) (b .fits),
+        I .regions r,
+        b .counts
+            (one r r),
+        when-same r 1,
+      ))
 
-  pub reads : (a : List ℕ) (u x : ℕ) → length a ≡ REGION-BYTES * regions → 1 ≤ total DESCRIPTORS (insideWeight u) (m .descriptor) → x < 256 ^ LINK-BYTES → link (withLink a u x) u ≡ x
+  pub reads : (a : List ℕ) (u x : ℕ) → length a ≡ REGION-BYTES * regions
+      → 1 ≤ total DESCRIPTORS (insideWeight u) (m .descriptor) → x < 256 ^ LINK-BYTES → link (withLink a u x) u ≡ x
   reads a u x l p h =
       let b = valid m u p in
       link-same a u x (omega (arith, region-below b, inside (b .block), units-low (m .descriptor (b .d) .class))) h
@@ -89,7 +110,8 @@ module _ {regions : ℕ} {a : Memory} {m : Mem} {t : ℕ} {p : Place} {k : ℕ �
   mine = subst (SlotRelated regions a m (a .slot t)) (w .turn .is) (w .rel .slots t (w .turn .fits))
 
   -- what this task holds, no other does
-  pub descriptor-apart : (x j : ℕ) → j < TASKS → j ≢ t → 1 ≤ holdsDescriptor x p → holdsDescriptor x (m .task j .place) ≡ 0
+  pub descriptor-apart : (x j : ℕ) → j < TASKS → j ≢ t → 1 ≤ holdsDescriptor x p
+      → holdsDescriptor x (m .task j .place) ≡ 0
   descriptor-apart x j l d h = omega (
     arith,
     w .turn .inv .descriptors x,
@@ -108,7 +130,9 @@ module _ {regions : ℕ} {a : Memory} {m : Mem} {t : ℕ} {p : Place} {k : ℕ �
   )
 
   -- a block of this task: once there, and nowhere else
-  pub own-block : (u : ℕ) → 1 ≤ blockWeight u t (taskOf p k) → (1 ≤ total DESCRIPTORS (insideWeight u) (m .descriptor)) × (blockWeight u t (taskOf p k) ≡ 1) × (m .hands u ≡ 0) × (total DESCRIPTORS (chainWeight u) (m .descriptor) ≡ 0)
+  pub own-block : (u : ℕ) → 1 ≤ blockWeight u t (taskOf p k)
+      → (1 ≤ total DESCRIPTORS (insideWeight u) (m .descriptor)) × (blockWeight u t (taskOf p k) ≡ 1) × (m .hands u ≡ 0)
+      × (total DESCRIPTORS (chainWeight u) (m .descriptor) ≡ 0)
   own-block u h = omega (
     arith,
     w .turn .inv .blocks u,
@@ -117,7 +141,8 @@ module _ {regions : ℕ} {a : Memory} {m : Mem} {t : ℕ} {p : Place} {k : ℕ �
     ap (blockWeight u t) (w .turn .is),
   )
 
-  pub block-apart : (u v j : ℕ) → j < TASKS → j ≢ t → 1 ≤ blockWeight u t (taskOf p k) → 1 ≤ blockWeight v 0 (m .task j) → (v ≢ u) × (1 ≤ total DESCRIPTORS (insideWeight v) (m .descriptor))
+  pub block-apart : (u v j : ℕ) → j < TASKS → j ≢ t → 1 ≤ blockWeight u t (taskOf p k) → 1 ≤ blockWeight v 0 (m .task j)
+      → (v ≢ u) × (1 ≤ total DESCRIPTORS (insideWeight v) (m .descriptor))
   block-apart u v j l d h g = (
     (λ e. absurd (omega (
       arith,
@@ -137,7 +162,8 @@ module _ {regions : ℕ} {a : Memory} {m : Mem} {t : ℕ} {p : Place} {k : ℕ �
       record { lists = C .lists; descriptors = C .descriptors; entries = C .entries; length = C .length }
 
   -- ---- the task's part alone
-  pub quiet : (s : Slot) (T : Task) → SlotRelated regions (setSlot t s a) (setTask t T m) s T → Related regions (setSlot t s a) (setTask t T m)
+  pub quiet : (s : Slot) (T : Task) → SlotRelated regions (setSlot t s a) (setTask t T m) s T
+      → Related regions (setSlot t s a) (setTask t T m)
   quiet s T own =
       after {a = a} {m = m} t s T refl refl
       (kept-core s T)
@@ -146,7 +172,8 @@ module _ {regions : ℕ} {a : Memory} {m : Mem} {t : ℕ} {p : Place} {k : ℕ �
       (w .rel .slots)
 
   -- ---- a link of a block of the task is written
-  pub linking : (u x : ℕ) (s : Slot) (T : Task) → 1 ≤ blockWeight u t (taskOf p k) → SlotRelated regions (setSlot t s (setLink u x a)) (setTask t T m) s T
+  pub linking : (u x : ℕ) (s : Slot) (T : Task) → 1 ≤ blockWeight u t (taskOf p k)
+      → SlotRelated regions (setSlot t s (setLink u x a)) (setTask t T m) s T
       → Related regions (setSlot t s (setLink u x a)) (setTask t T m)
   linking u x s T o own =
       let C = w .rel .core in
@@ -155,7 +182,8 @@ module _ {regions : ℕ} {a : Memory} {m : Mem} {t : ℕ} {p : Place} {k : ℕ �
       after {a = a} {m = m} t s T refl refl
       (record {
         lists = C .lists;
-        descriptors = links-related (C .descriptors) (link (withLink (a .area) u x)) (λ d l g v h. link-other (a .area) u x v
+        descriptors =
+            links-related (C .descriptors) (link (withLink (a .area) u x)) (λ d l g v h. link-other (a .area) u x v
             (λ e. absurd (omega (
               arith,
               b .3,
@@ -175,9 +203,12 @@ module _ {regions : ℕ} {a : Memory} {m : Mem} {t : ℕ} {p : Place} {k : ℕ �
       (w .rel .slots)
 
   -- ---- what a written link leaves of a row of the task
-  pub agrees : (u x : ℕ) (q : List ℕ) → 1 ≤ blockWeight u t (taskOf p k) → ((v : ℕ) → count v q ≤ blockWeight v t (taskOf p k)) → count u q ≡ 0 → Agree (link (a .area)) (link (withLink (a .area) u x)) q
+  pub agrees : (u x : ℕ) (q : List ℕ) → 1 ≤ blockWeight u t (taskOf p k)
+      → ((v : ℕ) → count v q ≤ blockWeight v t (taskOf p k)) → count u q ≡ 0
+      → Agree (link (a .area)) (link (withLink (a .area) u x)) q
   agrees u x q o sub n v e =
       link-other (a .area) u x v (λ f. absurd (omega (arith, ap (λ (z : ℕ). count z q) f)))
 
-  pub written : (u x : ℕ) → 1 ≤ blockWeight u t (taskOf p k) → x < 256 ^ LINK-BYTES → link (withLink (a .area) u x) u ≡ x
+  pub written : (u x : ℕ) → 1 ≤ blockWeight u t (taskOf p k) → x < 256 ^ LINK-BYTES
+      → link (withLink (a .area) u x) u ≡ x
   written u x o h = reads (w .turn .inv) (a .area) u x (w .rel .core .length) (own-block u o .0) h

@@ -74,7 +74,8 @@ begin-tests : (P : Outcome → Type 0) (control area : ℕ) (v : View) (t : ℕ)
 unfolding Calls.whenIdle
 begin-tests P control area v t x ms r k =
     tests P control area v t _ (λ n h. r n (more testRefusals (6 ∷ ms) n h))
-    (λ T. branch P (ltb (v (TaskPlace t)) PLACES) (λ e. branch P (eqb (v (TaskPlace t)) IDLE) (λ f. k) (λ f. r 6 refl)) (λ e. r 14 refl))
+    (λ T. branch P (ltb (v (TaskPlace t)) PLACES) (λ e. branch P (eqb (v (TaskPlace t)) IDLE) (λ f. k) (λ f. r 6 refl))
+    (λ e. r 14 refl))
 
 module _ (control area : ℕ) (v : View) (t : ℕ) where
   pub allocate-ends : (size : ℕ) → BeginEnds allocateRefusals (Calls.allocateOutcome control area v t size)
@@ -100,7 +101,8 @@ module _ (control area : ℕ) (v : View) (t : ℕ) where
       branch P (isAnchor a) (λ i. branch P (eqb (anchorOf a .state) EMPTY) (λ j. denied refl) (λ j.
       branch P (ltb c CLASSES) (λ k. branch P (isFirst c u) (λ l.
       branch P (isSet (v (Marks (u / 64))) (u % 64)) (λ m. begun) (λ m. denied refl))
-      (λ l. denied refl)) (λ k. denied refl))) (λ i. denied refl)) (λ h. denied refl)) (λ g. denied refl)) (λ f. denied refl)))
+      (λ l. denied refl)) (λ k. denied refl))) (λ i. denied refl)) (λ h. denied refl)) (λ g. denied refl))
+      (λ f. denied refl)))
       (λ e. denied refl)))
 
   -- a size that is accepted has the smallest class that holds it, and that class is written
@@ -229,7 +231,8 @@ module _ (control area : ℕ) (v : View) (link : ℕ → ℕ) (t : ℕ) where
   -- a push that wins its exchange
   wins-push : (p : Push) → WinsPush p v t
       → Lists.pushExchange v (v Regions) t (v (TaskClass t)) p
-      ≡ Lists.whenPushed v (v Regions) t (v (TaskClass t)) p (pushed (Lists.pushList p (v (TaskClass t))) (v (Lists.itemField p t)))
+      ≡ Lists.whenPushed v (v Regions) t (v (TaskClass t)) p
+      (pushed (Lists.pushList p (v (TaskClass t))) (v (Lists.itemField p t)))
       (Head (Lists.pushList p (v (TaskClass t))) := advancedWord (v (TaskHead t)) (v (Lists.itemField p t) + 1) ∷ [])
   unfolding Lists.pushExchange
   wins-push p W =
@@ -246,7 +249,8 @@ module _ (control area : ℕ) (v : View) (link : ℕ → ℕ) (t : ℕ) where
   unfolding Steps.stepAt
   no-descriptor = (
     λ e. (end-passed NoDescriptor tt e, cause ending NoDescriptor tt e),
-    λ h. ap (λ (x : Outcome). x .answer) (at-place (h .0) (h .1 .place) (omega arith) (h .1 .class) ∙ finds-empty Spare (h .1)),
+    λ h. ap (λ (x : Outcome). x .answer)
+        (at-place (h .0) (h .1 .place) (omega arith) (h .1 .class) ∙ finds-empty Spare (h .1)),
   )
 
   -- "Pop a spare region. Empty: push the descriptor back; the request ends with 13 at that won exchange."
@@ -254,7 +258,8 @@ module _ (control area : ℕ) (v : View) (link : ℕ → ℕ) (t : ℕ) where
   unfolding Steps.stepAt
   no-region = (
     λ e. (end-passed NoRegion tt e, cause ending NoRegion tt e),
-    λ h. ap (λ (x : Outcome). x .answer) (at-place (h .0) (h .1 .place) (omega arith) (h .1 .class) ∙ wins-push Back (h .1)),
+    λ h. ap (λ (x : Outcome). x .answer)
+        (at-place (h .0) (h .1 .place) (omega arith) (h .1 .class) ∙ wins-push Back (h .1)),
   )
 
   -- a task that finds the list of spare regions empty goes to the head read of the push back

@@ -1,6 +1,7 @@
--- The premises of the agreement are met by a run with the moves that need care: lost exchanges of a head and of an anchor, a
--- region closed in one return and opened again for another class, an EMPTY anchor found on a partial list, a head that changes
--- and comes back to its item between a read and its exchange, 13, and users' writes. All of it is computed on the plain pool.
+-- The premises of the agreement are met by a run with the moves that need care: lost exchanges of a head and of an
+-- anchor, a region closed in one return and opened again for another class, an EMPTY anchor found on a partial list, a
+-- head that changes and comes back to its item between a read and its exchange, 13, and users' writes. All of it is
+-- computed on the plain pool.
 use mathlib.Core.Path.{_≡_, refl, sym, ap, subst, _∙_}
 use mathlib.Core.List.{List, [], _∷_, _++_, map}
 use Prim.Native.Nat.{ℕ, zero, suc, _*_}
@@ -54,8 +55,8 @@ writes at b = write at b ∷ []
 abbrev pub Line : Type 0
 Line = List Event × List Answer
 
--- A list of partial descriptors has the number of its class. Blocks of 256 bytes are class 15, with n = 16; block i of region
--- r is the unit 512 × r + 32 × i.
+-- A list of partial descriptors has the number of its class. Blocks of 256 bytes are class 15, with n = 16; block i of
+-- region r is the unit 512 × r + 32 × i.
 abbrev pub contention : List Line
 contention =
     -- Tasks 0 and 1 begin alike: each has read the head of the spare descriptors and the next of the top one.
@@ -63,8 +64,8 @@ contention =
     ∷ (steps 0 4, going (found-empty 15) ∷ [])
     ∷ (allocates 1 256, [])
     ∷ (steps 1 4, going (found-empty 15) ∷ [])
-    -- Task 0 wins its exchange; task 1 loses it and pops the next descriptor. Each opens a region and carves its 16 blocks,
-    -- and its user gets the last of them.
+    -- Task 0 wins its exchange; task 1 loses it and pops the next descriptor. Each opens a region and carves its 16
+    -- blocks, and its user gets the last of them.
     ∷ (steps 0 1, going (popped SPARE-DESCRIPTORS 0) ∷ [])
     ∷ (steps 1 1, going (lost SPARE-DESCRIPTORS) ∷ [])
     ∷ (steps 0 21, going (popped SPARE-REGIONS 0) ∷ finished 480 ∷ [])
@@ -100,8 +101,8 @@ contention =
 
 abbrev pub closing : List Line
 closing =
-    -- Task 2 gets all 16 blocks of region 1 in its cache. A block of region 0 finds it full, and all 16 go back in one group:
-    -- FULL, then EMPTY. Region 1 is closed and spare; its descriptor is offered though it is EMPTY.
+    -- Task 2 gets all 16 blocks of region 1 in its cache. A block of region 0 finds it full, and all 16 go back in one
+    -- group: FULL, then EMPTY. Region 1 is closed and spare; its descriptor is offered though it is EMPTY.
     (frees 2 992, [])
     ∷ (steps 2 1, finished 0 ∷ [])
     ∷ (frees 2 960, [])
@@ -116,11 +117,15 @@ abbrev pub reopening : List Line
 reopening =
     -- Region 1 is opened again, for blocks of 224 bytes, class 14; the user writes the first and the last byte of one.
     (allocates 0 224, [])
-    ∷ (steps 0 28, going (found-empty 14) ∷ going (popped SPARE-DESCRIPTORS 2) ∷ going (popped SPARE-REGIONS 1) ∷ finished 988 ∷ [])
+    ∷ (
+      steps 0 28,
+      going (found-empty 14) ∷ going (popped SPARE-DESCRIPTORS 2) ∷ going (popped SPARE-REGIONS 1)
+          ∷ finished 988 ∷ [],
+    )
     ∷ (writes 7904 7, [])
     ∷ (writes 8127 9, [])
-    -- Task 1's cache has one block. Then its list has the descriptor that is EMPTY, which goes to the spare ones, and below it
-    -- one with a chain of one.
+    -- Task 1's cache has one block. Then its list has the descriptor that is EMPTY, which goes to the spare ones, and
+    -- below it one with a chain of one.
     ∷ (allocates 1 256, [])
     ∷ (steps 1 1, finished 448 ∷ [])
     ∷ (allocates 1 256, [])
@@ -203,8 +208,8 @@ closed = after (events closing) contended
 abbrev reopened : Pool
 reopened = after (events reopening) closed
 
--- Region 1 goes from FULL to EMPTY by the one return of its part, its map entry is cleared and it is spare; then it is open
--- for class 14, by descriptor 2.
+-- Region 1 goes from FULL to EMPTY by the one return of its part, its map entry is cleared and it is spare; then it is
+-- open for class 14, by descriptor 2.
 pub region-closed :
     (contended .mem .descriptor 1 .state ≡ FULL) × (closed .mem .descriptor 1 .state ≡ EMPTY) × (closed .mem .map 1 ≡ 0)
     × (closed .mem .row SPARE-REGIONS ≡ 1 ∷ []) × (reopened .mem .map 1 ≡ 3) × (reopened .mem .descriptor 2 .class ≡ 14)
@@ -214,11 +219,15 @@ region-closed = (refl, refl, refl, refl, refl, refl)
 abbrev returned : Pool
 returned = after (events meanwhile) reopened
 
--- Task 1 noted 4 won exchanges of the spare descriptors. There are two more when it tries its own, and the row is the same.
+-- Task 1 noted 4 won exchanges of the spare descriptors. There are two more when it tries its own, and the row is the
+-- same.
 pub head-returned :
-    (reopened .mem .task 1 .place ≡ working (popping (spare 13) (exchange 4))) × (reopened .mem .won SPARE-DESCRIPTORS ≡ 4)
-    × (returned .mem .task 1 .place ≡ working (popping (spare 13) (exchange 4))) × (returned .mem .won SPARE-DESCRIPTORS ≡ 6)
-    × (reopened .mem .row SPARE-DESCRIPTORS ≡ 1 ∷ rising 61 3) × (returned .mem .row SPARE-DESCRIPTORS ≡ 1 ∷ rising 61 3)
+    (reopened .mem .task 1 .place ≡ working (popping (spare 13) (exchange 4)))
+    × (reopened .mem .won SPARE-DESCRIPTORS ≡ 4)
+    × (returned .mem .task 1 .place ≡ working (popping (spare 13) (exchange 4)))
+    × (returned .mem .won SPARE-DESCRIPTORS ≡ 6)
+    × (reopened .mem .row SPARE-DESCRIPTORS ≡ 1 ∷ rising 61 3)
+    × (returned .mem .row SPARE-DESCRIPTORS ≡ 1 ∷ rising 61 3)
 unfolding Plain.call stepOf startMem rising units perRegion update ℕ-discrete decLt decLe both unstarted classOf
 head-returned = (refl, refl, refl, refl, refl, refl)
 

@@ -49,7 +49,8 @@ use Rattle.agreement.proofs.Noting.{note-anchor, note-room}
 use Rattle.agreement.proofs.Groups.{first-below, same-group}
 
 module _ {regions : ℕ} {v : View} {area : List ℕ} {m : Mem} {t : ℕ} {k : ℕ → List ℕ} {y : ℕ} {g : List ℕ} {n : Note}
-    (w : At regions v area m t (working (f3-exchange (v (TaskClass t)) (v (TaskUnit t)) y g (v (TaskDescriptor t)) n)) k)
+    (w : At regions v area m t (working (f3-exchange (v (TaskClass t)) (v (TaskUnit t)) y g (v (TaskDescriptor t)) n))
+    k)
     (G : GroupRelated (memoryOf v area) (slotOf v t) y g)
     (N : NoteRelated m (v (TaskClass t)) (v (TaskDescriptor t)) n (anchorOf (v (TaskAnchor t))))
     (room : v (GroupCount t) + anchorOf (v (TaskAnchor t)) .count ≤ perRegion (v (TaskClass t)))
@@ -126,7 +127,8 @@ module _ {regions : ℕ} {v : View} {area : List ℕ} {m : Mem} {t : ℕ} {k : �
         let W = anchor-of-word new new-fits in
         anchor-exchanged w v′ s (taskOf p k) d (anchorWord new) (chained (m .descriptor d) z J) b
         (own .fits) (ap (λ (x : Declared.Anchor). x .state) W ∙ e) refl refl
-        (subst (λ (x : Declared.Anchor). IfOpen z (ChainRelated (link area) x (chained (m .descriptor d) z J))) (sym W) i)
+        (subst (λ (x : Declared.Anchor). IfOpen z (ChainRelated (link area) x (chained (m .descriptor d) z J))) (sym W)
+        i)
         (omega (arith, ap (λ (x : Declared.Anchor). x .avail) W, first-fits, perRegion-high c))
         (omega (arith, ap (λ (x : Declared.Anchor). x .count) W, perRegion-high c))
         (re-slot (w .pair) _ _ s p refl f f₁ pl)

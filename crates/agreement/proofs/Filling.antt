@@ -54,7 +54,8 @@ module _ {regions : ℕ} {v : View} {area : List ℕ} {m : Mem} {t : ℕ} {k : �
   -- block i is among those that are still to be carved
   pub carved-here : At regions v area m t (working (a8 (v (TaskClass t)) (v (TaskRegion t)) (v (TaskIndex t)))) k
       → 1 ≤ count (unitOf (v (TaskRegion t)) (v (TaskClass t)) (v (TaskIndex t)))
-      (blocksFrom (v (TaskRegion t)) (v (TaskClass t)) (v (TaskIndex t)) (perRegion (v (TaskClass t)) - v (TaskIndex t)))
+      (blocksFrom (v (TaskRegion t)) (v (TaskClass t)) (v (TaskIndex t))
+      (perRegion (v (TaskClass t)) - v (TaskIndex t)))
   carved-here w =
       let c = v (TaskClass t) in
       let r = v (TaskRegion t) in
@@ -62,12 +63,15 @@ module _ {regions : ℕ} {v : View} {area : List ℕ} {m : Mem} {t : ℕ} {k : �
       let f : perRegion c - i ≡ suc (perRegion c - suc i) = omega (arith, placeHolds (w .pair .turn)) in
       omega (arith, ap (λ (n : ℕ). count (unitOf r c i) (blocksFrom r c i n)) f, when-same (unitOf r c i) 1)
 
-  put-both : At regions v area m t (working (a8 (v (TaskClass t)) (v (TaskRegion t)) (v (TaskIndex t)))) k → v (TaskPlace t) ≡ A8
+  put-both : At regions v area m t (working (a8 (v (TaskClass t)) (v (TaskRegion t)) (v (TaskIndex t)))) k
+      → v (TaskPlace t) ≡ A8
       → (d : Dec (suc (v (TaskIndex t)) ≡ perRegion (v (TaskClass t))))
       → Both regions v area m
-      (Allocate.a8Put v (link area) regions t (v (TaskClass t)) (unitOf (v (TaskRegion t)) (v (TaskClass t)) (v (TaskIndex t)))
+      (Allocate.a8Put v (link area) regions t (v (TaskClass t))
+      (unitOf (v (TaskRegion t)) (v (TaskClass t)) (v (TaskIndex t)))
       (v (TaskIndex t)) (v (CacheCount t (v (TaskClass t)))) (v (CacheTop t (v (TaskClass t))))) (
-        Steps.cached t k (v (TaskClass t)) (unitOf (v (TaskRegion t)) (v (TaskClass t)) (v (TaskIndex t)) ∷ k (v (TaskClass t)))
+        Steps.cached t k (v (TaskClass t))
+            (unitOf (v (TaskRegion t)) (v (TaskClass t)) (v (TaskIndex t)) ∷ k (v (TaskClass t)))
             (working (if d (a1 (v (TaskClass t))) (a8 (v (TaskClass t)) (v (TaskRegion t)) (suc (v (TaskIndex t)))))) m,
         going nothing,
       )
@@ -76,7 +80,8 @@ module _ {regions : ℕ} {v : View} {area : List ℕ} {m : Mem} {t : ℕ} {k : �
       let c = v (TaskClass t) in
       let i = v (TaskIndex t) in
       meet _ (eqb (i + 1) (perRegion c)) (eq-eqb (i + 1) (perRegion c) (omega arith))
-      (push-both w Accepted nothing (TaskPlace t := A1 ∷ []) (unitOf (v (TaskRegion t)) c i) (toPlace A1 (slotOf v t)) (working (a1 c))
+      (push-both w Accepted nothing (TaskPlace t := A1 ∷ []) (unitOf (v (TaskRegion t)) c i) (toPlace A1 (slotOf v t))
+      (working (a1 c))
       (carved-here w) (omega (arith, placeHolds (w .pair .turn))) (omega (arith, w .pair .turn .fits)) (refl, refl)
       refl (rw (eq-eqb t t refl)) (λ j d. rw (ne-eqb t j d)) refl refl (r-working (r-a1 refl)))
   put-both w e (no f) =
@@ -84,12 +89,14 @@ module _ {regions : ℕ} {v : View} {area : List ℕ} {m : Mem} {t : ℕ} {k : �
       let r = v (TaskRegion t) in
       let i = v (TaskIndex t) in
       miss _ (eqb (i + 1) (perRegion c)) (ne-eqb (i + 1) (perRegion c) (λ g. f (omega arith)))
-      (push-both w Accepted nothing (TaskIndex t := (i + 1) ∷ []) (unitOf r c i) (toChain r (suc i) (v (TaskLeft t)) (slotOf v t))
+      (push-both w Accepted nothing (TaskIndex t := (i + 1) ∷ []) (unitOf r c i)
+      (toChain r (suc i) (v (TaskLeft t)) (slotOf v t))
       (working (a8 c r (suc i))) (carved-here w) (omega (arith, placeHolds (w .pair .turn)))
       (omega (arith, w .pair .turn .fits, placeHolds (w .pair .turn), perRegion-high c)) (refl, refl)
       refl (rw (eq-eqb t t refl, add-one i)) (λ j d. rw (ne-eqb t j d)) refl refl (r-working (r-a8 e)))
 
-  pub a8-both : At regions v area m t (working (a8 (v (TaskClass t)) (v (TaskRegion t)) (v (TaskIndex t)))) k → v (TaskPlace t) ≡ A8
+  pub a8-both : At regions v area m t (working (a8 (v (TaskClass t)) (v (TaskRegion t)) (v (TaskIndex t)))) k
+      → v (TaskPlace t) ≡ A8
       → Both regions v area m (Allocate.a8 v (link area) regions t (v (TaskClass t)))
       (Steps.stepAt t k (a8 (v (TaskClass t)) (v (TaskRegion t)) (v (TaskIndex t))) m)
   unfolding Allocate.a8
@@ -124,7 +131,8 @@ module _ {regions : ℕ} {v : View} {area : List ℕ} {m : Mem} {t : ℕ} {k : �
       let c = v (TaskClass t) in
       meet _ (eqb (v (TaskLeft t)) 1) (eq-eqb (v (TaskLeft t)) 1 f)
       (push-both w Accepted nothing (TaskPlace t := A1 ∷ []) x (toPlace A1 (slotOf v t)) (working (a1 c))
-      (omega (arith, when-same x 1)) (omega (arith, placeHolds (w .pair .turn))) (omega (arith, w .pair .turn .fits)) (refl, refl)
+      (omega (arith, when-same x 1)) (omega (arith, placeHolds (w .pair .turn))) (omega (arith, w .pair .turn .fits))
+      (refl, refl)
       refl (rw (eq-eqb t t refl)) (λ j d. rw (ne-eqb t j d)) refl refl (r-working (r-a1 refl)))
   move-both x (y ∷ q) w e l f h =
       let c = v (TaskClass t) in
@@ -136,14 +144,18 @@ module _ {regions : ℕ} {v : View} {area : List ℕ} {m : Mem} {t : ℕ} {k : �
       let i : next < perRegion c = omega (arith, first-of l, index-below b) in
       let once : count x (y ∷ q) ≡ 0 = omega (arith, mine-under (w .pair) x o .2, when-same x 1) in
       miss _ (eqb left 1) (ne-eqb left 1 (omega arith)) (pass (ltb next (perRegion c)) (lt-ltb next (perRegion c) i)
-      (push-both w Accepted nothing (TaskIndex t := next ∷ TaskLeft t := (left - 1) ∷ []) x (toChain r next (left - 1) (slotOf v t))
+      (push-both w Accepted nothing (TaskIndex t := next ∷ TaskLeft t := (left - 1) ∷ []) x
+      (toChain r next (left - 1) (slotOf v t))
       (working (a4 c y q)) o (omega (arith, placeHolds (w .pair .turn)))
       (omega (arith, w .pair .turn .fits, i, placeHolds (w .pair .turn), perRegion-high c)) (refl, refl)
       refl (rw (eq-eqb t t refl)) (λ j d. rw (ne-eqb t j d)) refl refl
-      (r-working (r-a4 e (linked-frame (row-agrees (w .pair) x (v (CacheTop t c)) (y ∷ q) o (λ z. omega arith) once) l) (omega arith)
+      (r-working
+      (r-a4 e (linked-frame (row-agrees (w .pair) x (v (CacheTop t c)) (y ∷ q) o (λ z. omega arith) once) l)
+      (omega arith)
       (λ z. omega (arith, h z))))))
 
-  pub a4-both : {x : ℕ} {q : List ℕ} → At regions v area m t (working (a4 (v (TaskClass t)) x q)) k → v (TaskPlace t) ≡ A4
+  pub a4-both : {x : ℕ} {q : List ℕ} → At regions v area m t (working (a4 (v (TaskClass t)) x q)) k
+      → v (TaskPlace t) ≡ A4
       → Linked (link area) (indexOf (v (TaskClass t))) (perRegion (v (TaskClass t))) (v (TaskIndex t)) (x ∷ q)
       → v (TaskLeft t) ≡ suc (length q)
       → ((y : ℕ) → count y (x ∷ q) ≤ isBlock y (v (TaskRegion t)) (v (TaskClass t)))
@@ -161,12 +173,14 @@ module _ {regions : ℕ} {v : View} {area : List ℕ} {m : Mem} {t : ℕ} {k : �
       let b : Block r c x = counts-block r c x (omega (arith, h x)) in
       let z : unitOf r c i ≡ x = ap (unitOf r c) (first-of l) ∙ unit-again b in
       let p = placeHolds (w .pair .turn) .1 in
-      pass (ltb r regions && ltb i (perRegion c) && oneTo (perRegion c) left && ltb n (perRegion c) && isTop regions c n top)
+      pass (ltb r regions && ltb i (perRegion c) && oneTo (perRegion c) left && ltb n (perRegion c) && isTop regions c n
+      top)
       (both-true (both-true (both-true (both-true
       (lt-ltb r regions (under-region w b o))
       (lt-ltb i (perRegion c) (omega (arith, first-of l, index-below b))))
       (both-true (le-leb 1 left (omega arith)) (le-leb left (perRegion c) (omega arith))))
       (lt-ltb n (perRegion c) (omega (arith, cache-count w))))
       (top-tested w))
-      (subst (λ (u : ℕ). Both regions v area m (Allocate.a4Move v (link area) regions t c u left n top) (Steps.stepAt t k (a4 c x q) m))
+      (subst (λ (u : ℕ). Both regions v area m (Allocate.a4Move v (link area) regions t c u left n top)
+      (Steps.stepAt t k (a4 c x q) m))
       (sym z) (move-both x q w e (rest-of l) f h))

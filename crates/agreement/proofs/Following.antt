@@ -19,7 +19,6 @@ use Rattle.stepped.specs.Outcome.{accept}
 use Rattle.stepped.specs.Lists as Lists
 use Rattle.agreement.specs.Memory.{memoryOf}
 use Rattle.agreement.specs.Relation.{Related}
-
 use Rattle.agreement.proofs.Both.{Both, pass}
 use Rattle.agreement.proofs.Turns.{At, cache-count}
 
@@ -28,7 +27,8 @@ use Rattle.agreement.proofs.Turns.{At, cache-count}
 module _ {regions : ℕ} {v : View} {area : List ℕ} {m : Mem} {t : ℕ} {p : Place} {k : ℕ → List ℕ}
     (w : At regions v area m t p k) (e : Decided) (ws : List Write) (m₁ : Mem) (u : ℕ) (sound : Sound layout ws)
     (keeps : (assigned ws v Tasks ≡ v Tasks) × (assigned ws v Regions ≡ v Regions))
-    (at-f1 : Related regions (memoryOf (assigned (TaskPlace t := F1 ∷ ws) v) area) (Steps.at t k (working (f1 (v (TaskClass t)) u)) m₁))
+    (at-f1 : Related regions (memoryOf (assigned (TaskPlace t := F1 ∷ ws) v) area)
+    (Steps.at t k (working (f1 (v (TaskClass t)) u)) m₁))
     (at-f2 : Related regions (memoryOf (assigned (TaskPlace t := F2 ∷ GroupCount t := 0 ∷ ws) v) area)
     (Steps.at t k (working (f2 (v (TaskClass t)) u [])) m₁)) where
   -- a write before ws to a field of a task leaves the numbers of tasks and regions
@@ -38,9 +38,19 @@ module _ {regions : ℕ} {v : View} {area : List ℕ} {m : Mem} {t : ℕ} {p : P
 
   by-cache : (n : ℕ) (q : List ℕ) → n ≡ length q
       → Both regions v area m
-      (mathlib.Core.Bool.cond (eqb n 0) (accept e (TaskPlace t := F1 ∷ ws) []) (accept e (TaskPlace t := F2 ∷ GroupCount t := 0 ∷ ws) []))
+      (mathlib.Core.Bool.cond (eqb n 0) (accept e (TaskPlace t := F1 ∷ ws) [])
+      (accept e (TaskPlace t := F2 ∷ GroupCount t := 0 ∷ ws) []))
       (Steps.to t k (Steps.f6 q (v (TaskClass t)) u) m₁, going e)
-  by-cache n [] i = rw (eq-eqb n 0 i) (record { says = refl; keeps = keeps-after (assigned (TaskPlace t := F1 ∷ []) v) refl refl; rel = at-f1; sound = (omega (arith, w .pair .turn .fits), sound); apart = tt })
+  by-cache n [] i =
+      rw (eq-eqb n 0 i)
+      (record {
+        says = refl;
+        keeps = keeps-after (assigned (TaskPlace t := F1 ∷ []) v) refl refl;
+        rel = at-f1;
+        sound =
+            (omega (arith, w .pair .turn .fits), sound);
+        apart = tt;
+      })
   by-cache n (x ∷ q) i =
       rw (ne-eqb n 0 (omega arith))
       (record {
@@ -57,16 +67,25 @@ module _ {regions : ℕ} {v : View} {area : List ℕ} {m : Mem} {t : ℕ} {p : P
   unfolding Lists.f6
   six =
       let c = v (TaskClass t) in
-      pass (leb (v (CacheCount t c)) (perRegion c)) (le-leb (v (CacheCount t c)) (perRegion c) (omega (arith, cache-count w, lengths (w .pair .turn) c)))
+      pass (leb (v (CacheCount t c)) (perRegion c))
+      (le-leb (v (CacheCount t c)) (perRegion c) (omega (arith, cache-count w, lengths (w .pair .turn) c)))
       (by-cache (v (CacheCount t c)) (k c) (cache-count w))
 
   -- step 5: "If it was FULL: push the descriptor on the partial list"
   pub five : (was : ℕ) (z : State) (d : ℕ) → was ≡ numberOf z
-      → Related regions (memoryOf (assigned (TaskPlace t := PUSH-OFFER ∷ ws) v) area) (Steps.at t k (working (pushing (offer (v (TaskClass t)) u d) read)) m₁)
+      → Related regions (memoryOf (assigned (TaskPlace t := PUSH-OFFER ∷ ws) v) area)
+      (Steps.at t k (working (pushing (offer (v (TaskClass t)) u d) read)) m₁)
       → Both regions v area m (Lists.f5 v regions t (v (TaskClass t)) was e ws)
       (Steps.to t k (Steps.f5 z (k (v (TaskClass t))) (v (TaskClass t)) u d) m₁, going e)
   unfolding Lists.f5
   five was EMPTY d i r = rw (ne-eqb was 2 (omega arith)) six
   five was PARTIAL d i r = rw (ne-eqb was 2 (omega arith)) six
   five was FULL d i r =
-      rw (eq-eqb was 2 i) (record { says = refl; keeps = keeps-after (assigned (TaskPlace t := PUSH-OFFER ∷ []) v) refl refl; rel = r; sound = (omega (arith, w .pair .turn .fits), sound); apart = tt })
+      rw (eq-eqb was 2 i)
+      (record {
+        says = refl;
+        keeps = keeps-after (assigned (TaskPlace t := PUSH-OFFER ∷ []) v) refl refl;
+        rel = r;
+        sound = (omega (arith, w .pair .turn .fits), sound);
+        apart = tt;
+      })

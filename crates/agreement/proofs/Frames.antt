@@ -36,7 +36,8 @@ Reads x (push-noted p φ) = ⊥
 Reads x (anchor-noted d n) = x ≡ d
 Reads x (entry-noted y d n) = x ≡ d
 
--- what a turn leaves of the lists to a task at the place p: what it noted stands or is past, and the nexts of what it holds
+-- what a turn leaves of the lists to a task at the place p: what it noted stands or is past, and the nexts of what it
+-- holds
 pub record KeptLists (l l′ : Lists) (won won′ : ℕ → ℕ) (row row′ : ℕ → List ℕ) (p : Place) : Type 0 where
   pub wins : (ℓ : ℕ) → won ℓ ≤ won′ ℓ
   pub still : (ℓ : ℕ) → won′ ℓ ≡ won ℓ → row′ ℓ ≡ row ℓ
@@ -59,51 +60,71 @@ module _ {a a′ : Memory} {m m′ : Mem} {T : Task} (K : Kept a a′ m m′ T) 
   kept-noted {ℓ} {h} {n} N = record {
     past = omega (arith, K .lists .wins ℓ, N .past);
     tags = N .tags;
-    same = λ e. rw (K .lists .still ℓ (omega (arith, K .lists .wins ℓ, N .past, e))) (N .same (omega (arith, K .lists .wins ℓ, N .past, e)));
+    same =
+        λ e. rw (K .lists .still ℓ (omega (arith, K .lists .wins ℓ, N .past, e)))
+        (N .same (omega (arith, K .lists .wins ℓ, N .past, e)));
   }
 
   kept-pop : {s : Slot} {b ℓ limit : ℕ} {φ : Phase} → PopRelated m s b ℓ limit φ → PopRelated m′ s b ℓ limit φ
   kept-pop (PopRelated.at-read e) = PopRelated.at-read e
   kept-pop (PopRelated.at-next e N p l) = PopRelated.at-next e (kept-noted N) p l
   kept-pop {ℓ = ℓ} (PopRelated.at-exchange e N p l x f) =
-      PopRelated.at-exchange e (kept-noted N) p l x (λ i. rw (K .lists .still ℓ (omega (arith, K .lists .wins ℓ, N .past, i))) (f (omega (arith, K .lists .wins ℓ, N .past, i))))
+      PopRelated.at-exchange e (kept-noted N) p l x
+      (λ i. rw (K .lists .still ℓ (omega (arith, K .lists .wins ℓ, N .past, i)))
+      (f (omega (arith, K .lists .wins ℓ, N .past, i))))
 
-  kept-push : {s : Slot} {b ℓ limit x : ℕ} {nx nx′ : ℕ → ℕ} {φ : Phase} → nx′ x ≡ nx x → PushRelated m s b ℓ limit x nx φ → PushRelated m′ s b ℓ limit x nx′ φ
+  kept-push : {s : Slot} {b ℓ limit x : ℕ} {nx nx′ : ℕ → ℕ} {φ : Phase} → nx′ x ≡ nx x
+      → PushRelated m s b ℓ limit x nx φ → PushRelated m′ s b ℓ limit x nx′ φ
   kept-push h (PushRelated.at-read e) = PushRelated.at-read e
   kept-push h (PushRelated.at-next e N l) = PushRelated.at-next e (kept-noted N) l
   kept-push h (PushRelated.at-exchange e N l f) = PushRelated.at-exchange e (kept-noted N) l (h ∙ f)
 
-  kept-note : {c d : ℕ} {n : Note} {b : Anchor} → m′ .descriptor d .region ≡ m .descriptor d .region → NoteRelated m c d n b → NoteRelated m′ c d n b
-  kept-note {c} {d} {n} e N = record { state = N .state; count = N .count; avail = N .avail; first = rw e (N .first); none = N .none }
+  kept-note : {c d : ℕ} {n : Note} {b : Anchor} → m′ .descriptor d .region ≡ m .descriptor d .region
+      → NoteRelated m c d n b → NoteRelated m′ c d n b
+  kept-note {c} {d} {n} e N =
+      record { state = N .state; count = N .count; avail = N .avail; first = rw e (N .first); none = N .none }
 
-  kept-group : {s : Slot} {y : ℕ} {g : List ℕ} → ((v : ℕ) → 1 ≤ count v (y ∷ g) → link (a′ .area) v ≡ link (a .area) v) → GroupRelated a s y g → GroupRelated a′ s y g
+  kept-group : {s : Slot} {y : ℕ} {g : List ℕ} → ((v : ℕ) → 1 ≤ count v (y ∷ g) → link (a′ .area) v ≡ link (a .area) v)
+      → GroupRelated a s y g → GroupRelated a′ s y g
   kept-group {s} {y} {g} h G = record {
     front = G .front;
     last = G .last;
     is = G .is;
-    linked = linked-frame (λ v e. h v (omega (arith, ap (count v) (G .is), count-append v (G .front) (G .last ∷ [])))) (G .linked);
+    linked =
+        linked-frame (λ v e. h v (omega (arith, ap (count v) (G .is), count-append v (G .front) (G .last ∷ []))))
+        (G .linked);
     lastIs = G .lastIs;
     counts = G .counts;
     region = G .region;
   }
 
 -- the blocks under way count with the task's
-under-links : {a a′ : Memory} {m m′ : Mem} {T : Task} → Kept a a′ m m′ T → (v : ℕ) → 1 ≤ count v (underWay (T .place)) → link (a′ .area) v ≡ link (a .area) v
+under-links : {a a′ : Memory} {m m′ : Mem} {T : Task} → Kept a a′ m m′ T → (v : ℕ) → 1 ≤ count v (underWay (T .place))
+    → link (a′ .area) v ≡ link (a .area) v
 under-links K v h = K .links v (omega arith)
 
 kept-work : {regions : ℕ} {a a′ : Memory} {m m′ : Mem} {s : Slot} {w : Work} {k : ℕ → List ℕ}
-    → Kept a a′ m m′ (record { place = working w; cache = k }) → WorkRelated regions a m s w → WorkRelated regions a′ m′ s w
+    → Kept a a′ m m′ (record { place = working w; cache = k }) → WorkRelated regions a m s w
+    → WorkRelated regions a′ m′ s w
 unfolding kept-group
 kept-work K (r-a1 e) = r-a1 e
 kept-work K (r-partial h) = r-partial (kept-pop K h)
 kept-work K (r-spare h) = r-spare (kept-pop K h)
 kept-work K (r-region h) = r-region (kept-pop K h)
-kept-work {s = s} K (r-retire h) = r-retire (kept-push K (K .lists .descriptorNexts (s .hand .descriptor) (omega (arith, when-same (s .hand .descriptor) 1))) h)
-kept-work {s = s} K (r-back h) = r-back (kept-push K (K .lists .descriptorNexts (s .hand .descriptor) (omega (arith, when-same (s .hand .descriptor) 1))) h)
-kept-work {s = s} K (r-release e h) = r-release e (kept-push K (K .lists .regionNexts (s .hand .region) (omega (arith, when-same (s .hand .region) 1))) h)
-kept-work {s = s} K (r-offer h) = r-offer (kept-push K (K .lists .descriptorNexts (s .hand .descriptor) (omega (arith, when-same (s .hand .descriptor) 1))) h)
+kept-work {s = s} K (r-retire h) =
+    r-retire (kept-push K
+    (K .lists .descriptorNexts (s .hand .descriptor) (omega (arith, when-same (s .hand .descriptor) 1))) h)
+kept-work {s = s} K (r-back h) =
+    r-back (kept-push K
+    (K .lists .descriptorNexts (s .hand .descriptor) (omega (arith, when-same (s .hand .descriptor) 1))) h)
+kept-work {s = s} K (r-release e h) =
+    r-release e (kept-push K (K .lists .regionNexts (s .hand .region) (omega (arith, when-same (s .hand .region) 1))) h)
+kept-work {s = s} K (r-offer h) =
+    r-offer (kept-push K
+    (K .lists .descriptorNexts (s .hand .descriptor) (omega (arith, when-same (s .hand .descriptor) 1))) h)
 kept-work K (r-a3-read e) = r-a3-read e
-kept-work {s = s} K (r-a3-exchange e N i j k l) = r-a3-exchange e (kept-note K (K .regions (s .hand .descriptor) refl) N) i j k l
+kept-work {s = s} K (r-a3-exchange e N i j k l) =
+    r-a3-exchange e (kept-note K (K .regions (s .hand .descriptor) refl) N) i j k l
 kept-work K (r-a4 e l n h) = r-a4 e (linked-frame (under-links K) l) n h
 kept-work K (r-a7 e) = r-a7 e
 kept-work K (r-a8 e) = r-a8 e
@@ -111,10 +132,20 @@ kept-work K (r-f1 e) = r-f1 e
 kept-work K (r-f2 e z) = r-f2 e z
 kept-work K (r-f2-more e G) = r-f2-more e (kept-group K (λ v h. under-links K v (omega arith)) G)
 kept-work K (r-f3-read e G) = r-f3-read e (kept-group K (λ v h. under-links K v (omega arith)) G)
-kept-work {s = s} K (r-f3-link e G N l) = r-f3-link e (kept-group K (λ v h. under-links K v (omega arith)) G) (kept-note K (K .regions (s .hand .descriptor) refl) N) l
+kept-work {s = s} K (r-f3-link e G N l) =
+    r-f3-link e (kept-group K (λ v h. under-links K v (omega arith)) G)
+    (kept-note K (K .regions (s .hand .descriptor) refl) N) l
 kept-work {s = s} K (r-f3-exchange e G N l f) =
-    r-f3-exchange e (kept-group K (λ v h. under-links K v (omega arith)) G) (kept-note K (K .regions (s .hand .descriptor) refl) N) l
-    (under-links K (G .last) (omega (arith, ap (count (G .last)) (G .is), count-append (G .last) (G .front) (G .last ∷ []), when-same (G .last) 1)) ∙ f)
+    r-f3-exchange e (kept-group K (λ v h. under-links K v (omega arith)) G)
+    (kept-note K (K .regions (s .hand .descriptor) refl) N) l
+    (under-links K (G .last)
+    (omega (
+      arith,
+      ap (count (G .last)) (G .is),
+      count-append (G .last) (G .front) (G .last ∷ []),
+      when-same (G .last)
+          1,
+    )) ∙ f)
 kept-work K (r-f4-clear e h) = r-f4-clear e h
 
 kept-place : {regions : ℕ} {a a′ : Memory} {m m′ : Mem} {s : Slot} {p : Place} {k : ℕ → List ℕ}
@@ -122,7 +153,8 @@ kept-place : {regions : ℕ} {a a′ : Memory} {m m′ : Mem} {s : Slot} {p : Pl
 kept-place K (r-idle e) = r-idle e
 kept-place {k = k} K (r-working W) = r-working (kept-work {k = k} K W)
 
-pub kept-slot : {regions : ℕ} {a a′ : Memory} {m m′ : Mem} {s : Slot} {T : Task} → Kept a a′ m m′ T → SlotRelated regions a m s T → SlotRelated regions a′ m′ s T
+pub kept-slot : {regions : ℕ} {a a′ : Memory} {m m′ : Mem} {s : Slot} {T : Task} → Kept a a′ m m′ T
+    → SlotRelated regions a m s T → SlotRelated regions a′ m′ s T
 kept-slot {T = T} K S = record {
   fits = S .fits;
   place = kept-place {p = T .place} {k = T .cache} K (S .place);
@@ -134,11 +166,16 @@ kept-slot {T = T} K S = record {
 }
 
 -- a task's step: what stands after it for that task, and what is kept for the others
-pub after : {regions : ℕ} {a a′ : Memory} {m m′ : Mem} (t : ℕ) (s : Slot) (T : Task) → a′ .slot ≡ update (a .slot) t s → m′ .task ≡ update (m .task) t T
+pub after : {regions : ℕ} {a a′ : Memory} {m m′ : Mem} (t : ℕ) (s : Slot) (T : Task) → a′ .slot ≡ update (a .slot) t s
+    → m′ .task ≡ update (m .task) t T
     → Core regions a′ m′ → SlotRelated regions a′ m′ s T → ((j : ℕ) → j < TASKS → j ≢ t → Kept a a′ m m′ (m .task j))
     → ((j : ℕ) → j < TASKS → SlotRelated regions a m (a .slot j) (m .task j)) → Related regions a′ m′
 after {regions} {a} {a′} {m} {m′} t s T e f C own kept old = record {
   core = C;
-  slots = subst (λ (F : ℕ → Slot). (j : ℕ) → j < TASKS → SlotRelated regions a′ m′ (F j) (m′ .task j)) (sym e) (subst (λ (G : ℕ → Task). (j : ℕ) → j < TASKS → SlotRelated regions a′ m′ (update (a .slot) t s j) (G j)) (sym f)
-      (update-all₂ (λ j z U. j < TASKS → SlotRelated regions a′ m′ z U) (a .slot) (m .task) t s T (λ l. own) (λ j d l. kept-slot (kept j l d) (old j l))));
+  slots =
+      subst (λ (F : ℕ → Slot). (j : ℕ) → j < TASKS → SlotRelated regions a′ m′ (F j) (m′ .task j)) (sym e)
+      (subst (λ (G : ℕ → Task). (j : ℕ) → j < TASKS → SlotRelated regions a′ m′ (update (a .slot) t s j) (G j))
+      (sym f)
+      (update-all₂ (λ j z U. j < TASKS → SlotRelated regions a′ m′ z U) (a .slot) (m .task) t s T (λ l. own)
+      (λ j d l. kept-slot (kept j l d) (old j l))));
 }

@@ -55,7 +55,8 @@ module _ {regions : ℕ} {v : View} {area : List ℕ} {m : Mem} {t : ℕ} {k : �
       let i = indexOf c u in
       let s = toGroup (regionOf u) i i 1 (toCache c (link area u) (n - 1) (slotOf v t)) in
       let p = working (f2 c (v (TaskUnit t)) (u ∷ [])) in
-      let v₁ = assigned (TaskRegion t := regionOf u ∷ GroupFirst t := i ∷ GroupLast t := i ∷ GroupCount t := 1 ∷ []) v in
+      let v₁ =
+      assigned (TaskRegion t := regionOf u ∷ GroupFirst t := i ∷ GroupLast t := i ∷ GroupCount t := 1 ∷ []) v in
       pass _ (T .below) (record {
         says = refl;
         keeps = (refl, refl);
@@ -92,7 +93,8 @@ module _ {regions : ℕ} {v : View} {area : List ℕ} {m : Mem} {t : ℕ} {k : �
         → Both regions v area m
         (Free.f2More v (link area) regions t (v (TaskClass t)) (v (CacheCount t (v (TaskClass t))))
         (v (CacheTop t (v (TaskClass t)))) (v (GroupCount t)) (v (TaskRegion t))) (
-          Steps.cached t k (v (TaskClass t)) q (working (f2 (v (TaskClass t)) (v (TaskUnit t)) (y ∷ (g ++ (x ∷ []))))) m,
+          Steps.cached t k (v (TaskClass t)) q (working (f2 (v (TaskClass t)) (v (TaskUnit t)) (y ∷ (g ++ (x ∷ [])))))
+              m,
           going nothing,
         )
     unfolding Free.f2More
@@ -112,7 +114,8 @@ module _ {regions : ℕ} {v : View} {area : List ℕ} {m : Mem} {t : ℕ} {k : �
         let room : h < perRegion c = omega (arith, G .counts, o .2, ap length f) in
         let wr = wrote (w .pair) l i lu (omega (arith, T .index, perRegion-high c)) in
         let kept = cache-agrees (w .pair) l i lu in
-        let s = toGroup (v (TaskRegion t)) (v (GroupFirst t)) i (h + 1) (toCache c (link area u) (n - 1) (slotOf v t)) in
+        let s =
+        toGroup (v (TaskRegion t)) (v (GroupFirst t)) i (h + 1) (toCache c (link area u) (n - 1) (slotOf v t)) in
         let p = working (f2 c (v (TaskUnit t)) (y ∷ (g ++ (u ∷ [])))) in
         let v₁ = assigned (GroupLast t := i ∷ GroupCount t := (h + 1) ∷ []) v in
         pass _ (both-true (both-true (lt-ltb h (perRegion c) room)
@@ -125,7 +128,8 @@ module _ {regions : ℕ} {v : View} {area : List ℕ} {m : Mem} {t : ℕ} {k : �
               (record { shared = refl; own = rw (eq-eqb t t refl); others = λ j d. rw (ne-eqb t j d) }))
               (mine-under (w .pair) l lu .0)
               (re-cache (w .pair) _ _ s p c (link area u) (n - 1) q kept refl refl
-              (linked-frame (λ z b. kept c (mine (w .pair) .fits) z (omega (arith, ap (count z) f))) (T .linked)) (T .rest)
+              (linked-frame (λ z b. kept c (mine (w .pair) .fits) z (omega (arith, ap (count z) f))) (T .linked))
+              (T .rest)
               (r-working (r-f2-more e (record {
                 front = G .front ++ (l ∷ []);
                 last = u;
@@ -153,7 +157,9 @@ module _ {regions : ℕ} {v : View} {area : List ℕ} {m : Mem} {t : ℕ} {k : �
     close-both = record {
       says = refl;
       keeps = (refl, refl);
-      rel = goes w (TaskPlace t := F3-READ ∷ []) (toPlace F3-READ (slotOf v t)) (working (f3-read (v (TaskClass t)) (v (TaskUnit t)) y g))
+      rel =
+          goes w (TaskPlace t := F3-READ ∷ []) (toPlace F3-READ (slotOf v t))
+          (working (f3-read (v (TaskClass t)) (v (TaskUnit t)) y g))
           refl (rw (eq-eqb t t refl)) (λ j n. rw (ne-eqb t j n)) refl refl
           (r-working (r-f3-read refl (same-group refl refl refl refl G)));
       sound = omega (arith, w .pair .turn .fits);
@@ -179,7 +185,8 @@ module _ {regions : ℕ} {v : View} {area : List ℕ} {m : Mem} {t : ℕ} {k : �
       pass _ (topped w x q f .block) (meet _ (eqb h 0) (eq-eqb h 0 z) (first-both w e x q f)))))
 
   -- beside a group, the cache may be empty
-  pub f2-more-both : {y : ℕ} {g : List ℕ} → At regions v area m t (working (f2 (v (TaskClass t)) (v (TaskUnit t)) (y ∷ g))) k
+  pub f2-more-both : {y : ℕ} {g : List ℕ} → At regions v area m t
+      (working (f2 (v (TaskClass t)) (v (TaskUnit t)) (y ∷ g))) k
       → v (TaskPlace t) ≡ F2 → GroupRelated (memoryOf v area) (slotOf v t) y g
       → Both regions v area m (Free.f2 v (link area) regions t (v (TaskClass t)))
       (Steps.stepAt t k (f2 (v (TaskClass t)) (v (TaskUnit t)) (y ∷ g)) m)

@@ -46,7 +46,13 @@ module _ {regions : ℕ} {a : Memory} {m : Mem} {t : ℕ} {p : Place} {k : ℕ �
     (together : Together y g) where
   pub last-in : 1 ≤ count (G .last) (y ∷ g)
   last-in =
-      omega (arith, ap (count (G .last)) (G .is), count-append (G .last) (G .front) (G .last ∷ []), when-same (G .last) 1)
+      omega (
+        arith,
+        ap (count (G .last)) (G .is),
+        count-append (G .last) (G .front) (G .last ∷ []),
+        when-same (G .last)
+            1,
+      )
 
   -- the group's blocks are of its region and the request's class
   pub of-region : (v : ℕ) → 1 ≤ count v (y ∷ g) → Block (a .slot t .hand .region) (a .slot t .class) v
@@ -73,10 +79,15 @@ module _ {regions : ℕ} {a : Memory} {m : Mem} {t : ℕ} {p : Place} {k : ℕ �
   first-below = go (G .front) (G .is) (G .linked)
     where
       go : (q : List ℕ) → y ∷ g ≡ q ++ (G .last ∷ [])
-          → Linked (link (a .area)) (indexOf (a .slot t .class)) (indexOf (a .slot t .class) (G .last)) (a .slot t .group .first) q
+          → Linked (link (a .area)) (indexOf (a .slot t .class)) (indexOf (a .slot t .class) (G .last))
+          (a .slot t .group .first) q
           → a .slot t .group .first < perRegion (a .slot t .class)
       go [] e (ends f) =
-          omega (arith, index-below (of-region (G .last) (omega (arith, ap (count (G .last)) e, when-same (G .last) 1))))
+          omega (
+            arith,
+            index-below
+                (of-region (G .last) (omega (arith, ap (count (G .last)) e, when-same (G .last) 1))),
+          )
       go (z ∷ q) e (links f l) = omega (arith, index-below (of-region z (omega (arith, ap (count z) e, when-same z 1))))
 
   -- its region is one of the area's

@@ -87,7 +87,9 @@ module _ {regions : ℕ} {v : View} {area : List ℕ} {m : Mem} {t : ℕ} {p : P
         most = omega (arith, w .pair .small);
         linked = C .lists .spareRow;
         nexts = C .lists .regionNexts;
-        noted = fresh (headOf (v (Head SPARE-REGIONS))) (C .lists .tags SPARE-REGIONS (omega arith)) (top-of (C .lists .spareRow));
+        noted =
+            fresh (headOf (v (Head SPARE-REGIONS))) (C .lists .tags SPARE-REGIONS (omega arith))
+            (top-of (C .lists .spareRow));
         head = top-le (C .lists .spareRow) (listed-region (w .pair .turn .inv));
       }
 

@@ -28,7 +28,8 @@ getLE-zeros n at (suc w) = rw (zeros n at, getLE-zeros n (suc at) w)
 -- ---- a run of writes
 
 -- writes after writes
-pub assigned-append : (ws us : List Write) (v : View) (g : Field) → assigned (ws ++ us) v g ≡ assigned us (assigned ws v) g
+pub assigned-append : (ws us : List Write) (v : View) (g : Field)
+    → assigned (ws ++ us) v g ≡ assigned us (assigned ws v) g
 assigned-append [] us v g = refl
 assigned-append (w ∷ ws) us v g = assigned-append ws us (assign w v) g
 
@@ -61,8 +62,11 @@ pub fill-sound : (k : Column) (x : ℕ → ℕ) (n most bound : ℕ)
     → ((i x : ℕ) → i < most → x < bound → Has layout (field k i) × (x < 256 ^ width layout (field k i)))
     → ((i : ℕ) → i < n → x i < bound) → n ≤ most → Sound layout (fill (field k) x n)
 fill-sound k x zero most bound h f l = tt
-fill-sound k x (suc n) most bound h f l =
-    (h n (x n) (omega arith) (f n (omega arith)), fill-sound k x n most bound h (λ i j. f i (omega arith)) (omega arith))
+fill-sound k x (suc n) most bound h f l = (
+  h n (x n) (omega arith) (f n (omega arith)),
+  fill-sound k x n most bound h (λ i j. f i (omega arith))
+      (omega arith),
+)
 
 -- writes that fit, after writes that fit
 pub append-sound : (ws us : List Write) → Sound layout ws → Sound layout us → Sound layout (ws ++ us)

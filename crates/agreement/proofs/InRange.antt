@@ -55,7 +55,8 @@ module _ (regions : ℕ) (v : View) (area : List ℕ) (m : Mem) (t : ℕ) where
   abbrev d : ℕ
   d = v (TaskDescriptor t)
 
-  module _ {p : Place} {k : ℕ → List ℕ} (w : Pair regions (memoryOf v area) m t p k) (noted : v (TaskState t) ≤ FULL) where
+  module _ {p : Place} {k : ℕ → List ℕ} (w : Pair regions (memoryOf v area) m t p k)
+      (noted : v (TaskState t) ≤ FULL) where
     abbrev c : ℕ
     c = v (TaskClass t)
 
@@ -64,14 +65,16 @@ module _ (regions : ℕ) (v : View) (area : List ℕ) (m : Mem) (t : ℕ) where
     freed-unit e h = subst (λ (z : ℕ). isBlock regions z u ≡ true) e (under-unit w u h)
 
     -- at the places of a free: the two pushes, and its own steps
-    unit-at : Freeing v t p → PUSH-RELEASE ≤ v (TaskPlace t) → (A3-READ ≤ v (TaskPlace t) → F1 ≤ v (TaskPlace t)) → isBlock regions c u ≡ true
+    unit-at : Freeing v t p → PUSH-RELEASE ≤ v (TaskPlace t) → (A3-READ ≤ v (TaskPlace t) → F1 ≤ v (TaskPlace t))
+        → isBlock regions c u ≡ true
     unit-at (allocates h) i j = absurd (omega arith)
     unit-at (fills h l) i j = absurd (omega (arith, j h))
     unit-at (frees h l e o) i j = freed-unit e o
     unit-at (owes f e o) i j = freed-unit e o
 
     -- at those where a descriptor may be owed: the map entry is cleared, and the region released
-    owed-at : Freeing v t p → PUSH-RELEASE ≤ v (TaskPlace t) → (PUSH-OFFER ≤ v (TaskPlace t) → F4-CLEAR ≤ v (TaskPlace t)) → v (TaskState t) ≡ FULL → d < DESCRIPTORS
+    owed-at : Freeing v t p → PUSH-RELEASE ≤ v (TaskPlace t)
+        → (PUSH-OFFER ≤ v (TaskPlace t) → F4-CLEAR ≤ v (TaskPlace t)) → v (TaskState t) ≡ FULL → d < DESCRIPTORS
     owed-at (allocates h) i j f = absurd (omega arith)
     owed-at (fills h l) i j f = absurd (omega (arith, j (omega arith)))
     owed-at (frees h l e o) i j f = absurd (omega (arith, j h))
@@ -87,7 +90,8 @@ module _ (regions : ℕ) (v : View) (area : List ℕ) (m : Mem) (t : ℕ) where
 
       top-linked : Linked (link area) (λ x. x) UNITS (v (CacheTop t e)) row
       top-linked =
-          subst (λ (z : ℕ). Linked (link area) (λ x. x) UNITS z row) (if-yes (decLt e CLASSES) (v (CacheTop t e)) 0 l) (mine w .caches .tops e l)
+          subst (λ (z : ℕ). Linked (link area) (λ x. x) UNITS z row) (if-yes (decLt e CLASSES) (v (CacheTop t e)) 0 l)
+          (mine w .caches .tops e l)
 
       top-is : isTop regions e (v (CacheCount t e)) (v (CacheTop t e)) ≡ true
       top-is = rw count-is (below-tested w e (v (CacheTop t e)) row (λ x. omega arith) top-linked)
@@ -126,7 +130,8 @@ chain-most EMPTY n l o h = absurd (omega (arith, o 1))
 chain-most PARTIAL n l o h = omega arith
 chain-most Plain.FULL n l o h = omega arith
 
-module _ {regions : ℕ} (v : View) {area : List ℕ} {m : Mem} (R : Related regions (memoryOf v area) m) (I : Invariant regions m) where
+module _ {regions : ℕ} (v : View) {area : List ℕ} {m : Mem} (R : Related regions (memoryOf v area) m)
+    (I : Invariant regions m) where
   open-anchor : (e : ℕ) → e < DESCRIPTORS → 1 ≤ anchorOf (v (Anchor e)) .state
       → OpenAnchor (perRegion (v (DescriptorClass e))) (anchorOf (v (Anchor e)) .avail) (anchorOf (v (Anchor e)) .count)
   open-anchor e l h =
@@ -136,10 +141,12 @@ module _ {regions : ℕ} (v : View) {area : List ℕ} {m : Mem} (R : Related reg
       let C = open-holds (E .state) o (D .chain) in
       let O = open-holds (E .state) o (I .chains e l) in
       let N = note-of m e D C O in
-      subst (λ (c : ℕ). OpenAnchor (perRegion c) (anchorOf (v (Anchor e)) .avail) (anchorOf (v (Anchor e)) .count)) (sym (D .class))
+      subst (λ (c : ℕ). OpenAnchor (perRegion c) (anchorOf (v (Anchor e)) .avail) (anchorOf (v (Anchor e)) .count))
+      (sym (D .class))
       (record {
         avails = omega (arith, N .avail, first-max (E .region) (E .class) (top (E .chain)) (N .first));
-        counts = omega (arith, C .counts, chain-most (E .state) (perRegion (E .class)) (length (E .chain)) o (O .sized));
+        counts =
+            omega (arith, C .counts, chain-most (E .state) (perRegion (E .class)) (length (E .chain)) o (O .sized));
       })
 
 -- Once a pool is started, the relation between the bytes and the plain pool gives every field's range.
@@ -151,7 +158,8 @@ in-range {s₁} {s} S noted started =
     let C = R .core in
     let I = S .good .inv q in
     let e : v Regions ≡ s .regions = S .regions q in
-    let pair : (t : ℕ) (l : t < TASKS) → Pair (s .regions) (memoryOf v (s₁ .area)) (s .mem) t (s .mem .task t .place) (s .mem .task t .cache) =
+    let pair : (t : ℕ) (l : t < TASKS) → Pair (s .regions) (memoryOf v (s₁ .area)) (s .mem) t (s .mem .task t .place)
+    (s .mem .task t .cache) =
     λ t l. record { rel = R; turn = record { inv = I; fits = l; is = refl }; small = S .good .small q } in
     record {
       widths = fitting (s₁ .control) (S .bytes);
@@ -169,7 +177,9 @@ in-range {s₁} {s} S noted started =
       descriptor-regions = rw e (C .descriptors .regionNumbers);
       descriptor-classes = C .descriptors .classNumbers;
       maps = λ r l. omega (arith, C .entries .maps r (omega arith), I .entries r);
-      each-task = λ t l. rw e (task-in-range (s .regions) v (s₁ .area) (s .mem) t (pair t l) (noted started t l) (R .slots t l .place));
+      each-task =
+          λ t l. rw e
+          (task-in-range (s .regions) v (s₁ .area) (s .mem) t (pair t l) (noted started t l) (R .slots t l .place));
     }
 
 -- ---- a run
@@ -182,14 +192,18 @@ reached-ranged R = in-range (reached-tied R) (reached-noted R)
 ranged-after : Wherever RangedAfter
 ranged-after h s₁ s R e p = reached-ranged (by-event R e p)
 
--- Along every list of events that meets the premises, from any control memory that is not started, every field that the pool
--- stores is in its range.
-pub ranges : (es : List Event) (s₁ : Memories) → Unstarted s₁ → Premises es unstarted → Along RangedAfter es s₁ unstarted
+-- Along every list of events that meets the premises, from any control memory that is not started, every field that the
+-- pool stores is in its range.
+pub ranges : (es : List Event) (s₁ : Memories) → Unstarted s₁ → Premises es unstarted
+    → Along RangedAfter es s₁ unstarted
 ranges es s₁ U p = along RangedAfter ranged-after (from-unstarted U) es p
 
--- The same from an accepted start on any memories and in any pool: right after it, and along every list of events behind it.
-pub ranges-from-start : (es : List Event) (s₁ : Memories) (s : Pool) (b : Start) (area : List ℕ) → Calls.Area (length area)
-    → Calls.Tasks (b .tasks) → Premises es (whole (starting b area) s .0) → Along RangedAfter (starting b area ∷ es) s₁ s
+-- The same from an accepted start on any memories and in any pool: right after it, and along every list of events
+-- behind it.
+pub ranges-from-start : (es : List Event) (s₁ : Memories) (s : Pool) (b : Start) (area : List ℕ)
+    → Calls.Area (length area)
+    → Calls.Tasks (b .tasks) → Premises es (whole (starting b area) s .0)
+    → Along RangedAfter (starting b area ∷ es) s₁ s
 ranges-from-start es s₁ s b area a t p =
     let R = from-start s₁ s b area a t in
     (reached-ranged R, along RangedAfter ranged-after R es p)

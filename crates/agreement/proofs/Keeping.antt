@@ -69,7 +69,8 @@ module _ {regions : ℕ} {v : View} {area : List ℕ} {m : Mem} {t : ℕ} {k : �
         says = refl;
         keeps = (refl, refl);
         rel = goes w (TaskPlace t := F2 ∷ GroupCount t := 0 ∷ []) (toPlace F2 (toGrouped 0 (slotOf v t)))
-            (working (f2 c (v (TaskUnit t)) [])) refl (rw (eq-eqb t t refl)) (λ j n. rw (ne-eqb t j n)) refl refl (r-working (r-f2 refl refl));
+            (working (f2 c (v (TaskUnit t)) [])) refl (rw (eq-eqb t t refl)) (λ j n. rw (ne-eqb t j n)) refl refl
+            (r-working (r-f2 refl refl));
         sound = omega (arith, w .pair .turn .fits);
         apart = tt;
       }))

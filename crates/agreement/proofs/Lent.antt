@@ -1,4 +1,5 @@
--- Calls that are lent other memories than the pool's: they answer as the calls on those do, and leave the pool's as they are.
+-- Calls that are lent other memories than the pool's: they answer as the calls on those do, and leave the pool's as
+-- they are.
 use mathlib.Core.Path.{_≡_, refl}
 use mathlib.Core.Logic.{_≢_, _⊎_, inl, inr}
 use mathlib.Core.Bool.{Bool, true, false, cond, _&&_}
@@ -48,7 +49,13 @@ module _ (area : List ℕ) (tasks : ℕ) where
       cond p
       (cond q
       (cond r
-      (record { answer = Accepted; decided = nothing; control = startImage tasks (length area / REGION-BYTES); area = area })
+      (record {
+        answer = Accepted;
+        decided = nothing;
+        control = startImage tasks (length area / REGION-BYTES);
+        area =
+            area;
+      })
       (effect (refuse 3) c b))
       (effect (refuse 2) c b))
       (effect (refuse 1) c b)
@@ -70,19 +77,23 @@ module _ (area : List ℕ) (tasks : ℕ) where
   area-kept true false r c b h = absurd (omega arith)
   area-kept false q r c b h = absurd (omega arith)
 
-  -- A start on memories that are not the pool's: the same effect if it is accepted, and if it is refused, by the same number.
+  -- A start on memories that are not the pool's: the same effect if it is accepted, and if it is refused, by the same
+  -- number.
   pub start-elsewhere : (size : ℕ) (c b c′ b′ : List ℕ)
       → (Stepped.startIn size area tasks c b ≡ Stepped.startIn size area tasks c′ b′)
       ⊎ BothRefused (Stepped.startIn size area tasks c b) (Stepped.startIn size area tasks c′ b′) c b c′ b′
   unfolding Stepped.startIn
   start-elsewhere size =
-      elsewhere (eqb size CONTROL-BYTES) (eqb (length area % REGION-BYTES) 0 && oneTo AREA-BYTES (length area)) (oneTo TASKS tasks)
+      elsewhere (eqb size CONTROL-BYTES) (eqb (length area % REGION-BYTES) 0 && oneTo AREA-BYTES (length area))
+      (oneTo TASKS tasks)
 
   -- An accepted start "leaves the area as it is": its area is the one that it is lent.
   pub start-leaves : (size : ℕ) (c b : List ℕ) → codeOf (Stepped.startIn size area tasks c b .answer) ≡ 0
       → Stepped.startIn size area tasks c b .area ≡ area
   unfolding Stepped.startIn
-  start-leaves size = area-kept (eqb size CONTROL-BYTES) (eqb (length area % REGION-BYTES) 0 && oneTo AREA-BYTES (length area)) (oneTo TASKS tasks)
+  start-leaves size =
+      area-kept (eqb size CONTROL-BYTES) (eqb (length area % REGION-BYTES) 0 && oneTo AREA-BYTES (length area))
+      (oneTo TASKS tasks)
 
 -- ---- refusals
 
@@ -98,5 +109,6 @@ refused-leaves e s h = by (e .answer) refl
     by NoRegion i k l = absurd (omega arith)
     by (Refused n) i k l = λ j. record { control = h n i .0 j; area = h n i .1 j }
 
-pub outcome-leaves : (o : Outcome) (s : Memories) → WritesNothing o → Unchanged s (ran (effect o (s .control) (s .area)))
+pub outcome-leaves : (o : Outcome) (s : Memories) → WritesNothing o
+    → Unchanged s (ran (effect o (s .control) (s .area)))
 outcome-leaves o s h = refused-leaves (effect o (s .control) (s .area)) s (leaves o (s .control) (s .area) h)

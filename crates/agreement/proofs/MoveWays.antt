@@ -71,9 +71,11 @@ module _ (v : View) (t : ℕ) (fits : v (TaskClass t) < CLASSES) where
       let item = itemOf (v (TaskHead t)) in
       let items = Lists.popItems p regions in
       test (oneTo items item)
-      (test (leb (v (Lists.popNextField p (item - 1))) items) (to (popPlace p + 2) (omega (arith, before p)) (λ u. refl)))
+      (test (leb (v (Lists.popNextField p (item - 1))) items)
+      (to (popPlace p + 2) (omega (arith, before p)) (λ u. refl)))
 
-  when-popped : (p : Pop) (x : ℕ) (e : Decided) (ws : List Write) → Keeps t ws → End (Lists.whenPopped v regions t c p x e ws)
+  when-popped : (p : Pop) (x : ℕ) (e : Decided) (ws : List Write) → Keeps t ws
+      → End (Lists.whenPopped v regions t c p x e ws)
   when-popped Partial x e ws h = to A3-READ (omega arith) (λ u. h _)
   when-popped Spare x e ws h = to (popPlace Region) (omega arith) (λ u. h _)
   when-popped Region x e ws h = to A7 (omega arith) (λ u. h _)
@@ -93,7 +95,8 @@ module _ (v : View) (t : ℕ) (fits : v (TaskClass t) < CLASSES) where
   -- ---- pushes
 
   -- from one place of a push to another
-  within : {e : Decided} {ws : List Write} {ls : List LinkWrite} (p : Push) (q : ℕ) → InPush p q → InPush p (v (TaskPlace t))
+  within : {e : Decided} {ws : List Write} {ls : List LinkWrite} (p : Push) (q : ℕ) → InPush p q
+      → InPush p (v (TaskPlace t))
       → Keeps t ws → End (accept e (TaskPlace t := q ∷ ws) ls)
   within Retire q i h k = to q (omega arith) k
   within Back q i h k = going (λ j. inr h)
@@ -112,7 +115,8 @@ module _ (v : View) (t : ℕ) (fits : v (TaskClass t) < CLASSES) where
       let x = v (Lists.itemField p t) in
       let below = itemOf (v (TaskHead t)) in
       let items = Lists.pushItems p regions in
-      test (ltb x items && leb below items) (within p (pushPlace p + 2) (omega arith) (omega arith) (next-keeps t p x below))
+      test (ltb x items && leb below items)
+      (within p (pushPlace p + 2) (omega arith) (omega arith) (next-keeps t p x below))
 
   -- free, steps 6 and 5
   f6 : (e : Decided) (ws : List Write) → Keeps t ws → End (Lists.f6 v regions t c e ws)

@@ -41,7 +41,8 @@ NotedStates b = 1 ≤ seen b Tasks → States b
 -- ---- writes
 
 module _ (t u : ℕ) where
-  write-noted : (f : Field) (x : ℕ) → Own t (f := x) → (v : View) → v (TaskState u) ≤ FULL → assign (f := x) v (TaskState u) ≤ FULL
+  write-noted : (f : Field) (x : ℕ) → Own t (f := x) → (v : View) → v (TaskState u) ≤ FULL
+      → assign (f := x) v (TaskState u) ≤ FULL
   write-noted f x own v h = by (eqb (f .column) (TaskPlace t .column)) refl own
     where
       noted : (b c : Bool) → cond b (x ≤ FULL) (Unit {0}) → cond (b && c) x (v (TaskState u)) ≤ FULL
@@ -55,7 +56,8 @@ module _ (t u : ℕ) where
       by true e o = rw (eqb-true (f .column) (TaskPlace t .column) e) h
       by false e o = noted (eqb (f .column) (TaskState t .column)) (eqb (f .index) u) o
 
-  writes-noted : (ws : List Write) → Owns t ws → (v : View) → v (TaskState u) ≤ FULL → assigned ws v (TaskState u) ≤ FULL
+  writes-noted : (ws : List Write) → Owns t ws → (v : View) → v (TaskState u) ≤ FULL
+      → assigned ws v (TaskState u) ≤ FULL
   writes-noted [] own v h = h
   writes-noted ((f := x) ∷ ws) own v h = writes-noted ws (own .1) (assign (f := x) v) (write-noted f x (own .0) v h)
 
@@ -71,7 +73,8 @@ module _ (b : List ℕ) (long : length b ≡ CONTROL-BYTES) (old : NotedStates b
       → NotedStates (left b (Calls.tested control area (seen b) t x))
   tested-noted control area t x fit =
       tests (λ o. NotedStates (left b o)) control area (seen b) t x (λ n h. old)
-      (λ T started u l. subst (λ (z : ℕ). z ≤ FULL) (sym (seen-changed (x .writes) b (TaskState u) long (fit T .sound) (omega (arith, l))))
+      (λ T started u l. subst (λ (z : ℕ). z ≤ FULL)
+      (sym (seen-changed (x .writes) b (TaskState u) long (fit T .sound) (omega (arith, l))))
       (writes-noted t u (x .writes) (fit T .own) (seen b) (old (T .started) u l)))
 
 -- ---- starts
@@ -89,8 +92,12 @@ start-noted size area tasks b before old =
     let bytes = length area in
     branch P (eqb size CONTROL-BYTES) (λ e. branch P (eqb (bytes % REGION-BYTES) 0 && oneTo AREA-BYTES bytes)
     (λ f. branch P (oneTo TASKS tasks) (λ g.
-    let l = leb-true bytes AREA-BYTES (right-true (leb 1 bytes) (leb bytes AREA-BYTES) (right-true (eqb (bytes % REGION-BYTES) 0) (oneTo AREA-BYTES bytes) f)) in
-    image-noted tasks (bytes / REGION-BYTES) (leb-true tasks TASKS (right-true (leb 1 tasks) (leb tasks TASKS) g)) (omega (arith, l)))
+    let l =
+    leb-true bytes AREA-BYTES
+    (right-true (leb 1 bytes) (leb bytes AREA-BYTES)
+    (right-true (eqb (bytes % REGION-BYTES) 0) (oneTo AREA-BYTES bytes) f)) in
+    image-noted tasks (bytes / REGION-BYTES) (leb-true tasks TASKS (right-true (leb 1 tasks) (leb tasks TASKS) g))
+    (omega (arith, l)))
     (λ g. old)) (λ f. old)) (λ e. old)
 
 -- an accepted start, whatever was before

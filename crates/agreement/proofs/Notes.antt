@@ -22,7 +22,8 @@ use Rattle.plain.proofs.Blocks.{counts-block}
 use Rattle.agreement.specs.Relation.{ChainRelated, DescriptorRelated, FirstIn, NoteRelated, firstIndex}
 
 -- a linked chain's first block
-first-index : (c : ℕ) {nx : ℕ → ℕ} {f : ℕ} {q : List ℕ} → Linked nx (indexOf c) (perRegion c) f q → f ≡ firstIndex c (top q)
+first-index : (c : ℕ) {nx : ℕ → ℕ} {f : ℕ} {q : List ℕ} → Linked nx (indexOf c) (perRegion c) f q
+    → f ≡ firstIndex c (top q)
 first-index c (ends e) = e
 first-index c (links e l) = e
 
@@ -46,7 +47,9 @@ no-first [] e = refl
 no-first (x ∷ q) e = absurd (omega arith)
 
 -- what an anchor's read notes
-pub note-of : {nx : ℕ → ℕ} {a : Anchor} {r c : ℕ} (m : Mem) (d : ℕ) → DescriptorRelated nx a r c (m .descriptor d) → ChainRelated nx a (m .descriptor d) → OpenDescriptor (m .descriptor d) → NoteRelated m (m .descriptor d .class) d (noteOf (m .descriptor d)) a
+pub note-of : {nx : ℕ → ℕ} {a : Anchor} {r c : ℕ} (m : Mem) (d : ℕ) → DescriptorRelated nx a r c (m .descriptor d)
+    → ChainRelated nx a (m .descriptor d) → OpenDescriptor (m .descriptor d)
+    → NoteRelated m (m .descriptor d .class) d (noteOf (m .descriptor d)) a
 note-of m d D C L = record {
   state = D .state;
   count = C .counts;
@@ -69,12 +72,15 @@ anchor-word-same w x e =
     ((ap (λ (z : ℕ). anchorOf z .state) e, ap (λ (z : ℕ). anchorOf z .avail) e), ap (λ (z : ℕ). anchorOf z .count) e)
 
 -- the comparison of the words, and that of state, first block and length
-module _ {nx : ℕ → ℕ} {a b : Anchor} {r c : ℕ} (m : Mem) (d : ℕ) (n : Note) (D : DescriptorRelated nx a r c (m .descriptor d)) (C : ChainRelated nx a (m .descriptor d)) (L : OpenDescriptor (m .descriptor d)) (N : NoteRelated m (m .descriptor d .class) d n b) where
+module _ {nx : ℕ → ℕ} {a b : Anchor} {r c : ℕ} (m : Mem) (d : ℕ) (n : Note)
+    (D : DescriptorRelated nx a r c (m .descriptor d)) (C : ChainRelated nx a (m .descriptor d))
+    (L : OpenDescriptor (m .descriptor d)) (N : NoteRelated m (m .descriptor d .class) d n b) where
   pub same-unmoved : SameAnchor a b → AsNoted (m .descriptor d) n
   same-unmoved s = (
     (
       sym (D .state) ∙ s .0 .0 ∙ N .state,
-      firstIndex-injective (m .descriptor d .region) (m .descriptor d .class) (top (m .descriptor d .chain)) (n .first) (first-in (m .descriptor d .region) (m .descriptor d .class) (m .descriptor d .chain) (L .inside)) (N .first)
+      firstIndex-injective (m .descriptor d .region) (m .descriptor d .class) (top (m .descriptor d .chain)) (n .first)
+          (first-in (m .descriptor d .region) (m .descriptor d .class) (m .descriptor d .chain) (L .inside)) (N .first)
           (sym (first-index (m .descriptor d .class) (C .linked)) ∙ s .0 .1 ∙ N .avail),
     ),
     sym (C .counts) ∙ s .1 ∙ N .count,
@@ -82,7 +88,11 @@ module _ {nx : ℕ → ℕ} {a b : Anchor} {r c : ℕ} (m : Mem) (d : ℕ) (n : 
 
   pub unmoved-same : AsNoted (m .descriptor d) n → SameAnchor a b
   unmoved-same u = (
-    (D .state ∙ u .0 .0 ∙ sym (N .state), first-index (m .descriptor d .class) (C .linked) ∙ ap (firstIndex (m .descriptor d .class)) (u .0 .1) ∙ sym (N .avail)),
+    (
+      D .state ∙ u .0 .0 ∙ sym (N .state),
+      first-index (m .descriptor d .class) (C .linked)
+          ∙ ap (firstIndex (m .descriptor d .class)) (u .0 .1) ∙ sym (N .avail),
+    ),
     C .counts ∙ u .1 ∙ sym (N .count),
   )
 

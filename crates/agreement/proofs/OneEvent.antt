@@ -40,8 +40,10 @@ module _ {s₁ : Memories} {s : Pool} (S : Tied s₁ s) where
 
   -- what is asked of a call that passes the tests 1, 4, 2, 5, of the stored number of regions
   at-regions : {lent : Lengths} {t : ℕ} (F : ℕ → Outcome) (y : Result) → Taken lent t s
-      → Both (s .regions) v (s₁ .area) (s .mem) (F (s .regions)) y → Both (s .regions) v (s₁ .area) (s .mem) (F (v Regions)) y
-  at-regions F y T B = subst (λ (r : ℕ). Both (s .regions) v (s₁ .area) (s .mem) (F r) y) (sym (S .regions (T .started))) B
+      → Both (s .regions) v (s₁ .area) (s .mem) (F (s .regions)) y
+      → Both (s .regions) v (s₁ .area) (s .mem) (F (v Regions)) y
+  at-regions F y T B =
+      subst (λ (r : ℕ). Both (s .regions) v (s₁ .area) (s .mem) (F r) y) (sym (S .regions (T .started))) B
 
   -- the task's turn, where it is idle
   turn : {lent : Lengths} {u : ℕ} → Taken lent u s → (t : ℕ) → t < TASKS → s .mem .task t .place ≡ idle
@@ -49,7 +51,13 @@ module _ {s₁ : Memories} {s : Pool} (S : Tied s₁ s) where
   turn T t l e = record {
     pair = record {
       rel = S .related (T .started);
-      turn = record { inv = S .good .inv (T .started); fits = l; is = λ i. record { place = e i; cache = s .mem .task t .cache } };
+      turn =
+          record {
+            inv = S .good .inv (T .started);
+            fits = l;
+            is = λ i.
+                record { place = e i; cache = s .mem .task t .cache };
+          };
       small = S .good .small (T .started);
     };
     fitting = fitting (s₁ .control) (S .bytes);
@@ -93,7 +101,12 @@ call-alike : (k : Call) (lent : Lent) (s₁ : Memories) (s : Pool) → Tied s₁
 unfolding Plain.call Stepped.allocateOutcome Stepped.freeOutcome Stepped.stepOutcome
 call-alike (start b) lent s₁ s S h =
     start-alike S (lent .control) (lent .area) (b .tasks) (ℕ-discrete (lent .control) CONTROL-BYTES)
-    (λ a t. record { few = t .1; small = λ k. omega (arith, a); inv = λ k. start-inv (length (lent .area) / REGION-BYTES) })
+    (λ a t. record {
+      few = t .1;
+      small = λ k. omega (arith, a);
+      inv = λ k. start-inv
+          (length (lent .area) / REGION-BYTES);
+    })
 call-alike (allocate t size) lent s₁ s S h =
     let y = Plain.whenIdle (s .mem .task t .place) (Plain.beginAllocate t size (s .mem)) (s .mem) in
     tested-alike S (lent .control) (length (lent .area)) t _ y
@@ -104,14 +117,16 @@ call-alike (free t u) lent s₁ s S h =
     let y = Plain.whenIdle (s .mem .task t .place) (Plain.beginFree t u (s .regions) (s .mem)) (s .mem) in
     tested-alike S (lent .control) (length (lent .area)) t _ y
     (good-after y (call-good (free t u) (lengths lent) s (S .good)))
-    (λ T. at-regions S (λ r. Stepped.whenIdle v₁ t (Stepped.beginFree v₁ r t u)) y T (begin-free S (lengths lent) t u T))
+    (λ T. at-regions S (λ r. Stepped.whenIdle v₁ t (Stepped.beginFree v₁ r t u)) y T
+    (begin-free S (lengths lent) t u T))
     (ℕ-discrete (lent .control) CONTROL-BYTES)
 call-alike (step t) lent s₁ s S h =
     let y = Steps.stepOf t (s .mem) in
     tested-alike S (lent .control) (length (lent .area)) t _ y
     (good-after y (call-good (step t) (lengths lent) s (S .good)))
     (λ T. at-regions S (λ r. Stepping₁.step (seen (s₁ .control)) (link (s₁ .area)) r t) y T
-    (step-both t (omega (arith, T .below, S .good .few)) (S .good .small (T .started)) (fitting (s₁ .control) (S .bytes))
+    (step-both t (omega (arith, T .below, S .good .few)) (S .good .small (T .started))
+    (fitting (s₁ .control) (S .bytes))
     (S .related (T .started)) (S .good .inv (T .started)) (h T)))
     (ℕ-discrete (lent .control) CONTROL-BYTES)
 
@@ -129,7 +144,8 @@ alike (write at b) s₁ s S h = record {
     good = S .good;
     some = S .some;
     regions = S .regions;
-    related = λ k. write-related (S .good .inv k) (h .unit) at (h .held) (h .from) (h .to) (seen (s₁ .control)) (s₁ .area) b
+    related =
+        λ k. write-related (S .good .inv k) (h .unit) at (h .held) (h .from) (h .to) (seen (s₁ .control)) (s₁ .area) b
         (S .related k);
   };
 }

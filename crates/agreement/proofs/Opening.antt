@@ -74,7 +74,8 @@ abbrev opened : ℕ → ℕ → Descriptor
 opened r c = record { state = FULL; region = r; class = c; chain = [] }
 
 -- the change over records: the descriptor d is written whole, and the map's entry e of the region r names it
-opening : {regions : ℕ} {a : Memory} {m : Mem} {t c d r : ℕ} {k : ℕ → List ℕ} (w : Pair regions a m t (working (a7 c d r)) k) (e : ℕ)
+opening : {regions : ℕ} {a : Memory} {m : Mem} {t c d r : ℕ} {k : ℕ → List ℕ}
+    (w : Pair regions a m t (working (a7 c d r)) k) (e : ℕ)
     (s : Slot) (T : Task) → c < CLASSES → e ≡ suc d
     → SlotRelated regions (setSlot t s (setOwner d (full (perRegion c)) r c e a))
     (setTask t T (setMap r (suc d) (setDescriptor d (opened r c) m))) s T
@@ -97,9 +98,11 @@ opening {regions} {a} {m} {t} {c} {d} {r} w e s T low i own =
       lists = C .lists;
       descriptors = record {
         each = descriptors C;
-        avails = update-all (λ j x. j < DESCRIPTORS → x .avail ≤ MOST-BLOCKS) (a .descriptors .anchor) d (full (perRegion c))
+        avails =
+            update-all (λ j x. j < DESCRIPTORS → x .avail ≤ MOST-BLOCKS) (a .descriptors .anchor) d (full (perRegion c))
             (λ l. perRegion-high c) (λ j n. C .descriptors .avails j);
-        chainCounts = update-all (λ j x. j < DESCRIPTORS → x .count ≤ MOST-BLOCKS) (a .descriptors .anchor) d (full (perRegion c))
+        chainCounts =
+            update-all (λ j x. j < DESCRIPTORS → x .count ≤ MOST-BLOCKS) (a .descriptors .anchor) d (full (perRegion c))
             (λ l. omega arith) (λ j n. C .descriptors .chainCounts j);
         regionNumbers = update-all (λ j x. j < DESCRIPTORS → x < regions) (a .descriptors .region) d r (λ l. lr)
             (λ j n. C .descriptors .regionNumbers j);
@@ -127,7 +130,8 @@ opening {regions} {a} {m} {t} {c} {d} {r} w e s T low i own =
     (w .rel .slots)
   where
     descriptors : Core regions a m → (j : ℕ) → j < DESCRIPTORS
-        → DescriptorRelated (link (a .area)) (update (a .descriptors .anchor) d (full (perRegion c)) j) (update (a .descriptors .region) d r j)
+        → DescriptorRelated (link (a .area)) (update (a .descriptors .anchor) d (full (perRegion c)) j)
+        (update (a .descriptors .region) d r j)
         (update (a .descriptors .class) d c j) (update (m .descriptor) d (opened r c) j)
     descriptors C j l = elim (same? j d) [
       | same e ↦ rw (
@@ -167,7 +171,8 @@ module _ {regions : ℕ} {v : View} {area : List ℕ} {m : Mem} {t : ℕ} {k : �
         keeps = (refl, refl);
         rel = shares w
             (TaskPlace t := A8 ∷ TaskIndex t := 0 ∷ writes) s (working (a8 c r 0))
-            (setOwner d (full (perRegion c)) r c (d + 1) (memoryOf v area)) (setMap r (suc d) (setDescriptor d (opened r c) m))
+            (setOwner d (full (perRegion c)) r c (d + 1) (memoryOf v area))
+            (setMap r (suc d) (setDescriptor d (opened r c) m))
             (opening (w .pair) (d + 1) s (taskOf (working (a8 c r 0)) k) (mine (w .pair) .fits) (add-one d))
             (owner-written v S area d word r c (d + 1)
             ∙ ap (λ (z : Anchor). withSlots S (setOwner d z r c (d + 1) (memoryOf v area))) (full-read c))

@@ -1,4 +1,5 @@
--- The relation of one part of the memories after a change in that part: of the lists, the descriptors, the map and the marks.
+-- The relation of one part of the memories after a change in that part: of the lists, the descriptors, the map and the
+-- marks.
 use mathlib.Core.Path.{_≡_, refl, sym, subst, _∙_}
 use Prim.Native.Nat.{ℕ, suc, _≤_, _<_}
 use mathlib.Core.List.{List}
@@ -22,14 +23,16 @@ use Rattle.agreement.proofs.Sets.{withMarks}
 module _ {regions : ℕ} {l : Lists} {won : ℕ → ℕ} {row : ℕ → List ℕ} (R : ListsRelated regions l won row) where
   -- a head, whose list has the row q after n won exchanges
   pub head-related : (ℓ : ℕ) (h : Head) (n : ℕ) (q : List ℕ) → h .tag ≡ wrap n
-      → (ℓ < SPARE-REGIONS → Linked (l .descriptorNext) suc 0 (h .item) q) → (ℓ ≡ SPARE-REGIONS → Linked (l .regionNext) suc 0 (h .item) q)
+      → (ℓ < SPARE-REGIONS → Linked (l .descriptorNext) suc 0 (h .item) q)
+      → (ℓ ≡ SPARE-REGIONS → Linked (l .regionNext) suc 0 (h .item) q)
       → ListsRelated regions (withHeads (update (l .head) ℓ h) l) (update won ℓ n) (update row ℓ q)
   head-related ℓ h n q e f g = record {
     tags = update-all₂ (λ j x y. j < LISTS → x .tag ≡ wrap y) (l .head) won ℓ h n (λ i. e) (λ j d. R .tags j);
     rows = update-all₂ (λ j x r. j < SPARE-REGIONS → Linked (l .descriptorNext) suc 0 (x .item) r) (l .head) row ℓ h q f
         (λ j d. R .rows j);
     spareRow = update-all₂ (λ j x r. j ≡ SPARE-REGIONS → Linked (l .regionNext) suc 0 (x .item) r) (l .head) row ℓ h q g
-        (λ j d i. subst (λ (z : ℕ). Linked (l .regionNext) suc 0 (l .head z .item) (row z)) (sym i) (R .spareRow)) SPARE-REGIONS refl;
+        (λ j d i. subst (λ (z : ℕ). Linked (l .regionNext) suc 0 (l .head z .item) (row z)) (sym i) (R .spareRow))
+        SPARE-REGIONS refl;
     descriptorNexts = R .descriptorNexts;
     regionNexts = R .regionNexts;
   }
@@ -41,7 +44,9 @@ module _ {regions : ℕ} {l : Lists} {won : ℕ → ℕ} {row : ℕ → List ℕ
     tags = R .tags;
     rows = λ ℓ i. linked-update x n (off ℓ i) (R .rows ℓ i);
     spareRow = R .spareRow;
-    descriptorNexts = update-all (λ d y. d < DESCRIPTORS → y ≤ DESCRIPTORS) (l .descriptorNext) x n (λ i. b) (λ d e. R .descriptorNexts d);
+    descriptorNexts =
+        update-all (λ d y. d < DESCRIPTORS → y ≤ DESCRIPTORS) (l .descriptorNext) x n (λ i. b)
+        (λ d e. R .descriptorNexts d);
     regionNexts = R .regionNexts;
   }
 
@@ -64,11 +69,15 @@ module _ {regions : ℕ} {nx : ℕ → ℕ} {D : Descriptors} {P : ℕ → Descr
       → b .avail ≤ MOST-BLOCKS → b .count ≤ MOST-BLOCKS
       → DescriptorsRelated regions nx (withAnchors (update (D .anchor) d b) D) (update P d E)
   anchor-related d b E l e f g c i₁ i₂ = record {
-    each = update-all₂ (λ j x F. j < DESCRIPTORS → DescriptorRelated nx x (D .region j) (D .class j) F) (D .anchor) P d b E
+    each =
+        update-all₂ (λ j x F. j < DESCRIPTORS → DescriptorRelated nx x (D .region j) (D .class j) F) (D .anchor) P d b E
         (λ i. record { state = e; region = R .each d l .region ∙ sym f; class = R .each d l .class ∙ sym g; chain = c })
         (λ j n. R .each j);
-    avails = update-all (λ j x. j < DESCRIPTORS → x .avail ≤ MOST-BLOCKS) (D .anchor) d b (λ i. i₁) (λ j n. R .avails j);
-    chainCounts = update-all (λ j x. j < DESCRIPTORS → x .count ≤ MOST-BLOCKS) (D .anchor) d b (λ i. i₂) (λ j n. R .chainCounts j);
+    avails =
+        update-all (λ j x. j < DESCRIPTORS → x .avail ≤ MOST-BLOCKS) (D .anchor) d b (λ i. i₁) (λ j n. R .avails j);
+    chainCounts =
+        update-all (λ j x. j < DESCRIPTORS → x .count ≤ MOST-BLOCKS) (D .anchor) d b (λ i. i₂)
+        (λ j n. R .chainCounts j);
     regionNumbers = R .regionNumbers;
     classNumbers = R .classNumbers;
   }
@@ -97,7 +106,8 @@ module _ {regions : ℕ} {nx : ℕ → ℕ} {D : Descriptors} {P : ℕ → Descr
 
 -- ---- the map and the marks
 module _ {regions : ℕ} {E : Entries} {map hands : ℕ → ℕ} (R : EntriesRelated regions E map hands) where
-  pub map-related : (r x y : ℕ) → x ≡ y → EntriesRelated regions (withMap (update (E .map) r x) E) (update map r y) hands
+  pub map-related : (r x y : ℕ) → x ≡ y → EntriesRelated regions (withMap (update (E .map) r x) E) (update map r y)
+      hands
   map-related r x y e = record {
     maps = update-all₂ (λ j x y. j < regions → x ≡ y) (E .map) map r x y (λ l. e) (λ j n. R .maps j);
     marks = R .marks;

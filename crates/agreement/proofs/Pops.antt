@@ -111,7 +111,8 @@ module _ {regions : ℕ} {v : View} {area : List ℕ} {m : Mem} {t : ℕ} {k : �
       (r-working (r-spare (PopRelated.at-read refl)))
   found-none Spare w = moves w NoDescriptor (found-empty SPARE-DESCRIPTORS) IDLE idle (omega arith) (r-idle refl)
   found-none Region w =
-      moves w Accepted (found-empty SPARE-REGIONS) PUSH-BACK (working (pushing (Plain.back (v (TaskClass t)) (v (TaskDescriptor t))) read))
+      moves w Accepted (found-empty SPARE-REGIONS) PUSH-BACK
+      (working (pushing (Plain.back (v (TaskClass t)) (v (TaskDescriptor t))) read))
       (omega arith) (r-working (r-back (PushRelated.at-read refl)))
 
   pub pop-read : (P : Pop) → At regions v area m t (working (popping (popOf v t P) read)) k
@@ -195,9 +196,11 @@ module _ {regions : ℕ} {v : View} {area : List ℕ} {m : Mem} {t : ℕ} {k : �
       (Steps.to t k (Steps.whenPopped (popOf v t P) x) (setRow (listOf v t P) q m), going (popped (listOf v t P) x))
   pop-won Partial w x l W =
       let c = v (TaskClass t) in
-      descriptor-won w (kind Partial w) W (popped c x) x A3-READ (working (Plain.a3-read c x)) l (omega arith) (r-working (r-a3-read refl))
+      descriptor-won w (kind Partial w) W (popped c x) x A3-READ (working (Plain.a3-read c x)) l (omega arith)
+      (r-working (r-a3-read refl))
   pop-won Spare w x l W =
-      descriptor-won w (kind Spare w) W (popped SPARE-DESCRIPTORS x) x POP-REGION (working (popping (Plain.region (v (TaskClass t)) x) read)) l
+      descriptor-won w (kind Spare w) W (popped SPARE-DESCRIPTORS x) x POP-REGION
+      (working (popping (Plain.region (v (TaskClass t)) x) read)) l
       (omega arith) (r-working (r-region (PopRelated.at-read refl)))
   pop-won Region w x l W =
       let ws = TaskPlace t := A7 ∷ TaskRegion t := x ∷ Head SPARE-REGIONS := advanced v t ∷ [] in
@@ -262,7 +265,8 @@ pop-both {regions} {v} {t = t} link P w (PopRelated.at-exchange e N i l b f) nea
 -- a step at a place of a pop, from what the relation says of the place
 pub pops : {regions : ℕ} {v : View} {area : List ℕ} {m : Mem} {t : ℕ} {k : ℕ → List ℕ} {p : Plain.Pop} {φ : Phase}
     (link : ℕ → ℕ) → At regions v area m t (working (popping p φ)) k
-    → PlaceRelated regions (memoryOf v area) m (slotOf v t) (working (popping p φ)) → Recent (m .won (Steps.popList p)) φ
+    → PlaceRelated regions (memoryOf v area) m (slotOf v t) (working (popping p φ))
+    → Recent (m .won (Steps.popList p)) φ
     → Both regions v area m (Stepped.stepAt v link regions t (v (TaskClass t)) (v (TaskPlace t)))
     (Steps.stepAt t k (popping p φ) m)
 pops link w (r-working (r-partial h)) near = pop-both link Partial w h near

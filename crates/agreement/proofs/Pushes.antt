@@ -72,7 +72,8 @@ pub push-place : {regions : ℕ} {a : Memory} {m : Mem} {s : Slot} {φ : Phase} 
     → Found P (s .hand .state) z
     → PushRelated m s (Lists.pushPlace P) (Lists.pushList P (s .class)) (Lists.pushItems P regions) (inHand P s)
     (pushNexts P a) φ
-    → PlaceRelated regions a m s (working (pushing (plainPush P (s .class) (s .unit) (s .hand .descriptor) z (s .hand .region)) φ))
+    → PlaceRelated regions a m s
+    (working (pushing (plainPush P (s .class) (s .unit) (s .hand .descriptor) z (s .hand .region)) φ))
 push-place Retire z f h = r-working (r-retire h)
 push-place Back z f h = r-working (r-back h)
 push-place Release z f h = r-working (r-release f h)
@@ -195,7 +196,8 @@ module _ {regions : ℕ} {v : View} {area : List ℕ} {m : Mem} {t : ℕ} {k : �
       (Steps.pushPut t k (pushOf v t z P) m)
   push-won Retire z w f W =
       let d = v (TaskDescriptor t) in
-      leads-to w (kind Retire w) d W Accepted (pushed SPARE-DESCRIPTORS d) POP-PARTIAL (working (popping (Plain.partial (v (TaskClass t))) read))
+      leads-to w (kind Retire w) d W Accepted (pushed SPARE-DESCRIPTORS d) POP-PARTIAL
+      (working (popping (Plain.partial (v (TaskClass t))) read))
       (omega arith) (r-working (r-partial (PopRelated.at-read refl)))
   push-won Back z w f W =
       let d = v (TaskDescriptor t) in
@@ -203,12 +205,14 @@ module _ {regions : ℕ} {v : View} {area : List ℕ} {m : Mem} {t : ℕ} {k : �
   push-won Release z w f W =
       let r = v (TaskRegion t) in
       let was = v (TaskState t) in
-      pass (isState was) (le-leb was 2 (state-max was z f)) (leads-five w (kind Release w) r W (pushed SPARE-REGIONS r) z f)
+      pass (isState was) (le-leb was 2 (state-max was z f))
+      (leads-five w (kind Release w) r W (pushed SPARE-REGIONS r) z f)
   push-won Offer z w f W =
       let d = v (TaskDescriptor t) in
       leads-six w (kind Offer w) d W (pushed (v (TaskClass t)) d)
 
-  pub push-exchange : (P : Push) (z : State) {n : ℕ} → At regions v area m t (working (pushing (pushOf v t z P) (exchange n))) k
+  pub push-exchange : (P : Push) (z : State) {n : ℕ}
+      → At regions v area m t (working (pushing (pushOf v t z P) (exchange n))) k
       → Found P (v (TaskState t)) z
       → PushRelated m (slotOf v t) (Lists.pushPlace P) (listOf v t P) (Lists.pushItems P regions)
       (inHand P (slotOf v t)) (pushNexts P (memoryOf v area)) (exchange n)
@@ -237,14 +241,16 @@ module _ {regions : ℕ} {v : View} {area : List ℕ} {m : Mem} {t : ℕ} {k : �
         linked = links (add-one x)
             (subst (λ (h : ℕ). Linked (λ (y : ℕ). v (Lists.pushNextField P y)) suc 0 h (m .row ℓ)) same (L .linked));
       })))
-      (moves w Accepted (lost ℓ) (Lists.pushPlace P) (working (pushing (pushOf v t z P) read)) (omega (arith, place-max P))
+      (moves w Accepted (lost ℓ) (Lists.pushPlace P) (working (pushing (pushOf v t z P) read))
+      (omega (arith, place-max P))
       (push-place P z f (PushRelated.at-read refl)))))
 
 -- ---- the step list
 
 -- a step of a push, wherever it is
 pub push-both : {regions : ℕ} {v : View} {area : List ℕ} {m : Mem} {t : ℕ} {k : ℕ → List ℕ} {φ : Phase} (link : ℕ → ℕ)
-    (P : Push) (z : State) → At regions v area m t (working (pushing (pushOf v t z P) φ)) k → Found P (v (TaskState t)) z
+    (P : Push) (z : State) → At regions v area m t (working (pushing (pushOf v t z P) φ)) k
+    → Found P (v (TaskState t)) z
     → PushRelated m (slotOf v t) (Lists.pushPlace P) (listOf v t P) (Lists.pushItems P regions) (inHand P (slotOf v t))
     (pushNexts P (memoryOf v area)) φ
     → Recent (m .won (listOf v t P)) φ
@@ -261,7 +267,8 @@ push-both {regions} {v} {t = t} link P z w f (PushRelated.at-exchange e N l g) n
 -- a step at a place of a push, from what the relation says of the place; only a release has a state found
 pub pushes : {regions : ℕ} {v : View} {area : List ℕ} {m : Mem} {t : ℕ} {k : ℕ → List ℕ} {p : Plain.Push} {φ : Phase}
     (link : ℕ → ℕ) → At regions v area m t (working (pushing p φ)) k
-    → PlaceRelated regions (memoryOf v area) m (slotOf v t) (working (pushing p φ)) → Recent (m .won (Steps.pushList p)) φ
+    → PlaceRelated regions (memoryOf v area) m (slotOf v t) (working (pushing p φ))
+    → Recent (m .won (Steps.pushList p)) φ
     → Both regions v area m (Stepped.stepAt v link regions t (v (TaskClass t)) (v (TaskPlace t)))
     (Steps.stepAt t k (pushing p φ) m)
 pushes link w (r-working (r-retire h)) near = push-both link Retire EMPTY w tt h near

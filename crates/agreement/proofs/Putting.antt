@@ -58,7 +58,14 @@ module _ {regions : ℕ} {v : View} {area : List ℕ} {m : Mem} {t : ℕ} {p : P
       (Steps.at t k p′ (setRow ℓ q m), record { code = codeOf A; value = valueOf A; decided = e })
   leads-to A e b p′ l pl =
       let fits = w .pair .turn .fits in
-      record { says = refl; keeps = (refl, refl); rel = leads b p′ pl; sound = (omega arith, exchange-sound); apart = tt }
+      record {
+        says = refl;
+        keeps = (refl, refl);
+        rel = leads b p′ pl;
+        sound = (omega arith, exchange-sound);
+        apart =
+            tt;
+      }
 
   -- to step 2 of a free, with a group of none
   leads-f2 : Related regions
@@ -90,5 +97,7 @@ module _ {regions : ℕ} {v : View} {area : List ℕ} {m : Mem} {t : ℕ} {p : P
       let c = v (TaskClass t) in
       let u = v (TaskUnit t) in
       let d = v (TaskDescriptor t) in
-      five w e (Head ℓ := advanced v t x ∷ []) (setRow ℓ q m) u exchange-sound (refl, refl) (leads F1 (working (f1 c u)) (r-working (r-f1 refl))) leads-f2
-      (v (TaskState t)) z d f (leads PUSH-OFFER (working (pushing (offer c u d) read)) (r-working (r-offer (PushRelated.at-read refl))))
+      five w e (Head ℓ := advanced v t x ∷ []) (setRow ℓ q m) u exchange-sound (refl, refl)
+      (leads F1 (working (f1 c u)) (r-working (r-f1 refl))) leads-f2
+      (v (TaskState t)) z d f
+      (leads PUSH-OFFER (working (pushing (offer c u d) read)) (r-working (r-offer (PushRelated.at-read refl))))

@@ -47,12 +47,16 @@ module _ {regions : ℕ} {v : View} {area : List ℕ} {m : Mem} {t : ℕ} {k : �
     group-fits : (d : ℕ) → m .map (regionOf y) ≡ suc d
         → length (y ∷ (g ++ m .descriptor d .chain)) ≤ perRegion (v (TaskClass t))
     group-fits d e =
-        Joined.group-fits (w .pair .turn) (record { blocks = refl; class = refl; together = placeHolds (w .pair .turn) .2; named = e })
+        Joined.group-fits (w .pair .turn)
+        (record { blocks = refl; class = refl; together = placeHolds (w .pair .turn) .2; named = e })
 
     -- the anchor of the descriptor d
     read-of : (d : ℕ) → m .map (regionOf y) ≡ suc d → GroupRelated (memoryOf v area) (slotOf v t) y g
-        → Both regions v area m (Free.f3ReadOf v (link area) regions t (v (TaskClass t)) d (v (GroupCount t)))
-        (Steps.at t k (working (f3-link (v (TaskClass t)) (v (TaskUnit t)) y g d (noteOf (m .descriptor d)))) m, going nothing)
+        → Both regions v area m (Free.f3ReadOf v (link area) regions t (v (TaskClass t)) d (v (GroupCount t))) (
+          Steps.at t k (working (f3-link (v (TaskClass t)) (v (TaskUnit t)) y g d (noteOf (m .descriptor d)))) m,
+          going
+              nothing,
+        )
     unfolding Free.f3ReadOf
     read-of d e G =
         let c = v (TaskClass t) in

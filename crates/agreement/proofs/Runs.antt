@@ -50,7 +50,8 @@ pub answered : (es : List Event) (s₁ : Memories) → Unstarted s₁ → Premis
 answered es s₁ U p = same-answers es s₁ unstarted (agreement es s₁ U p)
 
 -- the same from an accepted start on any memories
-pub answered-from-start : (es : List Event) (s₁ : Memories) (s : Pool) (b : Start) (area : List ℕ) → Plain.Area (length area)
+pub answered-from-start : (es : List Event) (s₁ : Memories) (s : Pool) (b : Start) (area : List ℕ)
+    → Plain.Area (length area)
     → Plain.Tasks (b .tasks) → Premises es (whole (starting b area) s .0)
     → steppedAnswers (starting b area ∷ es) s₁ ≡ wholeAnswers (starting b area ∷ es) s
 answered-from-start es s₁ s b area a t p =
@@ -88,7 +89,8 @@ call-near (step t) lent s h = λ T. near (s .mem .won) (noted (s .mem .task t .p
 
 -- the block that the byte lies in, by the class of its region
 abbrev pub blockAt : ℕ → Pool → ℕ
-blockAt at s = let c = classThere (at / UNIT-BYTES) s in unitOf (regionOf (at / UNIT-BYTES)) c (indexOf c (at / UNIT-BYTES))
+blockAt at s =
+    let c = classThere (at / UNIT-BYTES) s in unitOf (regionOf (at / UNIT-BYTES)) c (indexOf c (at / UNIT-BYTES))
 
 -- it is in a user's hands, and the byte lies in it
 abbrev pub HeldAt : ℕ → Pool → Type 0
@@ -109,7 +111,9 @@ writes? (call k lent ∷ es) s = writes? es (whole (call k lent) s .0)
 writes? (write at b ∷ es) s =
     let u = blockAt at s in
     both
-    (both (decLe 1 (s .tasks)) (both (decLe 1 (s .mem .hands u)) (both (decLe (UNIT-BYTES * u) at) (decLt at (UNIT-BYTES * u + block (classThere u s))))))
+    (both (decLe 1 (s .tasks))
+    (both (decLe 1 (s .mem .hands u))
+    (both (decLe (UNIT-BYTES * u) at) (decLt at (UNIT-BYTES * u + block (classThere u s))))))
     (writes? es s)
 
 -- the answer of a test is yes
@@ -123,8 +127,8 @@ found (no n) h = absurd h
 
 -- ---- both premises
 
--- A list of events that ends before the 2^32nd, counted from the last start, meets the premise on heads; so what is left to
--- ask is that of the writes. No list of the pool s has won more than n exchanges.
+-- A list of events that ends before the 2^32nd, counted from the last start, meets the premise on heads; so what is
+-- left to ask is that of the writes. No list of the pool s has won more than n exchanges.
 pub short : (n : ℕ) (es : List Event) (s : Pool) → AtMost n s → n + length es ≤ TAGS → Writes es s → Premises es s
 short n [] s a l w = tt
 short n (call k lent ∷ es) s a l w = (

@@ -1,5 +1,5 @@
--- The two memories with one part changed, and with some columns of a part changed. A part's other columns are named in the setters
--- of that part alone, and the other parts in `onLists` to `withArea` alone.
+-- The two memories with one part changed, and with some columns of a part changed. A part's other columns are named in
+-- the setters of that part alone, and the other parts in `onLists` to `withArea` alone.
 use mathlib.Core.List.{List}
 use Prim.Native.Nat.{ℕ}
 use Rattle.rows.specs.Update.{update}
@@ -27,7 +27,8 @@ onEntries f a =
 
 -- other parts of the tasks
 abbrev pub withSlots : (ℕ → Slot) → Memory → Memory
-withSlots S a = record { lists = a .lists; descriptors = a .descriptors; entries = a .entries; slot = S; area = a .area }
+withSlots S a =
+    record { lists = a .lists; descriptors = a .descriptors; entries = a .entries; slot = S; area = a .area }
 
 -- another area
 abbrev pub withArea : List ℕ → Memory → Memory

@@ -16,10 +16,11 @@ use Rattle.agreement.proofs.Turns.{At}
 
 module _ {regions : ℕ} {v : View} {area : List ℕ} {m : Mem} {t : ℕ} {p : Place} {k : ℕ → List ℕ}
     (w : At regions v area m t p k) where
-  -- The writes ws make s of the task's own part, but not of its caches, and b of what is shared, as the plain pool's m₁; the
-  -- task goes to the place p′. `change` is the lemma of the kind of change: heading, anchoring, clearing, ..
+  -- The writes ws make s of the task's own part, but not of its caches, and b of what is shared, as the plain pool's
+  -- m₁; the task goes to the place p′. `change` is the lemma of the kind of change: heading, anchoring, clearing, ..
   pub shares : (ws : List Write) (s : Slot) (p′ : Place) (b : Memory) (m₁ : Mem)
-      → (SlotRelated regions (setSlot t s b) (at t k p′ m₁) s (taskOf p′ k) → Related regions (setSlot t s b) (at t k p′ m₁))
+      → (SlotRelated regions (setSlot t s b) (at t k p′ m₁) s (taskOf p′ k)
+      → Related regions (setSlot t s b) (at t k p′ m₁))
       → memoryOf (assigned ws v) area ≡ withSlots (slotOf (assigned ws v)) b → b .slot ≡ slotOf v → b .area ≡ area
       → slotOf (assigned ws v) t ≡ s → ((j : ℕ) → t ≢ j → slotOf (assigned ws v) j ≡ slotOf v j)
       → s .class ≡ slotOf v t .class → s .caches ≡ slotOf v t .caches

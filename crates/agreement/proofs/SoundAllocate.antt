@@ -1,5 +1,5 @@
--- Every write of a step of an allocation that is no list move is to a field of the layout, its value fits there, and it is
--- to no other task's place, whatever the two memories hold.
+-- Every write of a step of an allocation that is no list move is to a field of the layout, its value fits there, and it
+-- is to no other task's place, whatever the two memories hold.
 use Prim.Native.Nat.{ℕ, _+_, _-_, _/_, _%_, _≤_, _<_}
 use mathlib.Core.Path.{_≡_}
 use mathlib.Core.Bool.{Bool, true, _&&_}
@@ -27,13 +27,17 @@ use Rattle.agreement.proofs.SoundMoves.{Fit, test}
 module _ (regions c : ℕ) (few : regions ≤ REGIONS) where
   -- a block's unit
   pub block-max : (u : ℕ) → isBlock regions c u ≡ true → u < UNITS
-  block-max u h = omega (arith, few, ltb-true (regionOf u) regions (left-true (ltb (regionOf u) regions) (isFirst c u) h))
+  block-max u h =
+      omega (arith, few, ltb-true (regionOf u) regions (left-true (ltb (regionOf u) regions) (isFirst c u) h))
 
   -- a top, of however many blocks
   pub top-max : (k u : ℕ) → isTop regions c k u ≡ true → u ≤ UNITS
-  top-max k u = branch (λ (b : Bool). b ≡ true → u ≤ UNITS) (eqb k 0) (λ e h. omega (arith, eqb-true u UNITS h)) (λ e h. omega (arith, block-max u h))
+  top-max k u =
+      branch (λ (b : Bool). b ≡ true → u ≤ UNITS) (eqb k 0) (λ e h. omega (arith, eqb-true u UNITS h))
+      (λ e h. omega (arith, block-max u h))
 
-module _ (v : View) (fits : Fitting v) (link : ℕ → ℕ) {regions t c : ℕ} (few : regions ≤ REGIONS) (task : t < TASKS) (class : c < CLASSES) where
+module _ (v : View) (fits : Fitting v) (link : ℕ → ℕ) {regions t c : ℕ} (few : regions ≤ REGIONS) (task : t < TASKS)
+    (class : c < CLASSES) where
   abbrev n : ℕ
   n = perRegion c
 
@@ -70,16 +74,26 @@ module _ (v : View) (fits : Fitting v) (link : ℕ → ℕ) {regions t c : ℕ} 
       let d = v (TaskDescriptor t) in
       let word = v (Anchor d) in
       test (ltb d DESCRIPTORS) (λ h. test (isAnchor word) (λ i.
-      branch (Fit t) (eqb (anchorOf word .state) EMPTY) (λ e. record { sound = omega (arith, task); own = omega arith }) (λ e.
-      test (hasChain n word) (λ j. record { sound = omega (arith, task, fits (Anchor d) (omega (arith, ltb-true d DESCRIPTORS h))); own = omega arith }))))
+      branch (Fit t) (eqb (anchorOf word .state) EMPTY) (λ e. record { sound = omega (arith, task); own = omega arith })
+      (λ e.
+      test (hasChain n word)
+      (λ j. record {
+        sound = omega (arith, task, fits (Anchor d) (omega (arith, ltb-true d DESCRIPTORS h)));
+        own = omega
+            arith;
+      }))))
 
   -- what a chain to be taken has
-  chain-max : (word : ℕ) → hasChain n word ≡ true → (anchorOf word .avail < MOST-BLOCKS) × (anchorOf word .count ≤ MOST-BLOCKS)
+  chain-max : (word : ℕ) → hasChain n word ≡ true
+      → (anchorOf word .avail < MOST-BLOCKS) × (anchorOf word .count ≤ MOST-BLOCKS)
   chain-max word h =
       let a = anchorOf word in
       let p = both (eqb (a .state) 1 && oneTo n (a .count)) (ltb (a .avail) n) h in
-      let q = both (leb 1 (a .count)) (leb (a .count) n) (right-true (eqb (a .state) 1) (oneTo n (a .count)) (p .0)) in
-      (omega (arith, perRegion-high c, ltb-true (a .avail) n (p .1)), omega (arith, perRegion-high c, leb-true (a .count) n (q .1)))
+      let q = both (leb 1 (a .count)) (leb (a .count) n) (right-true (eqb (a .state) 1) (oneTo n (a .count)) (p .0)) in (
+        omega (arith, perRegion-high c, ltb-true (a .avail) n (p .1)),
+        omega
+            (arith, perRegion-high c, leb-true (a .count) n (q .1)),
+      )
 
   -- the anchor (FULL, n, 0)
   full-below : anchorWord (full n) < 18446744073709551616
@@ -96,18 +110,31 @@ module _ (v : View) (fits : Fitting v) (link : ℕ → ℕ) {regions t c : ℕ} 
       (λ e. test (ltb r regions) (λ j.
       let p = both (ltb d DESCRIPTORS) (hasChain n word) h in
       record {
-        sound = omega (arith, task, few, ltb-true d DESCRIPTORS (p .0), ltb-true r regions j, chain-max word (p .1), full-below);
+        sound =
+            omega (
+              arith,
+              task,
+              few,
+              ltb-true d DESCRIPTORS (p .0),
+              ltb-true r regions j,
+              chain-max word (p .1),
+              full-below,
+            );
         own = omega arith;
       }))
       (λ e. record { sound = omega (arith, task); own = omega arith })))
 
   -- a block on top of a cache
-  a4-move : (u left k top : ℕ) → u < UNITS → left ≤ MOST-BLOCKS → k < MOST-BLOCKS → Fit t (Allocate.a4Move v link regions t c u left k top)
+  a4-move : (u left k top : ℕ) → u < UNITS → left ≤ MOST-BLOCKS → k < MOST-BLOCKS
+      → Fit t (Allocate.a4Move v link regions t c u left k top)
   unfolding Allocate.a4Move
   a4-move u left k top a b d =
       branch (Fit t) (eqb left 1) (λ e. record { sound = omega (arith, task, class, a, d); own = omega arith })
       (λ e. test (ltb (link u) n) (λ h.
-      record { sound = omega (arith, task, class, a, b, d, perRegion-high c, ltb-true (link u) n h); own = omega arith }))
+      record {
+        sound = omega (arith, task, class, a, b, d, perRegion-high c, ltb-true (link u) n h);
+        own = omega arith;
+      }))
 
   -- the unit of a block of a region of the area
   unit-max : (r i : ℕ) → r < regions → i < n → unitOf r c i < UNITS
@@ -140,9 +167,15 @@ module _ (v : View) (fits : Fitting v) (link : ℕ → ℕ) {regions t c : ℕ} 
       let r = v (TaskRegion t) in
       test (ltb d DESCRIPTORS && ltb r regions) (λ h.
       let p = both (ltb d DESCRIPTORS) (ltb r regions) h in
-      record { sound = omega (arith, task, class, few, ltb-true d DESCRIPTORS (p .0), ltb-true r regions (p .1), full-below); own = omega arith })
+      record {
+        sound = omega
+            (arith, task, class, few, ltb-true d DESCRIPTORS (p .0), ltb-true r regions (p .1), full-below);
+        own =
+            omega arith;
+      })
 
-  a8-put : (u i k top : ℕ) → u < UNITS → i < MOST-BLOCKS → k < MOST-BLOCKS → Fit t (Allocate.a8Put v link regions t c u i k top)
+  a8-put : (u i k top : ℕ) → u < UNITS → i < MOST-BLOCKS → k < MOST-BLOCKS
+      → Fit t (Allocate.a8Put v link regions t c u i k top)
   unfolding Allocate.a8Put
   a8-put u i k top a b d =
       branch (Fit t) (eqb (i + 1) n) (λ e. record { sound = omega (arith, task, class, a, d); own = omega arith })

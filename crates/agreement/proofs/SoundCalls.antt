@@ -1,5 +1,5 @@
--- Whatever bytes the control memory holds: each field holds after a step what the step's outcome writes to it, and no call of a
--- task moves another.
+-- Whatever bytes the control memory holds: each field holds after a step what the step's outcome writes to it, and no
+-- call of a task moves another.
 use Prim.Native.Nat.{ℕ, _-_, _/_, _%_, _<_}
 use mathlib.Core.Path.{_≡_, refl, sym, _∙_}
 use mathlib.Core.Logic.{_≢_}
@@ -41,7 +41,8 @@ module _ {control area : ℕ} {v : View} (fits : Fitting v) {t : ℕ} (T : Teste
 
   idle-fit : (x : Outcome) → Fit t x → Fit t (Calls.whenIdle v t x)
   unfolding Calls.whenIdle
-  idle-fit x f = test (ltb (v (TaskPlace t)) PLACES) (λ e. branch (Fit t) (eqb (v (TaskPlace t)) IDLE) (λ h. f) (λ h. none))
+  idle-fit x f =
+      test (ltb (v (TaskPlace t)) PLACES) (λ e. branch (Fit t) (eqb (v (TaskPlace t)) IDLE) (λ h. f) (λ h. none))
 
   pub allocate-fit : (size : ℕ) → Fit t (Calls.whenIdle v t (Calls.beginAllocate t size))
   unfolding Calls.beginAllocate
@@ -56,7 +57,15 @@ module _ {control area : ℕ} {v : View} (fits : Fitting v) {t : ℕ} (T : Teste
       let marks = v (Marks (u / 64)) in
       branch (Fit t) (isSet marks (u % 64))
       (λ e. record {
-        sound = omega (arith, task, l, k, clear-below marks (u % 64) 64 (fits (Marks (u / 64)) (omega (arith, l))) (omega arith));
+        sound =
+            omega (
+              arith,
+              task,
+              l,
+              k,
+              clear-below marks (u % 64) 64 (fits (Marks (u / 64)) (omega (arith, l)))
+                  (omega arith),
+            );
         own = omega arith;
       })
       (λ e. none)
@@ -90,13 +99,16 @@ module _ (area : ℕ) (link : ℕ → ℕ) (t : ℕ) (b : List ℕ) (bytes : Byt
   abbrev o : Outcome
   o = Calls.stepOutcome (length b) area (seen b) link t
 
-  -- each field of the layout holds what the outcome writes to it, or what it held; and any field, where a test of the call fails
-  pub step-seen : (g : Field) → (Tested (length b) area (seen b) t → Has layout g) → seen (changed (o .writes) b) g ≡ assigned (o .writes) (seen b) g
+  -- each field of the layout holds what the outcome writes to it, or what it held; and any field, where a test of the
+  -- call fails
+  pub step-seen : (g : Field) → (Tested (length b) area (seen b) t → Has layout g)
+      → seen (changed (o .writes) b) g ≡ assigned (o .writes) (seen b) g
   unfolding Calls.stepOutcome
   step-seen g has =
       let P : Outcome → Type 0 = λ x. seen (changed (x .writes) b) g ≡ assigned (x .writes) (seen b) g in
       tests P (length b) area (seen b) t _ (λ n h. refl)
-      (λ T. seen-changed (Steps.step (seen b) link (seen b Regions) t .writes) b g (T .control-is) (step-fit (seen-fitting b bytes) link T .sound) (has T))
+      (λ T. seen-changed (Steps.step (seen b) link (seen b Regions) t .writes) b g (T .control-is)
+      (step-fit (seen-fitting b bytes) link T .sound) (has T))
 
   pub step-place : seen (changed (o .writes) b) (TaskPlace t) ≡ placeAfter o (seen b) t
   step-place = step-seen (TaskPlace t) (λ T. omega (arith, T .below, T .tasks))
@@ -123,9 +135,12 @@ module _ {t u : ℕ} (other : u ≢ t) where
     Stays x = seen (changed (x .writes) b) (TaskPlace u) ≡ seen b (TaskPlace u)
 
     stays : (x : Outcome) → length b ≡ CONTROL-BYTES → Fit t x → Stays x
-    stays x l f = seen-changed (x .writes) b (TaskPlace u) l (f .sound) (omega (arith, task-is)) ∙ writes-keep (x .writes) (f .own) (seen b)
+    stays x l f =
+        seen-changed (x .writes) b (TaskPlace u) l (f .sound) (omega (arith, task-is))
+        ∙ writes-keep (x .writes) (f .own) (seen b)
 
-    tested-stays : (x : Outcome) → (Tested (length b) area (seen b) t → Fit t x) → Stays (Calls.tested (length b) area (seen b) t x)
+    tested-stays : (x : Outcome) → (Tested (length b) area (seen b) t → Fit t x)
+        → Stays (Calls.tested (length b) area (seen b) t x)
     tested-stays x f = tests Stays (length b) area (seen b) t x (λ n h. refl) (λ T. stays x (T .control-is) (f T))
 
     pub step-others : (link : ℕ → ℕ) → Stays (Calls.stepOutcome (length b) area (seen b) link t)

@@ -1,5 +1,5 @@
--- Every write of a step of a free that is no list move is to a field of the layout, its value fits there, and it is to no
--- other task's place, whatever the two memories hold.
+-- Every write of a step of a free that is no list move is to a field of the layout, its value fits there, and it is to
+-- no other task's place, whatever the two memories hold.
 use Prim.Native.Nat.{ℕ, _+_, _-_, _%_, _≤_, _<_}
 use mathlib.Core.Path.{_≡_}
 use mathlib.Core.Bool.{true, _&&_}
@@ -27,7 +27,8 @@ use Rattle.agreement.proofs.SoundMoves as Moves
 use Rattle.agreement.proofs.SoundMoves.{Fit, test}
 use Rattle.agreement.proofs.SoundAllocate.{block-max, top-max}
 
-module _ (v : View) (fits : Fitting v) (link : ℕ → ℕ) {regions t c : ℕ} (few : regions ≤ REGIONS) (task : t < TASKS) (class : c < CLASSES) where
+module _ (v : View) (fits : Fitting v) (link : ℕ → ℕ) {regions t c : ℕ} (few : regions ≤ REGIONS) (task : t < TASKS)
+    (class : c < CLASSES) where
   abbrev n : ℕ
   n = perRegion c
 
@@ -122,7 +123,10 @@ module _ (v : View) (fits : Fitting v) (link : ℕ → ℕ) {regions t c : ℕ} 
       test (isAnchor word && hasRoom n g word) (λ j.
       let l = leb-true entry DESCRIPTORS (right-true (leb 1 entry) (leb entry DESCRIPTORS) i) in
       let m = leb-true 1 entry (left-true (leb 1 entry) (leb entry DESCRIPTORS) i) in
-      record { sound = omega (arith, task, l, m, fits (Anchor (entry - 1)) (omega (arith, l, m))); own = omega arith })))
+      record {
+        sound = omega (arith, task, l, m, fits (Anchor (entry - 1)) (omega (arith, l, m)));
+        own = omega arith;
+      })))
 
   pub f3-link : Fit t (Free.f3Link v link regions t c)
   unfolding Free.f3Link
@@ -132,7 +136,8 @@ module _ (v : View) (fits : Fitting v) (link : ℕ → ℕ) {regions t c : ℕ} 
       record { sound = omega (arith, task); own = omega arith })
 
   -- the anchor with a group returned
-  returned-below : (word first g : ℕ) → first < n → hasRoom n g word ≡ true → anchorWord (returned (anchorOf word) first g n) < 18446744073709551616
+  returned-below : (word first g : ℕ) → first < n → hasRoom n g word ≡ true
+      → anchorWord (returned (anchorOf word) first g n) < 18446744073709551616
   returned-below word first g l h =
       let a = anchorOf word in
       let m = leb-true (a .count + g) n (right-true (hasFirst n word) (leb (a .count + g) n) h) in
@@ -166,7 +171,13 @@ module _ (v : View) (fits : Fitting v) (link : ℕ → ℕ) {regions t c : ℕ} 
       let q = both b f (left-true (b && f) o (left-true (b && f && o) i (p .0))) in
       let m = state-max word (right-true (b && f && o) i (p .0)) in
       let s : Sound layout (Anchor d := anchorWord (returned a first g n) ∷ TaskState t := a .state ∷ []) =
-      omega (arith, task, ltb-true d DESCRIPTORS (q .0), returned-below word first g (ltb-true first n (q .1)) (p .1)) in
+      omega (
+        arith,
+        task,
+        ltb-true d DESCRIPTORS (q .0),
+        returned-below word first g (ltb-true first n (q .1))
+            (p .1),
+      ) in
       branch (Fit t) (eqb (a .count + g) n) (λ k. record { sound = (omega (arith, task), s); own = omega (arith, m) })
       (λ k. Moves.f5 v fits few task class (a .state) _ _ (record { sound = s; own = omega (arith, m) })))
       (λ e. record { sound = omega (arith, task); own = omega arith })))

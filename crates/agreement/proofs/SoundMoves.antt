@@ -1,5 +1,5 @@
--- Every write of a list move is to a field of the layout, its value fits there, and it is to no other task's place, whatever the
--- two memories hold.
+-- Every write of a list move is to a field of the layout, its value fits there, and it is to no other task's place,
+-- whatever the two memories hold.
 use Prim.Native.Nat.{ℕ, _+_, _-_, _≤_, _<_}
 use mathlib.Core.Path.{_≡_, refl}
 use mathlib.Core.Bool.{Bool, true, cond, _&&_}
@@ -58,7 +58,8 @@ none = record { sound = tt; own = tt }
 pub test : {t : ℕ} (b : Bool) {x : Outcome} → (b ≡ true → Fit t x) → Fit t (cond b x bad)
 test {t} b h = branch (Fit t) b h (λ e. none)
 
-module _ (v : View) (fits : Fitting v) {regions t c : ℕ} (few : regions ≤ REGIONS) (task : t < TASKS) (class : c < CLASSES) where
+module _ (v : View) (fits : Fitting v) {regions t c : ℕ} (few : regions ≤ REGIONS) (task : t < TASKS)
+    (class : c < CLASSES) where
   -- ---- the end of a free's return
 
   pub f6 : (e : Decided) (ws : List Write) → Written t ws → Fit t (Lists.f6 v regions t c e ws)
@@ -71,7 +72,9 @@ module _ (v : View) (fits : Fitting v) {regions t c : ℕ} (few : regions ≤ RE
 
   pub f5 : (was : ℕ) (e : Decided) (ws : List Write) → Written t ws → Fit t (Lists.f5 v regions t c was e ws)
   unfolding Lists.f5
-  f5 was e ws s = branch (Fit t) (eqb was FULL) (λ h. record { sound = (omega (arith, task), s .sound); own = (refl, s .own) }) (λ h. f6 e ws s)
+  f5 was e ws s =
+      branch (Fit t) (eqb was FULL) (λ h. record { sound = (omega (arith, task), s .sound); own = (refl, s .own) })
+      (λ h. f6 e ws s)
 
   -- ---- pops
 
@@ -99,8 +102,13 @@ module _ (v : View) (fits : Fitting v) {regions t c : ℕ} (few : regions ≤ RE
   unfolding Lists.popRead
   pop-read p =
       let word = v (Head (popList p c)) in
-      branch (Fit t) (eqb (itemOf word) 0) (λ e. when-empty p _) (λ e. test (leb (itemOf word) (popItems p regions)) (λ h.
-      record { sound = omega (arith, task, pop-place p, fits (Head (popList p c)) (omega (arith, pop-list p))); own = omega arith }))
+      branch (Fit t) (eqb (itemOf word) 0) (λ e. when-empty p _)
+      (λ e. test (leb (itemOf word) (popItems p regions)) (λ h.
+      record {
+        sound = omega (arith, task, pop-place p, fits (Head (popList p c)) (omega (arith, pop-list p)));
+        own =
+            omega arith;
+      }))
 
   pub pop-next : (p : Pop) → Fit t (Lists.popNext v regions t c p)
   unfolding Lists.popNext Lists.popNextOf
@@ -113,9 +121,12 @@ module _ (v : View) (fits : Fitting v) {regions t c : ℕ} (few : regions ≤ RE
 
   when-popped : (p : Pop) (x : ℕ) (e : Decided) (ws : List Write) → x < 256 → Written t ws
       → Fit t (Lists.whenPopped v regions t c p x e ws)
-  when-popped Partial x e ws l s = record { sound = (omega (arith, task), (omega (arith, task, l), s .sound)); own = (refl, (tt, s .own)) }
-  when-popped Spare x e ws l s = record { sound = (omega (arith, task), (omega (arith, task, l), s .sound)); own = (refl, (tt, s .own)) }
-  when-popped Region x e ws l s = record { sound = (omega (arith, task), (omega (arith, task, l), s .sound)); own = (refl, (tt, s .own)) }
+  when-popped Partial x e ws l s =
+      record { sound = (omega (arith, task), (omega (arith, task, l), s .sound)); own = (refl, (tt, s .own)) }
+  when-popped Spare x e ws l s =
+      record { sound = (omega (arith, task), (omega (arith, task, l), s .sound)); own = (refl, (tt, s .own)) }
+  when-popped Region x e ws l s =
+      record { sound = (omega (arith, task), (omega (arith, task, l), s .sound)); own = (refl, (tt, s .own)) }
 
   pub pop-exchange : (p : Pop) → Fit t (Lists.popExchange v regions t c p)
   unfolding Lists.popExchange
@@ -128,11 +139,16 @@ module _ (v : View) (fits : Fitting v) {regions t c : ℕ} (few : regions ≤ RE
       let noted = leb next items in
       let found = leb (itemOf (v (Head ℓ))) items in
       test (item && noted && found) (λ h.
-      let one = right-true (leb 1 (itemOf word)) (leb (itemOf word) items) (left-true item noted (left-true (item && noted) found h)) in
+      let one =
+      right-true (leb 1 (itemOf word)) (leb (itemOf word) items)
+      (left-true item noted (left-true (item && noted) found h)) in
       let few-next = leb-true next items (right-true item noted (left-true (item && noted) found h)) in
       branch (Fit t) (eqb (v (Head ℓ)) word)
       (λ e. when-popped p _ _ _ (omega (arith, pop-items p, leb-true (itemOf word) items one))
-      (record { sound = omega (arith, pop-list p, advancedWord-below word next (omega (arith, pop-items p, few-next))); own = omega arith }))
+      (record {
+        sound = omega (arith, pop-list p, advancedWord-below word next (omega (arith, pop-items p, few-next)));
+        own = omega arith;
+      }))
       (λ e. record { sound = omega (arith, task, pop-place p); own = omega arith }))
 
   -- ---- pushes
@@ -166,7 +182,11 @@ module _ (v : View) (fits : Fitting v) {regions t c : ℕ} (few : regions ≤ RE
   unfolding Lists.pushRead
   push-read p =
       test (leb (itemOf (v (Head (pushList p c)))) (pushItems p regions)) (λ h.
-      record { sound = omega (arith, task, push-place p, fits (Head (pushList p c)) (omega (arith, push-list p))); own = omega arith })
+      record {
+        sound = omega (arith, task, push-place p, fits (Head (pushList p c)) (omega (arith, push-list p)));
+        own =
+            omega arith;
+      })
 
   pub push-next : (p : Push) → Fit t (Lists.pushNext v regions t c p)
   unfolding Lists.pushNext
@@ -176,10 +196,13 @@ module _ (v : View) (fits : Fitting v) {regions t c : ℕ} (few : regions ≤ RE
       let items = pushItems p regions in
       test (ltb x items && leb below items) (λ h.
       let y = leb-true below items (right-true (ltb x items) (leb below items) h) in
-      let w = item-next p x (ltb-true x items (left-true (ltb x items) (leb below items) h)) below (omega (arith, y, push-items p)) in
+      let w =
+      item-next p x (ltb-true x items (left-true (ltb x items) (leb below items) h)) below
+      (omega (arith, y, push-items p)) in
       record { sound = (omega (arith, task, push-place p), w .sound); own = (refl, w .own) })
 
-  when-pushed : (p : Push) (e : Decided) (ws : List Write) → Written t ws → Fit t (Lists.whenPushed v regions t c p e ws)
+  when-pushed : (p : Push) (e : Decided) (ws : List Write) → Written t ws
+      → Fit t (Lists.whenPushed v regions t c p e ws)
   when-pushed Retire e ws s = record { sound = (omega (arith, task), s .sound); own = (refl, s .own) }
   when-pushed Back e ws s = record { sound = (omega (arith, task), s .sound); own = (refl, s .own) }
   when-pushed Release e ws s = test (isState (v (TaskState t))) (λ h. f5 (v (TaskState t)) e ws s)
@@ -199,5 +222,8 @@ module _ (v : View) (fits : Fitting v) {regions t c : ℕ} (few : regions ≤ RE
       let low = ltb-true x items (left-true item noted (left-true (item && noted) found h)) in
       branch (Fit t) (eqb (v (Head ℓ)) word)
       (λ e. when-pushed p _ _
-      (record { sound = omega (arith, push-list p, advancedWord-below word (x + 1) (omega (arith, push-items p, low))); own = omega arith }))
+      (record {
+        sound = omega (arith, push-list p, advancedWord-below word (x + 1) (omega (arith, push-items p, low)));
+        own = omega arith;
+      }))
       (λ e. record { sound = omega (arith, task, push-place p); own = omega arith }))

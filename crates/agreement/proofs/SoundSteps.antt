@@ -1,5 +1,5 @@
--- Every write of a step is to a field of the layout, its value fits there, and it is to no other task's place, whatever the two
--- memories hold: one pass over the step list.
+-- Every write of a step is to a field of the layout, its value fits there, and it is to no other task's place, whatever
+-- the two memories hold: one pass over the step list.
 use Prim.Native.Nat.{ℕ, zero, suc, _≤_, _<_}
 use mathlib.Core.List.{List, [], _∷_}
 use native.Mathlib.Omega.{arith}
@@ -26,18 +26,31 @@ use Rattle.agreement.proofs.SoundAllocate as Allocate
 use Rattle.agreement.proofs.SoundFree as Free
 use Rattle.stepped.specs.Calls.{Tested}
 
-module _ (v : View) (fits : Fitting v) (link : ℕ → ℕ) {regions t c : ℕ} (few : regions ≤ REGIONS) (task : t < TASKS) (class : c < CLASSES) where
+module _ (v : View) (fits : Fitting v) (link : ℕ → ℕ) {regions t c : ℕ} (few : regions ≤ REGIONS) (task : t < TASKS)
+    (class : c < CLASSES) where
   -- each outcome of a list is sound
   data Each : List Outcome → Type 0 where
     end : Each []
     _then_ : {o : Outcome} {os : List Outcome} → Fit t o → Each os → Each (o ∷ os)
 
   infixr 5 _then_
-  pop-sound : (p : Pop) → Fit t (Lists.popRead v regions t c p) × Fit t (Lists.popNext v regions t c p) × Fit t (Lists.popExchange v regions t c p)
-  pop-sound p = (Moves.pop-read v fits few task class p, Moves.pop-next v fits few task class p, Moves.pop-exchange v fits few task class p)
+  pop-sound : (p : Pop) → Fit t (Lists.popRead v regions t c p) × Fit t (Lists.popNext v regions t c p)
+      × Fit t (Lists.popExchange v regions t c p)
+  pop-sound p = (
+    Moves.pop-read v fits few task class p,
+    Moves.pop-next v fits few task class p,
+    Moves.pop-exchange v fits few
+        task class p,
+  )
 
-  push-sound : (p : Push) → Fit t (Lists.pushRead v regions t c p) × Fit t (Lists.pushNext v regions t c p) × Fit t (Lists.pushExchange v regions t c p)
-  push-sound p = (Moves.push-read v fits few task class p, Moves.push-next v fits few task class p, Moves.push-exchange v fits few task class p)
+  push-sound : (p : Push) → Fit t (Lists.pushRead v regions t c p) × Fit t (Lists.pushNext v regions t c p)
+      × Fit t (Lists.pushExchange v regions t c p)
+  push-sound p = (
+    Moves.push-read v fits few task class p,
+    Moves.push-next v fits few task class p,
+    Moves.push-exchange v fits few
+        task class p,
+  )
 
   all : Each (Steps.steps v link regions t c)
   all =

@@ -46,11 +46,15 @@ module _ (tasks regions : ℕ) (few : tasks ≤ TASKS) (small : regions ≤ REGI
         omega arith,
         (
           omega arith,
-          append-sound (fill DescriptorNext (nextUp DESCRIPTORS) DESCRIPTORS) (fill RegionNext (nextUp regions) regions ++ fill Top (λ i. UNITS) CACHES)
-              (fill-sound descriptorNexts (nextUp DESCRIPTORS) DESCRIPTORS DESCRIPTORS 256 (λ i x l k. omega arith) (λ i l. omega (arith, next-max DESCRIPTORS i l)) (omega arith))
+          append-sound (fill DescriptorNext (nextUp DESCRIPTORS) DESCRIPTORS)
+              (fill RegionNext (nextUp regions) regions ++ fill Top (λ i. UNITS) CACHES)
+              (fill-sound descriptorNexts (nextUp DESCRIPTORS) DESCRIPTORS DESCRIPTORS 256 (λ i x l k. omega arith)
+              (λ i l. omega (arith, next-max DESCRIPTORS i l)) (omega arith))
               (append-sound (fill RegionNext (nextUp regions) regions) (fill Top (λ i. UNITS) CACHES)
-              (fill-sound regionNexts (nextUp regions) regions REGIONS 256 (λ i x l k. omega arith) (λ i l. omega (arith, next-max regions i l)) small)
-              (fill-sound cacheTops (λ i. UNITS) CACHES CACHES 65536 (λ i x l k. omega arith) (λ i l. omega arith) (omega arith))),
+              (fill-sound regionNexts (nextUp regions) regions REGIONS 256 (λ i x l k. omega arith)
+              (λ i l. omega (arith, next-max regions i l)) small)
+              (fill-sound cacheTops (λ i. UNITS) CACHES CACHES 65536 (λ i x l k. omega arith) (λ i l. omega arith)
+              (omega arith))),
         ),
       ),
     ),
@@ -60,8 +64,10 @@ module _ (tasks regions : ℕ) (few : tasks ≤ TASKS) (small : regions ≤ REGI
   pub image-view : (g : Field) → Has layout g → seen (startImage tasks regions) g ≡ startView tasks regions g
   unfolding startImage
   image-view g h =
-      seen-changed (startWrites tasks regions) (replicate CONTROL-BYTES 0) g (length-replicate {A = ℕ} CONTROL-BYTES 0) start-sound h
-      ∙ assigned-same (startWrites tasks regions) (seen (replicate CONTROL-BYTES 0)) zeroed g (getLE-zeros CONTROL-BYTES (at layout g) (width layout g))
+      seen-changed (startWrites tasks regions) (replicate CONTROL-BYTES 0) g (length-replicate {A = ℕ} CONTROL-BYTES 0)
+      start-sound h
+      ∙ assigned-same (startWrites tasks regions) (seen (replicate CONTROL-BYTES 0)) zeroed g
+      (getLE-zeros CONTROL-BYTES (at layout g) (width layout g))
       ∙ start-view tasks regions g
 
   -- the image and any area of the length are related to the plain pool after a start
@@ -73,8 +79,12 @@ module _ (tasks regions : ℕ) (few : tasks ≤ TASKS) (small : regions ≤ REGI
       let G : Good (record { tasks = tasks; regions = regions; mem = Plain.startMem regions }) = subst Good i g in
       subst (λ (z : Pool). Tied (record { control = startImage tasks regions; area = area }) z) (sym i)
       (record {
-        length = length-written layout (startWrites tasks regions) (replicate CONTROL-BYTES 0) ∙ length-replicate {A = ℕ} CONTROL-BYTES 0;
-        bytes = bytes-written layout (startWrites tasks regions) (replicate CONTROL-BYTES 0) (λ k. rw (zeros CONTROL-BYTES k) (omega arith));
+        length =
+            length-written layout (startWrites tasks regions) (replicate CONTROL-BYTES 0)
+            ∙ length-replicate {A = ℕ} CONTROL-BYTES 0;
+        bytes =
+            bytes-written layout (startWrites tasks regions) (replicate CONTROL-BYTES 0)
+            (λ k. rw (zeros CONTROL-BYTES k) (omega arith));
         tasks = image-view Tasks (omega arith) ∙ at-tasks tasks regions;
         good = G;
         some = λ k. some;
@@ -92,7 +102,8 @@ module _ {s₁ : Memories} {s : Pool} (S : Tied s₁ s) (control : ℕ) (area : 
 
   -- ---- tests 3, 2 and 1
 
-  test-three : Plain.Area bytes → (d : Dec (Plain.Tasks tasks)) → (Plain.Tasks tasks → Good (new tasks (bytes / REGION-BYTES)))
+  test-three : Plain.Area bytes → (d : Dec (Plain.Tasks tasks))
+      → (Plain.Tasks tasks → Good (new tasks (bytes / REGION-BYTES)))
       → Alike (λ z. Unit {0})
       (ran (cond (oneTo TASKS tasks)
       (record { answer = Accepted; decided = nothing; control = startImage tasks (bytes / REGION-BYTES); area = area })
@@ -103,39 +114,54 @@ module _ {s₁ : Memories} {s : Pool} (S : Tied s₁ s) (control : ℕ) (area : 
       (record {
         says = refl;
         shows = tt;
-        tied = started tasks (bytes / REGION-BYTES) (t .1) (omega (arith, a)) area (omega (arith, a)) (omega (arith, a)) (new tasks (bytes / REGION-BYTES)) refl (g t);
+        tied =
+            started tasks (bytes / REGION-BYTES) (t .1) (omega (arith, a)) area (omega (arith, a)) (omega (arith, a))
+            (new tasks (bytes / REGION-BYTES)) refl (g t);
       })
   test-three a (no t) g = elim (decLe 1 tasks) [
-    | yes l ↦ rw (le-leb 1 tasks l, lt-leb tasks TASKS (let k : ¬ (tasks ≤ TASKS) = λ k. t (l, k) in omega arith)) (stays S (λ z. Unit {0}) tt 3)
+    | yes l ↦ rw (le-leb 1 tasks l, lt-leb tasks TASKS (let k : ¬ (tasks ≤ TASKS) = λ k. t (l, k) in omega arith))
+        (stays S (λ z. Unit {0}) tt 3)
     | no l ↦ rw (lt-leb 1 tasks (omega arith)) (stays S (λ z. Unit {0}) tt 3)
   ]
 
-  test-two : (d : Dec (Plain.Area bytes)) → (Plain.Area bytes → Plain.Tasks tasks → Good (new tasks (bytes / REGION-BYTES)))
+  test-two : (d : Dec (Plain.Area bytes))
+      → (Plain.Area bytes → Plain.Tasks tasks → Good (new tasks (bytes / REGION-BYTES)))
       → Alike (λ z. Unit {0}) (ran (Stepped.startIn CONTROL-BYTES area tasks (s₁ .control) (s₁ .area)))
-      (if d (if (Plain.tasks? tasks) (new tasks (bytes / REGION-BYTES), going nothing) (Plain.refuse 3 s)) (Plain.refuse 2 s))
+      (if d (if (Plain.tasks? tasks) (new tasks (bytes / REGION-BYTES), going nothing) (Plain.refuse 3 s))
+      (Plain.refuse 2 s))
   unfolding Stepped.startIn
   test-two (yes a) g =
-      rw (eq-eqb (bytes % REGION-BYTES) 0 (a .0), le-leb 1 bytes (a .1 .0), le-leb bytes AREA-BYTES (a .1 .1)) (test-three a (Plain.tasks? tasks) (g a))
+      rw (eq-eqb (bytes % REGION-BYTES) 0 (a .0), le-leb 1 bytes (a .1 .0), le-leb bytes AREA-BYTES (a .1 .1))
+      (test-three a (Plain.tasks? tasks) (g a))
   test-two (no a) g = elim (ℕ-discrete (bytes % REGION-BYTES) 0) [
     | no l ↦ rw (ne-eqb (bytes % REGION-BYTES) 0 l) (stays S (λ z. Unit {0}) tt 2)
     | yes e ↦ elim (decLt 0 bytes) [
       | no l ↦ rw (eq-eqb (bytes % REGION-BYTES) 0 e, lt-leb 1 bytes (omega arith)) (stays S (λ z. Unit {0}) tt 2)
-      | yes l ↦ rw (eq-eqb (bytes % REGION-BYTES) 0 e, le-leb 1 bytes l, lt-leb bytes AREA-BYTES (let k : ¬ (bytes ≤ AREA-BYTES) = λ k. a (e, (l, k)) in omega arith)) (stays S (λ z. Unit {0}) tt 2)
+      | yes l ↦ rw (
+        eq-eqb (bytes % REGION-BYTES) 0 e,
+        le-leb 1 bytes l,
+        lt-leb bytes AREA-BYTES
+            (let k : ¬ (bytes ≤ AREA-BYTES) = λ k. a (e, (l, k)) in omega arith),
+      ) (stays S (λ z. Unit {0}) tt 2)
     ]
   ]
 
-  pub start-alike : (d : Dec (control ≡ CONTROL-BYTES)) → (Plain.Area bytes → Plain.Tasks tasks → Good (new tasks (bytes / REGION-BYTES)))
+  pub start-alike : (d : Dec (control ≡ CONTROL-BYTES))
+      → (Plain.Area bytes → Plain.Tasks tasks → Good (new tasks (bytes / REGION-BYTES)))
       → Alike (λ z. Unit {0}) (ran (Stepped.startIn control area tasks (s₁ .control) (s₁ .area)))
       (if d
-      (if (Plain.area? bytes) (if (Plain.tasks? tasks) (new tasks (bytes / REGION-BYTES), going nothing) (Plain.refuse 3 s)) (Plain.refuse 2 s))
+      (if (Plain.area? bytes)
+      (if (Plain.tasks? tasks) (new tasks (bytes / REGION-BYTES), going nothing) (Plain.refuse 3 s)) (Plain.refuse 2 s))
       (Plain.refuse 1 s))
   unfolding Stepped.startIn
   start-alike (yes e) g = rw e (test-two (Plain.area? bytes) g)
   start-alike (no e) g = rw (ne-eqb control CONTROL-BYTES e) (stays S (λ z. Unit {0}) tt 1)
 
 -- an accepted start, whatever was before: the control memory may have looked like a started pool, or have held anything
-pub accepted-start : (s₁ : Memories) (s : Pool) (b : Start) (area : List ℕ) → Plain.Area (length area) → Plain.Tasks (b .tasks)
-    → Alike (λ z. Unit {0}) (stepped (starting b area) s₁) (Plain.startCall b (record { control = CONTROL-BYTES; area = length area }) s)
+pub accepted-start : (s₁ : Memories) (s : Pool) (b : Start) (area : List ℕ) → Plain.Area (length area)
+    → Plain.Tasks (b .tasks)
+    → Alike (λ z. Unit {0}) (stepped (starting b area) s₁)
+    (Plain.startCall b (record { control = CONTROL-BYTES; area = length area }) s)
 unfolding Stepped.startIn
 accepted-start s₁ s b area a t =
     let tasks = b .tasks in
@@ -146,13 +172,18 @@ accepted-start s₁ s b area a t =
       le-leb (length area) AREA-BYTES (a .1 .1),
       le-leb 1 tasks (t .0),
       le-leb tasks TASKS (t .1),
-      if-yes (ℕ-discrete CONTROL-BYTES CONTROL-BYTES) (if (Plain.area? (length area)) (if (Plain.tasks? tasks) (new tasks regions, going nothing) (Plain.refuse 3 s)) (Plain.refuse 2 s)) (Plain.refuse 1 s) refl,
-      if-yes (Plain.area? (length area)) (if (Plain.tasks? tasks) (new tasks regions, going nothing) (Plain.refuse 3 s)) (Plain.refuse 2 s) a,
+      if-yes (ℕ-discrete CONTROL-BYTES CONTROL-BYTES)
+          (if (Plain.area? (length area)) (if (Plain.tasks? tasks) (new tasks regions, going nothing) (Plain.refuse 3 s))
+          (Plain.refuse 2 s)) (Plain.refuse 1 s) refl,
+      if-yes (Plain.area? (length area)) (if (Plain.tasks? tasks) (new tasks regions, going nothing) (Plain.refuse 3 s))
+          (Plain.refuse 2 s) a,
       if-yes (Plain.tasks? tasks) (new tasks regions, going nothing) (Plain.refuse 3 s) t,
     )
     (record {
       says = refl;
       shows = tt;
-      tied = started tasks regions (t .1) (omega (arith, a)) area (omega (arith, a)) (omega (arith, a)) (new tasks regions) refl
+      tied =
+          started tasks regions (t .1) (omega (arith, a)) area (omega (arith, a)) (omega (arith, a)) (new tasks regions)
+          refl
           (record { few = t .1; small = λ k. omega (arith, a); inv = λ k. start-inv regions });
     })

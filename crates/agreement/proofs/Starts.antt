@@ -32,7 +32,8 @@ zeroed g = 0
 module _ (tasks regions : ℕ) where
   -- the fields after a start, in the order of the writes
   abbrev first : View
-  first = assigned (Tasks := tasks ∷ Regions := regions ∷ Head SPARE-DESCRIPTORS := 1 ∷ Head SPARE-REGIONS := 1 ∷ []) zeroed
+  first =
+      assigned (Tasks := tasks ∷ Regions := regions ∷ Head SPARE-DESCRIPTORS := 1 ∷ Head SPARE-REGIONS := 1 ∷ []) zeroed
 
   abbrev second : View
   second = assigned (fill DescriptorNext (nextUp DESCRIPTORS) DESCRIPTORS) first
@@ -56,7 +57,8 @@ module _ (tasks regions : ℕ) where
       → eqb (Layout.regionNexts .start) (e .start) ≡ false → eqb (Layout.descriptorNexts .start) (e .start) ≡ false
       → startView (field e j) ≡ first (field e j)
   unfilled e j p q r =
-      other-fill Layout.cacheTops (λ i. UNITS) CACHES third e j p ∙ other-fill Layout.regionNexts (nextUp regions) regions second e j q
+      other-fill Layout.cacheTops (λ i. UNITS) CACHES third e j p
+      ∙ other-fill Layout.regionNexts (nextUp regions) regions second e j q
       ∙ other-fill Layout.descriptorNexts (nextUp DESCRIPTORS) DESCRIPTORS first e j r
 
   -- ---- the columns
@@ -81,7 +83,8 @@ module _ (tasks regions : ℕ) where
 
   at-region-next : (r : ℕ) → r < regions → startView (RegionNext r) ≡ nextUp regions r
   at-region-next r l =
-      other-fill Layout.cacheTops (λ i. UNITS) CACHES third Layout.regionNexts r refl ∙ filled Layout.regionNexts (nextUp regions) regions second r l
+      other-fill Layout.cacheTops (λ i. UNITS) CACHES third Layout.regionNexts r refl
+      ∙ filled Layout.regionNexts (nextUp regions) regions second r l
 
   at-top : (i : ℕ) → i < CACHES → startView (Top i) ≡ UNITS
   at-top i l = filled Layout.cacheTops (λ i. UNITS) CACHES third i l
@@ -95,7 +98,8 @@ unfolding rising
 rises nx n zero i h e f g = ends g
 rises nx n (suc zero) i h e f g = links g (ends (h i (omega arith) ∙ rw (eq-eqb (i + 1) n (omega arith))))
 rises nx n (suc (suc k)) i h e f g =
-    links g (rises nx n (suc k) (suc i) h (omega arith) (nx i) (h i (omega arith) ∙ rw (ne-eqb (i + 1) n (omega arith)) (omega arith)))
+    links g (rises nx n (suc k) (suc i) h (omega arith) (nx i)
+    (h i (omega arith) ∙ rw (ne-eqb (i + 1) n (omega arith)) (omega arith)))
 
 pub next-max : (n x : ℕ) → x < n → nextUp n x ≤ n
 next-max n x h = elim (ℕ-discrete (x + 1) n) [
@@ -113,22 +117,29 @@ module _ (tasks regions : ℕ) (few : 1 ≤ regions) where
   v = startView tasks regions
 
   row : (ℓ : ℕ) → ℓ < SPARE-REGIONS → (d : Dec (ℓ ≡ SPARE-DESCRIPTORS)) (e : Dec (ℓ ≡ SPARE-REGIONS))
-      → Linked (λ (x : ℕ). v (DescriptorNext x)) suc 0 (itemOf (v (Head ℓ))) (if d (rising DESCRIPTORS 0) (if e (rising regions 0) []))
+      → Linked (λ (x : ℕ). v (DescriptorNext x)) suc 0 (itemOf (v (Head ℓ)))
+      (if d (rising DESCRIPTORS 0) (if e (rising regions 0) []))
   row ℓ l (yes d) e =
-      let one : v (Head ℓ) ≡ 1 = at-head tasks regions ℓ ∙ rw (ne-eqb SPARE-REGIONS ℓ (omega arith), eq-eqb SPARE-DESCRIPTORS ℓ (sym d)) in
-      rises (λ (x : ℕ). v (DescriptorNext x)) DESCRIPTORS DESCRIPTORS 0 (at-next tasks regions) refl (itemOf (v (Head ℓ)))
+      let one : v (Head ℓ) ≡ 1 =
+      at-head tasks regions ℓ ∙ rw (ne-eqb SPARE-REGIONS ℓ (omega arith), eq-eqb SPARE-DESCRIPTORS ℓ (sym d)) in
+      rises (λ (x : ℕ). v (DescriptorNext x)) DESCRIPTORS DESCRIPTORS 0 (at-next tasks regions) refl
+      (itemOf (v (Head ℓ)))
       (ap itemOf one ∙ top-rising DESCRIPTORS (omega arith))
   row ℓ l (no d) (yes e) = absurd (omega arith)
   row ℓ l (no d) (no e) =
-      let none : v (Head ℓ) ≡ 0 = at-head tasks regions ℓ ∙ rw (ne-eqb SPARE-REGIONS ℓ (omega arith), ne-eqb SPARE-DESCRIPTORS ℓ (λ i. d (sym i))) in
+      let none : v (Head ℓ) ≡ 0 =
+      at-head tasks regions ℓ ∙ rw
+      (ne-eqb SPARE-REGIONS ℓ (omega arith), ne-eqb SPARE-DESCRIPTORS ℓ (λ i. d (sym i))) in
       ends (ap itemOf none)
 
   spare : (d : Dec (_≡_ {A = ℕ} SPARE-REGIONS SPARE-DESCRIPTORS)) (e : Dec (_≡_ {A = ℕ} SPARE-REGIONS SPARE-REGIONS))
-      → Linked (λ (x : ℕ). v (RegionNext x)) suc 0 (itemOf (v (Head SPARE-REGIONS))) (if d (rising DESCRIPTORS 0) (if e (rising regions 0) []))
+      → Linked (λ (x : ℕ). v (RegionNext x)) suc 0 (itemOf (v (Head SPARE-REGIONS)))
+      (if d (rising DESCRIPTORS 0) (if e (rising regions 0) []))
   spare (yes d) e = absurd (omega arith)
   spare (no d) (no e) = absurd (e refl)
   spare (no d) (yes e) =
-      rises (λ (x : ℕ). v (RegionNext x)) regions regions 0 (at-region-next tasks regions) (omega arith) (itemOf (v (Head SPARE-REGIONS)))
+      rises (λ (x : ℕ). v (RegionNext x)) regions regions 0 (at-region-next tasks regions) (omega arith)
+      (itemOf (v (Head SPARE-REGIONS)))
       (ap itemOf (at-head tasks regions SPARE-REGIONS) ∙ top-rising regions few)
 
   tags : (ℓ : ℕ) (b c : Bool) → tagOf (cond b 1 (cond c 1 0)) ≡ 0
@@ -136,8 +147,10 @@ module _ (tasks regions : ℕ) (few : 1 ≤ regions) where
   tags ℓ false true = refl
   tags ℓ false false = refl
 
-  -- the relation between the control memory that a start leaves, with any area of the length, and the plain pool after a start
-  pub start-related : (area : List ℕ) → length area ≡ REGION-BYTES * regions → regions ≤ REGIONS → Related regions (memoryOf v area) (startMem regions)
+  -- the relation between the control memory that a start leaves, with any area of the length, and the plain pool after
+  -- a start
+  pub start-related : (area : List ℕ) → length area ≡ REGION-BYTES * regions → regions ≤ REGIONS
+      → Related regions (memoryOf v area) (startMem regions)
   unfolding startMem
   start-related area e h = record {
     core = record {
@@ -162,7 +175,9 @@ module _ (tasks regions : ℕ) (few : 1 ≤ regions) where
       };
       entries = record {
         maps = λ r l. unfilled tasks regions Layout.mapEntries r refl refl refl;
-        marks = λ u l. ap (λ (x : ℕ). bitAt x (u % 64)) (unfilled tasks regions Layout.unitMarks (u / 64) refl refl refl) ∙ no-bit (u % 64);
+        marks =
+            λ u l. ap (λ (x : ℕ). bitAt x (u % 64)) (unfilled tasks regions Layout.unitMarks (u / 64) refl refl refl)
+            ∙ no-bit (u % 64);
       };
       length = e;
     };
@@ -170,8 +185,12 @@ module _ (tasks regions : ℕ) (few : 1 ≤ regions) where
       fits = rw (unfilled tasks regions Layout.taskClasses t refl refl refl) (omega arith);
       place = r-idle (unfilled tasks regions Layout.taskPlaces t refl refl refl);
       caches = record {
-        tops = λ c i. ends (if-yes (decLt c CLASSES) _ _ i ∙ at-top tasks regions (Layout.CacheTop t c .index) (omega arith));
-        counts = λ c i. if-yes (decLt c CLASSES) _ _ i ∙ unfilled tasks regions Layout.cacheCounts (Layout.CacheCount t c .index) refl refl refl;
+        tops =
+            λ c i. ends
+            (if-yes (decLt c CLASSES) _ _ i ∙ at-top tasks regions (Layout.CacheTop t c .index) (omega arith));
+        counts =
+            λ c i. if-yes (decLt c CLASSES) _ _ i ∙ unfilled tasks regions Layout.cacheCounts
+            (Layout.CacheCount t c .index) refl refl refl;
       };
     };
   }

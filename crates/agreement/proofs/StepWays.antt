@@ -46,7 +46,8 @@ module _ (v : View) (link : ℕ → ℕ) (t : ℕ) (fits : v (TaskClass t) < CLA
       let k = v (CacheCount t c) in
       let u = v (CacheTop t c) in
       either (eqb k 0) (to (popPlace Partial) (omega arith) (λ u. refl))
-      (test (leb k (perRegion c)) (test (isBlock regions c u && isTop regions c (k - 1) (link u)) (finish tt (λ u. refl))))
+      (test (leb k (perRegion c))
+      (test (isBlock regions c u && isTop regions c (k - 1) (link u)) (finish tt (λ u. refl))))
 
   a3-read : End (Allocate.a3Read v link regions t c)
   unfolding Allocate.a3Read Allocate.a3ReadOf
@@ -146,9 +147,11 @@ module _ (v : View) (link : ℕ → ℕ) (t : ℕ) (fits : v (TaskClass t) < CLA
       let n = perRegion c in
       let a = anchorOf word in
       let ws = Anchor d := anchorWord (returned a first g n) ∷ TaskState t := a .state ∷ [] in
-      test (ltb d DESCRIPTORS && ltb first n && oneTo n g && isAnchor word && hasRoom n g word) (test (isAnchor (v (Anchor d)))
+      test (ltb d DESCRIPTORS && ltb first n && oneTo n g && isAnchor word && hasRoom n g word)
+      (test (isAnchor (v (Anchor d)))
       (either (eqb (v (Anchor d)) word)
-      (either (eqb (a .count + g) n) (to F4-CLEAR (omega arith) (λ u. refl)) (f5 v t fits (a .state) (gave d) ws (λ u. refl)))
+      (either (eqb (a .count + g) n) (to F4-CLEAR (omega arith) (λ u. refl))
+      (f5 v t fits (a .state) (gave d) ws (λ u. refl)))
       (to F3-READ (omega arith) (λ u. refl))))
 
   f4-clear : End (Free.f4Clear v link regions t c)
@@ -164,7 +167,8 @@ module _ (v : View) (link : ℕ → ℕ) (t : ℕ) (fits : v (TaskClass t) < CLA
   -- a list of steps from the place k on
   data Each : ℕ → List Outcome → Type 0 where
     end : {k : ℕ} → Each k []
-    _then_ : {k : ℕ} {o : Outcome} {os : List Outcome} → (v (TaskPlace t) ≡ k → End o) → Each (suc k) os → Each k (o ∷ os)
+    _then_ : {k : ℕ} {o : Outcome} {os : List Outcome} → (v (TaskPlace t) ≡ k → End o) → Each (suc k) os
+        → Each k (o ∷ os)
 
   infixr 5 _then_
   all : 1 ≤ v (TaskPlace t) → Each 0 (Steps.steps v link regions t c)

@@ -42,7 +42,8 @@ use Rattle.agreement.proofs.WorkPlaces.{work-place}
 module _ {regions : ℕ} {v : View} {area : List ℕ} {m : Mem} {t : ℕ} {k : ℕ → List ℕ} where
   work-both : {p : Work} → At regions v area m t (working p) k → WorkRelated regions (memoryOf v area) m (slotOf v t) p
       → Events.Near (m .won) (notedAt p)
-      → Both regions v area m (Stepped.stepAt v (link area) regions t (v (TaskClass t)) (v (TaskPlace t))) (Steps.stepAt t k p m)
+      → Both regions v area m (Stepped.stepAt v (link area) regions t (v (TaskClass t)) (v (TaskPlace t)))
+      (Steps.stepAt t k p m)
   unfolding Stepped.stepAt
   work-both w (r-a1 e) n = rw e (a1-both w)
   work-both w (r-partial h) n = pop-both (link area) Partial w h n

@@ -45,7 +45,8 @@ use Rattle.agreement.proofs.Caching.{cache-becomes}
 
 module _ {regions : ℕ} {v : View} {area : List ℕ} {m : Mem} {t : ℕ} {k : ℕ → List ℕ} where
   -- the cache has the block x on top, and q below
-  take-both : At regions v area m t (working (a1 (v (TaskClass t)))) k → (x : ℕ) (q : List ℕ) → k (v (TaskClass t)) ≡ x ∷ q
+  take-both : At regions v area m t (working (a1 (v (TaskClass t)))) k → (x : ℕ) (q : List ℕ)
+      → k (v (TaskClass t)) ≡ x ∷ q
       → Both regions v area m
       (Allocate.a1Take v (link area) regions t (v (TaskClass t)) (v (CacheCount t (v (TaskClass t))))
       (v (CacheTop t (v (TaskClass t)))))
@@ -72,7 +73,8 @@ module _ {regions : ℕ} {v : View} {area : List ℕ} {m : Mem} {t : ℕ} {k : �
       (both-true (cached-unit (w .pair) c u in-cache) (rw n′ (below-tested (w .pair) c b q sub below)))
       (subst (λ (z : ℕ). Both regions v area m
       (close (Allocated u) nothing
-      (TaskPlace t := IDLE ∷ CacheTop t c := b ∷ CacheCount t c := (n - 1) ∷ Marks (u / 64) := withSet word (u % 64) ∷ []) [])
+      (TaskPlace t := IDLE ∷ CacheTop t c := b ∷ CacheCount t c := (n - 1) ∷ Marks (u / 64) := withSet word (u % 64)
+      ∷ []) [])
       (Steps.a1Step t k c (z ∷ q) m)) i
       (record {
         says = refl;
@@ -83,7 +85,8 @@ module _ {regions : ℕ} {v : View} {area : List ℕ} {m : Mem} {t : ℕ} {k : �
             (mark-set-written v (slotOf (assigned (TaskPlace t := IDLE ∷ []) v)) area u) refl
             (rw (eq-eqb t t refl)) (λ j d. rw (ne-eqb t j d))))
             (marking (w .pair) u 1 (toCache c b (n - 1) (toPlace IDLE (slotOf v t))) (taskOf idle (update k c q))
-            (re-cache (w .pair) _ _ (toCache c b (n - 1) (toPlace IDLE (slotOf v t))) idle c b (n - 1) q (λ e l y h. refl)
+            (re-cache (w .pair) _ _ (toCache c b (n - 1) (toPlace IDLE (slotOf v t))) idle c b (n - 1) q
+            (λ e l y h. refl)
             refl refl below n′ (r-idle refl)));
         sound = omega (
           arith,
@@ -98,7 +101,8 @@ module _ {regions : ℕ} {v : View} {area : List ℕ} {m : Mem} {t : ℕ} {k : �
       }))
 
   pub a1-both : At regions v area m t (working (a1 (v (TaskClass t)))) k
-      → Both regions v area m (Allocate.a1 v (link area) regions t (v (TaskClass t))) (Steps.stepAt t k (a1 (v (TaskClass t))) m)
+      → Both regions v area m (Allocate.a1 v (link area) regions t (v (TaskClass t)))
+      (Steps.stepAt t k (a1 (v (TaskClass t))) m)
   unfolding Allocate.a1
   a1-both w =
       let c = v (TaskClass t) in
@@ -109,10 +113,14 @@ module _ {regions : ℕ} {v : View} {area : List ℕ} {m : Mem} {t : ℕ} {k : �
       (λ e. record {
         says = refl;
         keeps = (refl, refl);
-        rel = goes w (TaskPlace t := POP-PARTIAL ∷ []) (toPlace POP-PARTIAL (slotOf v t)) (working (popping (partial c) read)) refl
-            (rw (eq-eqb t t refl)) (λ j d. rw (ne-eqb t j d)) refl refl (r-working (r-partial (PopRelated.at-read refl)));
+        rel =
+            goes w (TaskPlace t := POP-PARTIAL ∷ []) (toPlace POP-PARTIAL (slotOf v t))
+            (working (popping (partial c) read)) refl
+            (rw (eq-eqb t t refl)) (λ j d. rw (ne-eqb t j d)) refl refl
+            (r-working (r-partial (PopRelated.at-read refl)));
         sound = omega (arith, w .pair .turn .fits);
         apart = tt;
       })
-      (λ x q e. pass (leb n (perRegion c)) (le-leb n (perRegion c) (omega (arith, cache-count w, lengths (w .pair .turn) c)))
+      (λ x q e. pass (leb n (perRegion c))
+      (le-leb n (perRegion c) (omega (arith, cache-count w, lengths (w .pair .turn) c)))
       (take-both w x q e))

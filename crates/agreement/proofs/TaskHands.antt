@@ -41,9 +41,17 @@ use Rattle.agreement.proofs.Groups.{first-below, last-below, region-bel
 use Rattle.agreement.proofs.Notes.{first-max, number-max}
 
 -- a noted anchor
-note-in : {m : Mem} {c d : ℕ} {n : Note} {b : Anchor} → NoteRelated m c d n b → (b .state ≤ 2) × (b .avail ≤ perRegion c)
+note-in : {m : Mem} {c d : ℕ} {n : Note} {b : Anchor} → NoteRelated m c d n b
+    → (b .state ≤ 2) × (b .avail ≤ perRegion c)
 note-in {m} {c} {d} {n} N =
-    omega (arith, N .state, N .avail, number-max (n .state), first-max (m .descriptor d .region) c (n .first) (N .first))
+    omega (
+      arith,
+      N .state,
+      N .avail,
+      number-max (n .state),
+      first-max (m .descriptor d .region) c (n .first)
+          (N .first),
+    )
 
 -- a task that noted one of the three states
 module _ (regions : ℕ) (v : View) (area : List ℕ) (m : Mem) (t : ℕ) (k : ℕ → List ℕ)
@@ -104,12 +112,14 @@ module _ (regions : ℕ) (v : View) (area : List ℕ) (m : Mem) (t : ℕ) (k : �
   u = v (TaskUnit t)
 
   -- the block that is freed, alone or with what follows it
-  freeing : {p : Place} → PUSH-OFFER ≤ v (TaskPlace t) → v (TaskPlace t) ≤ F3-EXCHANGE → classAt p ≡ c → one u u ≤ count u (underWay p)
+  freeing : {p : Place} → PUSH-OFFER ≤ v (TaskPlace t) → v (TaskPlace t) ≤ F3-EXCHANGE → classAt p ≡ c
+      → one u u ≤ count u (underWay p)
       → Freeing v t p
   freeing i j e h = frees i j e (omega (arith, when-same u 1))
 
   -- the same, and the descriptor that is owed where the anchor was found FULL
-  owing : {p : Place} (z : State) → v (TaskState t) ≡ numberOf z → count d (owed z d) ≤ holdsDescriptor d p → classAt p ≡ c
+  owing : {p : Place} (z : State) → v (TaskState t) ≡ numberOf z → count d (owed z d) ≤ holdsDescriptor d p
+      → classAt p ≡ c
       → one u u ≤ count u (underWay p) → Freeing v t p
   owing z i o e h = owes (λ f. omega (arith, owed-one z d (sym i ∙ f))) e (omega (arith, when-same u 1))
 
@@ -150,8 +160,12 @@ module _ (regions : ℕ) (v : View) (area : List ℕ) (m : Mem) (t : ℕ) (k : �
       (of-push regions v m t Release h, (omega arith, omega arith), owing z e (omega arith) refl (omega arith))
   numbers-at-work w (r-offer h) =
       let i = push-span h in
-      let f = descriptor-held w (omega arith) in
-      (of-push regions v m t Offer h, (omega arith, omega arith), freeing (omega arith) (omega arith) refl (omega arith))
+      let f = descriptor-held w (omega arith) in (
+        of-push regions v m t Offer h,
+        (omega arith, omega arith),
+        freeing (omega arith) (omega arith) refl
+            (omega arith),
+      )
   numbers-at-work w (r-a3-read e) =
       let f = descriptor-held w (omega arith) in
       (no-move (omega arith), (omega arith, omega arith), fills (omega arith) (omega arith))

@@ -55,8 +55,10 @@ pop-at Region q h = rw (le-ltb q POP-SPARE (omega arith), le-ltb q POP-REGION (o
 push-at : (p : Push) (q : ℕ) → Span (pushPlace p) q → pushAt q ≡ p
 push-at Retire q h = rw (lt-ltb q PUSH-BACK (omega arith))
 push-at Back q h = rw (le-ltb q PUSH-BACK (omega arith), lt-ltb q PUSH-RELEASE (omega arith))
-push-at Release q h = rw (le-ltb q PUSH-BACK (omega arith), le-ltb q PUSH-RELEASE (omega arith), lt-ltb q PUSH-OFFER (omega arith))
-push-at Offer q h = rw (le-ltb q PUSH-BACK (omega arith), le-ltb q PUSH-RELEASE (omega arith), le-ltb q PUSH-OFFER (omega arith))
+push-at Release q h =
+    rw (le-ltb q PUSH-BACK (omega arith), le-ltb q PUSH-RELEASE (omega arith), lt-ltb q PUSH-OFFER (omega arith))
+push-at Offer q h =
+    rw (le-ltb q PUSH-BACK (omega arith), le-ltb q PUSH-RELEASE (omega arith), le-ltb q PUSH-OFFER (omega arith))
 
 -- ---- what one move noted
 
@@ -71,7 +73,8 @@ module _ {m : Mem} {s : Slot} {b ℓ items : ℕ} where
   popped-next (PopRelated.at-next e N i j) h = absurd (omega arith)
   popped-next (PopRelated.at-exchange e N i j x f) h = x
 
-  pushed-head : {x : ℕ} {nx : ℕ → ℕ} {φ : Phase} → PushRelated m s b ℓ items x nx φ → b + 1 ≤ s .place → s .noted .head .item ≤ items
+  pushed-head : {x : ℕ} {nx : ℕ → ℕ} {φ : Phase} → PushRelated m s b ℓ items x nx φ → b + 1 ≤ s .place
+      → s .noted .head .item ≤ items
   pushed-head (PushRelated.at-read e) h = absurd (omega arith)
   pushed-head (PushRelated.at-next e N i) h = i
   pushed-head (PushRelated.at-exchange e N i j) h = i

@@ -43,7 +43,8 @@ unchanged : (e : Event) (s₁ : Memories) → Unchanged s₁ (stepped e s₁)
 unchanged (call k lent) s₁ = refused-leaves (effectIn k lent s₁) s₁ (effect-leaves k lent s₁)
 unchanged (write at b) s₁ = λ h k. absurd (omega arith)
 
-agrees : (e : Event) (s₁ : Memories) (s : Pool) → Alike (Shown e s₁ s) (stepped e s₁) (whole e s) → Agrees (stepped e s₁) (whole e s)
+agrees : (e : Event) (s₁ : Memories) (s : Pool) → Alike (Shown e s₁ s) (stepped e s₁) (whole e s)
+    → Agrees (stepped e s₁) (whole e s)
 agrees e s₁ s A = record {
   says = A .says;
   never-14 = subst (λ (x : Answer). x .code ≢ 14) (sym (A .says)) (never e s);
@@ -60,15 +61,15 @@ reached-agrees h s₁ s R e p =
     let A = alike e s₁ s (reached-tied R) p in
     (agrees e s₁ s A, unchanged e s₁, untouched e s₁ s (A .shows))
 
--- Demand 3, and demand 1's last sentence. For every list of calls with users' writes between them, from any control memory that
--- is not started, under the premises: the stepped run and the whole run decide the same moves at the same calls, give the same
--- code and value, never 14, and have after every call the same lists, chains and holders; each block of an open region is in
--- exactly one place; and no call changes a byte of a block in a user's hands.
+-- Demand 3, and demand 1's last sentence. For every list of calls with users' writes between them, from any control
+-- memory that is not started, under the premises: the stepped run and the whole run decide the same moves at the same
+-- calls, give the same code and value, never 14, and have after every call the same lists, chains and holders; each
+-- block of an open region is in exactly one place; and no call changes a byte of a block in a user's hands.
 pub agreement : (es : List Event) (s₁ : Memories) → Unstarted s₁ → Premises es unstarted → Agree es s₁ unstarted
 agreement es s₁ U p = along AgreesAt reached-agrees (from-unstarted U) es p
 
--- The same from an accepted start on any memories and in any pool, the start itself with it: the control memory before it may look
--- like a started pool, or hold anything.
+-- The same from an accepted start on any memories and in any pool, the start itself with it: the control memory before
+-- it may look like a started pool, or hold anything.
 pub agreement-from-start : (es : List Event) (s₁ : Memories) (s : Pool) (b : Start) (area : List ℕ)
     → Plain.Area (length area) → Plain.Tasks (b .tasks) → Premises es (whole (starting b area) s .0)
     → Agree (starting b area ∷ es) s₁ s

@@ -33,18 +33,21 @@ top-of (links e l) = e
 pub tail-of : {nx : ℕ → ℕ} {f x : ℕ} {q : List ℕ} → Linked nx suc 0 f (x ∷ q) → Linked nx suc 0 (nx x) q
 tail-of (links e l) = l
 
-pub top-le : {nx : ℕ → ℕ} {f : ℕ} {q : List ℕ} {limit : ℕ} → Linked nx suc 0 f q → ((v : ℕ) → 1 ≤ count v q → v < limit) → f ≤ limit
+pub top-le : {nx : ℕ → ℕ} {f : ℕ} {q : List ℕ} {limit : ℕ} → Linked nx suc 0 f q → ((v : ℕ) → 1 ≤ count v q → v < limit)
+    → f ≤ limit
 top-le (ends e) h = omega arith
 top-le (links {u = u} e l) h = omega (arith, h u (omega (arith, when-same u 1)))
 
 -- what the next of the top says
-pub next-of : {nx : ℕ → ℕ} {f : ℕ} {q : List ℕ} (i : ℕ) → Linked nx suc 0 f q → i ≡ top q → 1 ≤ i → nx (pred i) ≡ top (tail q)
+pub next-of : {nx : ℕ → ℕ} {f : ℕ} {q : List ℕ} (i : ℕ) → Linked nx suc 0 f q → i ≡ top q → 1 ≤ i
+    → nx (pred i) ≡ top (tail q)
 next-of i (ends e) h l = absurd (omega arith)
 next-of {nx} i (links {u = u} {r = r} e k) h l = let z : pred i ≡ u = omega arith in ap nx z ∙ top-of k
 
 module _ {regions : ℕ} {m : Mem} (I : Invariant regions m) where
   pub listed : (ℓ : ℕ) → ℓ < SPARE-REGIONS → (v : ℕ) → 1 ≤ count v (m .row ℓ) → v < DESCRIPTORS
-  listed ℓ l v h = below-is v DESCRIPTORS (omega (arith, I .descriptors v, total-one SPARE-REGIONS (rowWeight v) (m .row) ℓ l))
+  listed ℓ l v h =
+      below-is v DESCRIPTORS (omega (arith, I .descriptors v, total-one SPARE-REGIONS (rowWeight v) (m .row) ℓ l))
 
   pub listed-region : (v : ℕ) → 1 ≤ count v (m .row SPARE-REGIONS) → v < regions
   listed-region v h = below-is v regions (omega (arith, I .regions v))
@@ -72,12 +75,31 @@ module _ {m : Mem} {ℓ n : ℕ} {h : Head} (N : HeadNoted m ℓ h n) (g : Head)
   next-tag e = omega (arith, N .tags)
 
 -- a head just read
-pub fresh : {m : Mem} {ℓ : ℕ} (h : Head) → h .tag ≡ wrap (m .won ℓ) → h .item ≡ top (m .row ℓ) → HeadNoted m ℓ h (m .won ℓ)
+pub fresh : {m : Mem} {ℓ : ℕ} (h : Head) → h .tag ≡ wrap (m .won ℓ) → h .item ≡ top (m .row ℓ)
+    → HeadNoted m ℓ h (m .won ℓ)
 fresh h e f = record { past = omega arith; tags = e; same = λ i. f }
 
 -- an item in hand is one of the pool's
-pub descriptor-in-hand : {regions : ℕ} {m : Mem} {t : ℕ} {p : Place} {k : ℕ → List ℕ} → Turn regions m t (taskOf p k) → (x : ℕ) → 1 ≤ holdsDescriptor x p → x < DESCRIPTORS
-descriptor-in-hand {m = m} {t = t} w x h = below-is x DESCRIPTORS (omega (arith, w .inv .descriptors x, total-one TASKS (descriptorWeight x) (m .task) t (w .fits), ap (descriptorWeight x t) (w .is)))
+pub descriptor-in-hand : {regions : ℕ} {m : Mem} {t : ℕ} {p : Place} {k : ℕ → List ℕ} → Turn regions m t (taskOf p k)
+    → (x : ℕ) → 1 ≤ holdsDescriptor x p → x < DESCRIPTORS
+descriptor-in-hand {m = m} {t = t} w x h =
+    below-is x DESCRIPTORS
+    (omega (
+      arith,
+      w .inv .descriptors x,
+      total-one TASKS (descriptorWeight x) (m .task) t (w .fits),
+      ap
+          (descriptorWeight x t) (w .is),
+    ))
 
-pub region-in-hand : {regions : ℕ} {m : Mem} {t : ℕ} {p : Place} {k : ℕ → List ℕ} → Turn regions m t (taskOf p k) → (x : ℕ) → 1 ≤ holdsRegion x p → x < regions
-region-in-hand {regions = regions} {m = m} {t = t} w x h = below-is x regions (omega (arith, w .inv .regions x, total-one TASKS (regionWeight x) (m .task) t (w .fits), ap (regionWeight x t) (w .is)))
+pub region-in-hand : {regions : ℕ} {m : Mem} {t : ℕ} {p : Place} {k : ℕ → List ℕ} → Turn regions m t (taskOf p k)
+    → (x : ℕ) → 1 ≤ holdsRegion x p → x < regions
+region-in-hand {regions = regions} {m = m} {t = t} w x h =
+    below-is x regions
+    (omega (
+      arith,
+      w .inv .regions x,
+      total-one TASKS (regionWeight x) (m .task) t (w .fits),
+      ap (regionWeight x t)
+          (w .is),
+    ))

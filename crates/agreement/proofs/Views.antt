@@ -26,7 +26,8 @@ use Rattle.agreement.proofs.Tops.{listed, listed-region, descriptor-in-
 
 module _ {v v′ : View} (same : (g : Field) → Has layout g → v′ g ≡ v g) where
   -- a column of the caches: f names a task's field by the class
-  caches-same : (f : ℕ → Field) → ((c : ℕ) → c < CLASSES → Has layout (f c)) → byClass (λ c. v′ (f c)) ≡ byClass (λ c. v (f c))
+  caches-same : (f : ℕ → Field) → ((c : ℕ) → c < CLASSES → Has layout (f c))
+      → byClass (λ c. v′ (f c)) ≡ byClass (λ c. v (f c))
   caches-same f has = fun-ext (λ c. go c (decLt c CLASSES))
     where
       go : (c : ℕ) (p : Dec (c < CLASSES)) → if p (v′ (f c)) 0 ≡ if p (v (f c)) 0
@@ -62,15 +63,22 @@ module _ {v v′ : View} (same : (g : Field) → Has layout g → v′ g ≡ v g
     };
   }
 
-  module _ {regions : ℕ} {m : Mem} (area : List ℕ) (small : regions ≤ REGIONS) (I : Invariant regions m) (R : Related regions (memoryOf v area) m) where
+  module _ {regions : ℕ} {m : Mem} (area : List ℕ) (small : regions ≤ REGIONS) (I : Invariant regions m)
+      (R : Related regions (memoryOf v area) m) where
     -- a head's word, a descriptor's fields, a region's
     head : (ℓ : ℕ) → ℓ < LISTS → v′ (Layout.Head ℓ) ≡ v (Layout.Head ℓ)
     head ℓ l = same (Layout.Head ℓ) (omega arith)
 
     descriptor : (d : ℕ) → d < DESCRIPTORS
-        → DescriptorRelated (link area) (anchorOf (v′ (Layout.Anchor d))) (v′ (Layout.DescriptorRegion d)) (v′ (Layout.DescriptorClass d)) (m .descriptor d)
+        → DescriptorRelated (link area) (anchorOf (v′ (Layout.Anchor d))) (v′ (Layout.DescriptorRegion d))
+        (v′ (Layout.DescriptorClass d)) (m .descriptor d)
     descriptor d l =
-        rw (same (Layout.Anchor d) (omega arith), same (Layout.DescriptorRegion d) (omega arith), same (Layout.DescriptorClass d) (omega arith))
+        rw (
+          same (Layout.Anchor d) (omega arith),
+          same (Layout.DescriptorRegion d) (omega arith),
+          same
+              (Layout.DescriptorClass d) (omega arith),
+        )
         (R .core .descriptors .each d l)
 
     core : Core regions (memoryOf v′ area) m
@@ -78,20 +86,24 @@ module _ {v v′ : View} (same : (g : Field) → Has layout g → v′ g ≡ v g
       lists = record {
         tags = λ ℓ l. rw (head ℓ l) (R .core .lists .tags ℓ l);
         rows = λ ℓ l. rw (head ℓ (omega arith))
-            (linked-frame (λ x h. same (Layout.DescriptorNext x) (let k : x < DESCRIPTORS = listed I ℓ l x h in omega arith))
+            (linked-frame
+            (λ x h. same (Layout.DescriptorNext x) (let k : x < DESCRIPTORS = listed I ℓ l x h in omega arith))
             (R .core .lists .rows ℓ l));
         spareRow = rw (head SPARE-REGIONS (omega arith))
             (linked-frame (λ x h. same (Layout.RegionNext x) (let k : x < regions = listed-region I x h in omega arith))
             (R .core .lists .spareRow));
-        descriptorNexts = λ d l. rw (same (Layout.DescriptorNext d) (omega arith)) (R .core .lists .descriptorNexts d l);
+        descriptorNexts =
+            λ d l. rw (same (Layout.DescriptorNext d) (omega arith)) (R .core .lists .descriptorNexts d l);
         regionNexts = λ r l. rw (same (Layout.RegionNext r) (omega arith)) (R .core .lists .regionNexts r l);
       };
       descriptors = record {
         each = descriptor;
         avails = λ d l. rw (same (Layout.Anchor d) (omega arith)) (R .core .descriptors .avails d l);
         chainCounts = λ d l. rw (same (Layout.Anchor d) (omega arith)) (R .core .descriptors .chainCounts d l);
-        regionNumbers = λ d l. rw (same (Layout.DescriptorRegion d) (omega arith)) (R .core .descriptors .regionNumbers d l);
-        classNumbers = λ d l. rw (same (Layout.DescriptorClass d) (omega arith)) (R .core .descriptors .classNumbers d l);
+        regionNumbers =
+            λ d l. rw (same (Layout.DescriptorRegion d) (omega arith)) (R .core .descriptors .regionNumbers d l);
+        classNumbers =
+            λ d l. rw (same (Layout.DescriptorClass d) (omega arith)) (R .core .descriptors .classNumbers d l);
       };
       entries = record {
         maps = λ r l. rw (same (Layout.Map r) (omega arith)) (R .core .entries .maps r l);
@@ -122,5 +134,7 @@ module _ {v v′ : View} (same : (g : Field) → Has layout g → v′ g ≡ v g
     pub views-related : Related regions (memoryOf v′ area) m
     views-related = record {
       core = core;
-      slots = λ t l. subst (λ (s : Slot). SlotRelated regions (memoryOf v′ area) m s (m .task t)) (sym (slots-same t l)) (kept-slot (kept t l) (R .slots t l));
+      slots =
+          λ t l. subst (λ (s : Slot). SlotRelated regions (memoryOf v′ area) m s (m .task t)) (sym (slots-same t l))
+          (kept-slot (kept t l) (R .slots t l));
     }

@@ -1,4 +1,5 @@
--- The tests that every call but a start passes first, and the ways in which a step can end, whatever the two memories hold.
+-- The tests that every call but a start passes first, and the ways in which a step can end, whatever the two memories
+-- hold.
 use Prim.Native.Nat.{ℕ, _*_}
 use mathlib.Core.Path.{_≡_, refl, sym, subst, _∙_}
 use mathlib.Core.Logic.{_≢_, _⊎_, inr}
@@ -22,7 +23,8 @@ use Rattle.stepped.specs.Outcome.{Outcome, refuse, bad, accept, close}
 use Rattle.stepped.specs.Ranges.{oneTo}
 use Rattle.stepped.specs.Calls as Calls
 use Rattle.stepped.specs.Calls.{Tested}
-use Rattle.agreement.specs.Ends.{oneOf, testRefusals, placeRefusals, stepRefusals, Begins, FindsEmpty, WinsPush, InPush}
+use Rattle.agreement.specs.Ends.{oneOf, testRefusals, placeRefusals, stepRefusals, Begins, FindsEmpty, WinsPush}
+use Rattle.agreement.specs.Ends.{InPush}
 use Rattle.stepped.proofs.Conjunction.{left-true, right-true}
 
 -- a test: what holds of both ways on holds of what follows
@@ -79,7 +81,8 @@ tests P control area v t x r k =
     })) (λ j. r 5 refl)) (λ i. r 2 refl)) (λ h. r 14 refl))) (λ f. r 14 refl)) (λ e. r 1 refl)
 
 -- a call that passes them does what follows
-pub passed : (control area : ℕ) (v : View) (t : ℕ) (x : Outcome) → Tested control area v t → Calls.tested control area v t x ≡ x
+pub passed : (control area : ℕ) (v : View) (t : ℕ) (x : Outcome) → Tested control area v t
+    → Calls.tested control area v t x ≡ x
 unfolding Calls.tested
 passed control area v t x T = rw (
   eq-eqb control CONTROL-BYTES (T .control-is),

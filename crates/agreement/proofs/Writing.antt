@@ -31,7 +31,8 @@ use Rattle.agreement.proofs.Couple.{Valid, valid, same-class}
 use Rattle.agreement.proofs.Both.{Apart}
 
 -- two different blocks of open regions: a byte of one is none of the other's link
-away : {r c u r′ c′ v : ℕ} → Block r c u → Block r′ c′ v → (r ≡ r′ → c ≡ c′) → v ≢ u → (at : ℕ) → UNIT-BYTES * u ≤ at → at < UNIT-BYTES * u + block c
+away : {r c u r′ c′ v : ℕ} → Block r c u → Block r′ c′ v → (r ≡ r′ → c ≡ c′) → v ≢ u → (at : ℕ) → UNIT-BYTES * u ≤ at
+    → at < UNIT-BYTES * u + block c
     → UNIT-BYTES * v ≤ at → UNIT-BYTES * v + 4 ≤ at
 away {r} {c} {u} {r′} {c′} {v} b d same n at p q l = elim (ℕ-discrete r r′) [
   | yes e ↦ (let f : Block r c v = rw (same e, e) d in elim (decLt u v) [
@@ -50,7 +51,8 @@ if-open EMPTY f x = tt
 if-open PARTIAL f x = f (λ i. refl) x
 if-open FULL f x = f (λ i. refl) x
 
-module _ {regions : ℕ} {m : Mem} (I : Invariant regions m) (u at : ℕ) (held : 1 ≤ m .hands u) (from : UNIT-BYTES * u ≤ at)
+module _ {regions : ℕ} {m : Mem} (I : Invariant regions m) (u at : ℕ) (held : 1 ≤ m .hands u)
+    (from : UNIT-BYTES * u ≤ at)
     (to : at < UNIT-BYTES * u + block (m .descriptor (pred (m .map (regionOf u))) .class)) where
   here : Valid m u
   here = valid m u (omega (arith, I .blocks u))
@@ -58,34 +60,50 @@ module _ {regions : ℕ} {m : Mem} (I : Invariant regions m) (u at : ℕ) (held 
   -- the class is that of the block's region
   class-here : at < UNIT-BYTES * u + block (m .descriptor (here .d) .class)
   class-here =
-      let named : m .map (regionOf u) ≡ suc (here .d) = ap (m .map) (region-is (here .block)) ∙ open-holds (m .descriptor (here .d) .state) (here .counts) (I .maps (here .d) (here .fits)) in
+      let named : m .map (regionOf u) ≡ suc (here .d) =
+      ap (m .map) (region-is (here .block)) ∙ open-holds (m .descriptor (here .d) .state) (here .counts)
+      (I .maps (here .d) (here .fits)) in
       let i : pred (m .map (regionOf u)) ≡ here .d = omega (arith, named) in
       subst (λ (z : ℕ). at < UNIT-BYTES * u + block (m .descriptor z .class)) i to
 
   -- the link of another block of an open region does not lie there
-  pub far : (v : ℕ) → 1 ≤ total DESCRIPTORS (insideWeight v) (m .descriptor) → v ≢ u → UNIT-BYTES * v ≤ at → UNIT-BYTES * v + 4 ≤ at
+  pub far : (v : ℕ) → 1 ≤ total DESCRIPTORS (insideWeight v) (m .descriptor) → v ≢ u → UNIT-BYTES * v ≤ at
+      → UNIT-BYTES * v + 4 ≤ at
   far v h n = let y = valid m v h in away (here .block) (y .block) (same-class I here y) n at from class-here
 
   -- a block that a task or a chain has is not the one in hands
-  other : (v : ℕ) → 1 ≤ total TASKS (blockWeight v) (m .task) + total DESCRIPTORS (chainWeight v) (m .descriptor) → v ≢ u
+  other : (v : ℕ) → 1 ≤ total TASKS (blockWeight v) (m .task) + total DESCRIPTORS (chainWeight v) (m .descriptor)
+      → v ≢ u
   other v h e =
-      absurd (omega (arith, I .blocks u, inside-open I u, ap (λ (z : ℕ). total TASKS (blockWeight z) (m .task) + total DESCRIPTORS (chainWeight z) (m .descriptor)) e))
+      absurd (omega (
+        arith,
+        I .blocks u,
+        inside-open I u,
+        ap
+            (λ (z : ℕ). total TASKS (blockWeight z) (m .task) + total DESCRIPTORS (chainWeight z) (m .descriptor)) e,
+      ))
 
   -- ---- the user's write
 
-  link-kept : (area : List ℕ) (b v : ℕ) → 1 ≤ total TASKS (blockWeight v) (m .task) + total DESCRIPTORS (chainWeight v) (m .descriptor)
+  link-kept : (area : List ℕ) (b v : ℕ) → 1 ≤ total TASKS (blockWeight v) (m .task) + total DESCRIPTORS (chainWeight v)
+      (m .descriptor)
       → link (set area at b) v ≡ link area v
   link-kept area b v h = link-byte area at b v (far v (omega (arith, I .blocks v)) (other v h))
 
   -- a write to a block in hands leaves the relation
-  pub write-related : (v : View) (area : List ℕ) (b : ℕ) → Related regions (memoryOf v area) m → Related regions (memoryOf v (set area at b)) m
+  pub write-related : (v : View) (area : List ℕ) (b : ℕ) → Related regions (memoryOf v area) m
+      → Related regions (memoryOf v (set area at b)) m
   write-related v area b R =
       let C = R .core in
       record {
         core = record {
           lists = C .lists;
-          descriptors = links-related (C .descriptors) (link (set area at b)) (λ d l g x h. link-kept area b x (omega
-              (arith, total-one DESCRIPTORS (chainWeight x) (m .descriptor) d l, g (count x (m .descriptor d .chain)))));
+          descriptors = links-related (C .descriptors) (link (set area at b)) (λ d l g x h. link-kept area b x (omega (
+            arith,
+            total-one DESCRIPTORS (chainWeight x) (m .descriptor) d l,
+            g
+                (count x (m .descriptor d .chain)),
+          )));
           entries = C .entries;
           length = length-set area at b ∙ C .length;
         };

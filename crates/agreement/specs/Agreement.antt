@@ -19,8 +19,9 @@ use Rattle.agreement.specs.Observe.{Same}
 abbrev pub read : Memories → Memory
 read s = memoryOf (seen (s .control)) (s .area)
 
--- One event of the two runs, which "decide the same moves at the same calls, give the same code and value, never 14, and have
--- after every call the same lists, chains and holders; each block of an open region is in exactly one place" (the demands).
+-- One event of the two runs, which "decide the same moves at the same calls, give the same code and value, never 14,
+-- and have after every call the same lists, chains and holders; each block of an open region is in exactly one place"
+-- (the demands).
 pub record Agrees (x : Memories × Answer) (y : Pool × Answer) : Type 0 where
   -- code, value and decided move
   pub says : x .1 ≡ y .1
@@ -37,8 +38,8 @@ pub record Agrees (x : Memories × Answer) (y : Pool × Answer) : Type 0 where
 abbrev pub Kept : Memories → Pool → Memories → Type 0
 Kept s₁ s after = (at : ℕ) → InHands at s → getD (after .area) at 0 ≡ getD (s₁ .area) at 0
 
--- "No call changes a byte of a block in a user's hands" (the demands). An accepted start begins anew: "It leaves the area as it
--- is" (the paper), which is the area that it is lent. A user's own write is no call.
+-- "No call changes a byte of a block in a user's hands" (the demands). An accepted start begins anew: "It leaves the
+-- area as it is" (the paper), which is the area that it is lent. A user's own write is no call.
 abbrev pub CallUntouched : Call → Lent → Memories → Memories × Answer → Pool → Type 0
 CallUntouched (start b) lent s₁ x s = x .1 .code ≡ 0 → x .0 .area ≡ lent .area
 CallUntouched (allocate t size) lent s₁ x s = Kept s₁ s (x .0)

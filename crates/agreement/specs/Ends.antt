@@ -1,5 +1,5 @@
--- How a call ends, whatever the two memories hold: what a refusal leaves, which numbers refuse, when "no descriptor" and "no
--- region" come, and the class that a size gets.
+-- How a call ends, whatever the two memories hold: what a refusal leaves, which numbers refuse, when "no descriptor"
+-- and "no region" come, and the class that a size gets.
 use Prim.Native.Nat.{ℕ, _+_, _≤_, _<_}
 use mathlib.Core.Path.{_≡_}
 use mathlib.Core.List.{List, [], _∷_, _++_}
@@ -95,8 +95,8 @@ pub record FindsEmpty (p : Pop) (v : View) (t : ℕ) : Type 0 where
   pub class : v (TaskClass t) < CLASSES
   pub empty : itemOf (v (Head (popList p (v (TaskClass t))))) ≡ 0
 
--- The task t is at the exchange of the push p, and wins it: its item and the noted head are in their ranges, and the head word
--- is the noted one.
+-- The task t is at the exchange of the push p, and wins it: its item and the noted head are in their ranges, and the
+-- head word is the noted one.
 pub record WinsPush (p : Push) (v : View) (t : ℕ) : Type 0 where
   pub place : v (TaskPlace t) ≡ pushPlace p + 2
   pub class : v (TaskClass t) < CLASSES

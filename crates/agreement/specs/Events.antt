@@ -18,9 +18,9 @@ use Rattle.control.specs.Answers.{codeOf, valueOf}
 use Rattle.stepped.specs.Outcome.{Memories, Effect}
 use Rattle.stepped.specs.Calls.{Lent, lengths, effectIn}
 
--- A call, with what it is lent. A call that is no start is lent the pool's memories if they have these lengths, else others,
--- which it refuses and does not touch. A start is lent an area with any bytes, and a control memory with any bytes of the length
--- that is named. A user writes the byte b at the place `at` of the area.
+-- A call, with what it is lent. A call that is no start is lent the pool's memories if they have these lengths, else
+-- others, which it refuses and does not touch. A start is lent an area with any bytes, and a control memory with any
+-- bytes of the length that is named. A user writes the byte b at the place `at` of the area.
 pub data Event : Type 0 where
   call : (k : Call) (lent : Lent) → Event
   write : (at b : ℕ) → Event
@@ -54,9 +54,9 @@ pub record Taken (lent : Lengths) (t : ℕ) (s : Pool) : Type 0 where
   pub area-is : lent .area ≡ REGION-BYTES * s .regions
   pub below : t < s .tasks
 
--- "no head changes 2^32 times or more between a task's read and its exchange" (the demands): asked of a head exchange alone.
--- `won` is the list's number of won exchanges, and n the one that the task noted; they are the plain pool's, for the memories
--- have only the tag, which wraps.
+-- "no head changes 2^32 times or more between a task's read and its exchange" (the demands): asked of a head exchange
+-- alone. `won` is the list's number of won exchanges, and n the one that the task noted; they are the plain pool's, for
+-- the memories have only the tag, which wraps.
 abbrev pub Recent : ℕ → Phase → Type 0
 Recent won read = Unit {0}
 Recent won (next n) = Unit {0}
@@ -74,8 +74,9 @@ Near won (entry-noted y d n) = Unit {0}
 abbrev pub classThere : ℕ → Pool → ℕ
 classThere u s = s .mem .descriptor (pred (s .mem .map (regionOf u))) .class
 
--- "users write only in blocks they hold" (the demands): the place `at` lies in the block `unit`, which is in a user's hands; in
--- whose, is not asked. The pool is then started, for nothing is in hands before; it is said so that proofs have it at once.
+-- "users write only in blocks they hold" (the demands): the place `at` lies in the block `unit`, which is in a user's
+-- hands; in whose, is not asked. The pool is then started, for nothing is in hands before; it is said so that proofs
+-- have it at once.
 pub record InHands (at : ℕ) (s : Pool) : Type 0 where
   pub started : 1 ≤ s .tasks
   pub unit : ℕ
@@ -101,8 +102,8 @@ Premises (e ∷ es) s = Premise e s × Premises es (whole e s .0)
 
 -- ---- the beginning
 
--- The memories that the runs may begin with: a control memory of its length that is not started, as all zeros are, whatever
--- else it holds; and any area, for no call but a start takes one.
+-- The memories that the runs may begin with: a control memory of its length that is not started, as all zeros are,
+-- whatever else it holds; and any area, for no call but a start takes one.
 pub record Unstarted (s₁ : Memories) : Type 0 where
   pub length : lib.ListN.length (s₁ .control) ≡ CONTROL-BYTES
   pub bytes : Bytes (s₁ .control)

@@ -1,5 +1,5 @@
--- The range of every field of the control memory, once the pool is started: "a range holds every value that a run under demand
--- 3's premises stores in the field".
+-- The range of every field of the control memory, once the pool is started: "a range holds every value that a run under
+-- demand 3's premises stores in the field".
 use Prim.Native.Nat.{ℕ, _+_, _^_, _≤_, _<_}
 use mathlib.Core.Path.{_≡_}
 use mathlib.Core.Bool.{true}
@@ -13,7 +13,8 @@ use Rattle.control.specs.Layout.{TaskIndex, TaskLeft, GroupFirst, GroupLast, Gr
 use Rattle.control.specs.Layout.{TaskPlace, TaskClass, TaskNext, TaskDescriptor, TaskRegion, TaskState}
 use Rattle.control.specs.Layout.{DescriptorNext, RegionNext, DescriptorRegion, DescriptorClass, Map, Tasks, Regions}
 use Rattle.control.specs.Layout.{seen}
-use Rattle.control.specs.Places.{POP-REGION, PUSH-BACK, PUSH-RELEASE, PUSH-OFFER, A3-EXCHANGE, A4, A7, A8, F1, F2, F3-READ, F3-LINK, F3-EXCHANGE, F4-CLEAR, PLACES}
+use Rattle.control.specs.Places.{POP-REGION, PUSH-BACK, PUSH-RELEASE, PUSH-OFFER, A3-EXCHANGE, A4, A7, A8, F1, F2}
+use Rattle.control.specs.Places.{F3-READ, F3-LINK, F3-EXCHANGE, F4-CLEAR, PLACES}
 use Rattle.control.specs.declared.moves.Pop.{Pop}
 use Rattle.control.specs.declared.moves.Push.{Push}
 use Rattle.stepped.specs.Ranges.{isBlock, isTop}
@@ -26,19 +27,21 @@ use Rattle.agreement.specs.Events.{Event, stepped}
 abbrev pub OneTo : ℕ → ℕ → Type 0
 OneTo most x = (1 ≤ x) × (x ≤ most)
 
--- X where the task t is at a place from a to b, in the order of the table of places. A move has three: its head read, its next
--- and its exchange.
+-- X where the task t is at a place from a to b, in the order of the table of places. A move has three: its head read,
+-- its next and its exchange.
 abbrev pub At : View → ℕ → ℕ → ℕ → Type 0 → Type 0
 At v t a b X = a ≤ v (TaskPlace t) → v (TaskPlace t) ≤ b → X
 
--- What the task t noted of a list, and what it has under way, is in its range at the places from its write to its last read;
--- elsewhere it is left over.
+-- What the task t noted of a list, and what it has under way, is in its range at the places from its write to its last
+-- read; elsewhere it is left over.
 
 -- the noted head's item, where a pop has one, and the noted next: a number plus one, or 0
 pub record TaskLists (regions : ℕ) (v : View) (t : ℕ) : Type 0 where
-  pub pop-head : (p : Pop) → At v t (popPlace p + 1) (popPlace p + 2) (OneTo (popItems p regions) (itemOf (v (TaskHead t))))
+  pub pop-head : (p : Pop) → At v t (popPlace p + 1) (popPlace p + 2)
+      (OneTo (popItems p regions) (itemOf (v (TaskHead t))))
   pub pop-next : (p : Pop) → At v t (popPlace p + 2) (popPlace p + 2) (v (TaskNext t) ≤ popItems p regions)
-  pub push-head : (p : Push) → At v t (pushPlace p + 1) (pushPlace p + 2) (itemOf (v (TaskHead t)) ≤ pushItems p regions)
+  pub push-head : (p : Push) → At v t (pushPlace p + 1) (pushPlace p + 2)
+      (itemOf (v (TaskHead t)) ≤ pushItems p regions)
 
 -- its place, and what it has in hand beside blocks
 pub record TaskHands (regions : ℕ) (v : View) (t : ℕ) : Type 0 where
@@ -63,11 +66,13 @@ pub record TaskChains (v : View) (t : ℕ) : Type 0 where
   -- the noted anchor from which an allocation takes the chain
   pub anchor-state : At v t A3-EXCHANGE A3-EXCHANGE (anchorOf (v (TaskAnchor t)) .state ≡ PARTIAL)
   pub anchor-avail : At v t A3-EXCHANGE A3-EXCHANGE (anchorOf (v (TaskAnchor t)) .avail < perRegion (v (TaskClass t)))
-  pub anchor-count : At v t A3-EXCHANGE A3-EXCHANGE (OneTo (perRegion (v (TaskClass t))) (anchorOf (v (TaskAnchor t)) .count))
+  pub anchor-count : At v t A3-EXCHANGE A3-EXCHANGE
+      (OneTo (perRegion (v (TaskClass t))) (anchorOf (v (TaskAnchor t)) .count))
   -- and that before whose chain a free puts its group: n as avail is none
   pub returns-state : At v t F3-LINK F3-EXCHANGE (anchorOf (v (TaskAnchor t)) .state ≤ 2)
   pub returns-avail : At v t F3-LINK F3-EXCHANGE (anchorOf (v (TaskAnchor t)) .avail ≤ perRegion (v (TaskClass t)))
-  pub returns-count : At v t F3-LINK F3-EXCHANGE (anchorOf (v (TaskAnchor t)) .count + v (GroupCount t) ≤ perRegion (v (TaskClass t)))
+  pub returns-count : At v t F3-LINK F3-EXCHANGE
+      (anchorOf (v (TaskAnchor t)) .count + v (GroupCount t) ≤ perRegion (v (TaskClass t)))
   -- the index of the block that is moved or carved next
   pub index-moved : At v t A4 A4 (v (TaskIndex t) < perRegion (v (TaskClass t)))
   pub index-carved : At v t A8 A8 (v (TaskIndex t) < perRegion (v (TaskClass t)))
@@ -93,9 +98,11 @@ pub record TaskInRange (regions : ℕ) (v : View) (t : ℕ) : Type 0 where
   pub unit-pushing : At v t PUSH-RELEASE (PUSH-OFFER + 2) (isBlock regions (v (TaskClass t)) (v (TaskUnit t)) ≡ true)
   pub unit : At v t F1 F4-CLEAR (isBlock regions (v (TaskClass t)) (v (TaskUnit t)) ≡ true)
   -- the descriptor that a free has in hand where it found the anchor FULL
-  pub descriptor-released : At v t PUSH-RELEASE (PUSH-RELEASE + 2) (v (TaskState t) ≡ FULL → v (TaskDescriptor t) < DESCRIPTORS)
+  pub descriptor-released : At v t PUSH-RELEASE (PUSH-RELEASE + 2)
+      (v (TaskState t) ≡ FULL → v (TaskDescriptor t) < DESCRIPTORS)
   pub descriptor-cleared : At v t F4-CLEAR F4-CLEAR (v (TaskState t) ≡ FULL → v (TaskDescriptor t) < DESCRIPTORS)
-  -- each class's cache: how many blocks, and its top: a block of the class, or, where there is none, the number past all units
+  -- each class's cache: how many blocks, and its top: a block of the class, or, where there is none, the number past
+  -- all units
   pub counts : (c : ℕ) → c < CLASSES → v (CacheCount t c) ≤ perRegion c
   pub tops : (c : ℕ) → c < CLASSES → isTop regions c (v (CacheCount t c)) (v (CacheTop t c)) ≡ true
   pub tops-max : (c : ℕ) → c < CLASSES → v (CacheTop t c) ≤ UNITS

@@ -1,4 +1,5 @@
--- The agreement of the stepped pool with the plain pool: what is compared, the events and premises, the relation, the claims.
+-- The agreement of the stepped pool with the plain pool: what is compared, the events and premises, the relation, the
+-- claims.
 pub mod Memory
 pub mod Relation
 pub mod Tied

@@ -1,5 +1,6 @@
--- What is compared: "each list's items from the top, which regions are open and in which class, and, for these, the chain in
--- order and each block's holder". It is read off the memories, through the links and by the counts, and off the plain pool.
+-- What is compared: "each list's items from the top, which regions are open and in which class, and, for these, the
+-- chain in order and each block's holder". It is read off the memories, through the links and by the counts, and off
+-- the plain pool.
 use mathlib.Core.Path.{_≡_}
 use mathlib.Core.List.{List, [], _∷_}
 use Prim.Native.Nat.{ℕ, zero, suc, _+_, _-_, _≤_, _<_}
@@ -30,8 +31,8 @@ listFrom next zero f = []
 listFrom next (suc n) zero = []
 listFrom next (suc n) (suc x) = x ∷ listFrom next n (next x)
 
--- The list ℓ of descriptors, and that of the spare regions: one item more is read than there are descriptors or regions, so that
--- a list that does not end is not taken for one that does.
+-- The list ℓ of descriptors, and that of the spare regions: one item more is read than there are descriptors or
+-- regions, so that a list that does not end is not taken for one that does.
 abbrev pub listOf : Memory → ℕ → List ℕ
 listOf a ℓ = listFrom (a .lists .descriptorNext) (suc DESCRIPTORS) (a .lists .head ℓ .item)
 
@@ -44,14 +45,16 @@ spareRegions a regions = listFrom (a .lists .regionNext) (suc regions) (a .lists
 abbrev pub classBy : ℕ → ℕ → Memory → ℕ
 classBy zero r a = 0
 classBy (suc d) r a =
-    if (both (ℕ-discrete (a .descriptors .region d) r) (decLe 1 (a .descriptors .anchor d .state))) (suc (a .descriptors .class d)) 0
+    if (both (ℕ-discrete (a .descriptors .region d) r) (decLe 1 (a .descriptors .anchor d .state)))
+    (suc (a .descriptors .class d)) 0
 
 -- its chain: as many blocks as the anchor counts, from avail on
 abbrev pub chainBy : ℕ → ℕ → Memory → List ℕ
 chainBy zero r a = []
 chainBy (suc d) r a =
     if (both (ℕ-discrete (a .descriptors .region d) r) (decLe 1 (a .descriptors .anchor d .state)))
-    (walk (link (a .area)) (unitOf r (a .descriptors .class d)) (a .descriptors .anchor d .avail) (a .descriptors .anchor d .count)) []
+    (walk (link (a .area)) (unitOf r (a .descriptors .class d)) (a .descriptors .anchor d .avail)
+    (a .descriptors .anchor d .count)) []
 
 -- the same of the plain pool
 abbrev pub plainClassBy : ℕ → ℕ → Mem → ℕ
@@ -74,7 +77,8 @@ plainChain m r = plainChainBy (m .map r) r m
 abbrev groupOf : Slot → Memory → List ℕ
 groupOf s a = walk (link (a .area)) (unitOf (s .hand .region) (s .class)) (s .group .first) (s .group .count)
 
--- the blocks that a table has for a place: each line gives the first and the last of its places; elsewhere there are none
+-- the blocks that a table has for a place: each line gives the first and the last of its places; elsewhere there are
+-- none
 abbrev pub blocksAt : List (ℕ × ℕ × List ℕ) → ℕ → List ℕ
 blocksAt [] place = []
 blocksAt (line ∷ table) place = cond (leb (line .0) place && leb place (line .1)) (line .2) (blocksAt table place)
@@ -88,8 +92,8 @@ underWays s a =
     (A4, A4, walk (link (a .area)) (unitOf (s .hand .region) (s .class)) (s .hand .index) (s .hand .left))
     -- the blocks still to be carved
     ∷ (A8, A8, blocksFrom (s .hand .region) (s .class) (s .hand .index) (perRegion (s .class) - s .hand .index))
-    -- the block that is freed; from step 2 on, with the group; and alone again while its map entry is cleared, its region
-    -- released and its descriptor offered
+    -- the block that is freed; from step 2 on, with the group; and alone again while its map entry is cleared, its
+    -- region released and its descriptor offered
     ∷ (F1, F1, freed)
     ∷ (F2, F3-EXCHANGE, s .unit ∷ groupOf s a)
     ∷ (F4-CLEAR, F4-CLEAR, freed)
@@ -105,7 +109,8 @@ inCache a v u n = count v (walk (link (a .area)) (λ x. x) u n)
 abbrev pub withTask : Memory → ℕ → ℕ → ℕ
 withTask a t v =
     let s = a .slot t in
-    total CLASSES (λ c n. inCache a v (s .caches .top c) n) (s .caches .count) + count v (blocksAt (underWays s a) (s .place))
+    total CLASSES (λ c n. inCache a v (s .caches .top c) n) (s .caches .count) + count v
+    (blocksAt (underWays s a) (s .place))
 
 -- ---- holders: "a user's hands, a task or its region's chain"
 
@@ -141,7 +146,8 @@ pub record Same (regions : ℕ) (a : Memory) (m : Mem) : Type 0 where
   pub holders : (r v : ℕ) → r < regions → v < UNITS → holderIn a r v ≡ plainHolder m r v
   -- "each block of an open region is in exactly one place": counted in the memories, and in the plain pool
   pub one-place : (r c v : ℕ) → r < regions → classBy (a .entries .map r) r a ≡ suc c → Block r c v
-      → a .entries .mark v + total TASKS (λ t s. withTask a t v) (a .slot) + count v (chainBy (a .entries .map r) r a) ≡ 1
+      → a .entries .mark v + total TASKS (λ t s. withTask a t v) (a .slot) + count v (chainBy (a .entries .map r) r a)
+      ≡ 1
   pub plain-one-place : (r c v : ℕ) → r < regions → plainClass m r ≡ suc c → Block r c v
       → m .hands v + total TASKS (blockWeight v) (m .task) + count v (plainChain m r) ≡ 1
   -- an open region's chain has blocks of this region and class alone, so that no block stands in another region's chain

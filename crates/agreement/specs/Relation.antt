@@ -41,21 +41,25 @@ pub record HeadNoted (m : Mem) (ℓ : ℕ) (h : Head) (n : ℕ) : Type 0 where
   pub tags : h .tag ≡ wrap n
   pub same : n ≡ m .won ℓ → h .item ≡ top (m .row ℓ)
 
--- A pop whose first place is b, of the list ℓ with items below `items`. While the noted number stands, the noted next is
--- what stands below the row's top: nothing is said of the links, so that the steps of others leave it.
+-- A pop whose first place is b, of the list ℓ with items below `items`. While the noted number stands, the noted next
+-- is what stands below the row's top: nothing is said of the links, so that the steps of others leave it.
 pub data PopRelated (m : Mem) (s : Slot) (b ℓ items : ℕ) : Phase → Type 0 where
   at-read : s .place ≡ b → PopRelated m s b ℓ items read
-  at-next : {n : ℕ} → s .place ≡ b + 1 → HeadNoted m ℓ (s .noted .head) n → 1 ≤ s .noted .head .item → s .noted .head .item ≤ items
+  at-next : {n : ℕ} → s .place ≡ b + 1 → HeadNoted m ℓ (s .noted .head) n → 1 ≤ s .noted .head .item
+      → s .noted .head .item ≤ items
       → PopRelated m s b ℓ items (next n)
-  at-exchange : {n : ℕ} → s .place ≡ b + 2 → HeadNoted m ℓ (s .noted .head) n → 1 ≤ s .noted .head .item → s .noted .head .item ≤ items
-      → s .noted .next ≤ items → (n ≡ m .won ℓ → s .noted .next ≡ top (tail (m .row ℓ))) → PopRelated m s b ℓ items (exchange n)
+  at-exchange : {n : ℕ} → s .place ≡ b + 2 → HeadNoted m ℓ (s .noted .head) n → 1 ≤ s .noted .head .item
+      → s .noted .head .item ≤ items
+      → s .noted .next ≤ items → (n ≡ m .won ℓ → s .noted .next ≡ top (tail (m .row ℓ)))
+      → PopRelated m s b ℓ items (exchange n)
 
 -- A push of the item x, whose next, which its owner alone writes, is the noted head's item.
 pub data PushRelated (m : Mem) (s : Slot) (b ℓ items x : ℕ) (nx : ℕ → ℕ) : Phase → Type 0 where
   at-read : s .place ≡ b → PushRelated m s b ℓ items x nx read
   at-next : {n : ℕ} → s .place ≡ b + 1 → HeadNoted m ℓ (s .noted .head) n → s .noted .head .item ≤ items
       → PushRelated m s b ℓ items x nx (next n)
-  at-exchange : {n : ℕ} → s .place ≡ b + 2 → HeadNoted m ℓ (s .noted .head) n → s .noted .head .item ≤ items → nx x ≡ s .noted .head .item
+  at-exchange : {n : ℕ} → s .place ≡ b + 2 → HeadNoted m ℓ (s .noted .head) n → s .noted .head .item ≤ items
+      → nx x ≡ s .noted .head .item
       → PushRelated m s b ℓ items x nx (exchange n)
 
 -- the index by which an anchor names a chain's first block, which is given plus one, or 0 for none: n for none
@@ -97,18 +101,22 @@ pub data WorkRelated (regions : ℕ) (a : Memory) (m : Mem) (s : Slot) : Work �
       → WorkRelated regions a m s (popping (spare (s .class)) φ)
   r-region : {φ : Phase} → PopRelated m s POP-REGION SPARE-REGIONS regions φ
       → WorkRelated regions a m s (popping (Pop.region (s .class) (s .hand .descriptor)) φ)
-  r-retire : {φ : Phase} → PushRelated m s PUSH-RETIRE SPARE-DESCRIPTORS DESCRIPTORS (s .hand .descriptor) (a .lists .descriptorNext) φ
+  r-retire : {φ : Phase} → PushRelated m s PUSH-RETIRE SPARE-DESCRIPTORS DESCRIPTORS (s .hand .descriptor)
+      (a .lists .descriptorNext) φ
       → WorkRelated regions a m s (pushing (retire (s .class) (s .hand .descriptor)) φ)
-  r-back : {φ : Phase} → PushRelated m s PUSH-BACK SPARE-DESCRIPTORS DESCRIPTORS (s .hand .descriptor) (a .lists .descriptorNext) φ
+  r-back : {φ : Phase} → PushRelated m s PUSH-BACK SPARE-DESCRIPTORS DESCRIPTORS (s .hand .descriptor)
+      (a .lists .descriptorNext) φ
       → WorkRelated regions a m s (pushing (back (s .class) (s .hand .descriptor)) φ)
   r-release : {w : State} {φ : Phase} → s .hand .state ≡ numberOf w
       → PushRelated m s PUSH-RELEASE SPARE-REGIONS regions (s .hand .region) (a .lists .regionNext) φ
       → WorkRelated regions a m s (pushing (release (s .class) (s .unit) (s .hand .descriptor) w (s .hand .region)) φ)
-  r-offer : {φ : Phase} → PushRelated m s PUSH-OFFER (s .class) DESCRIPTORS (s .hand .descriptor) (a .lists .descriptorNext) φ
+  r-offer : {φ : Phase} → PushRelated m s PUSH-OFFER (s .class) DESCRIPTORS (s .hand .descriptor)
+      (a .lists .descriptorNext) φ
       → WorkRelated regions a m s (pushing (offer (s .class) (s .unit) (s .hand .descriptor)) φ)
   r-a3-read : s .place ≡ A3-READ → WorkRelated regions a m s (a3-read (s .class) (s .hand .descriptor))
   -- the noted anchor is PARTIAL, names a block, and counts 1 to n
-  r-a3-exchange : {n : Note} → s .place ≡ A3-EXCHANGE → NoteRelated m (s .class) (s .hand .descriptor) n (s .noted .anchor)
+  r-a3-exchange : {n : Note} → s .place ≡ A3-EXCHANGE
+      → NoteRelated m (s .class) (s .hand .descriptor) n (s .noted .anchor)
       → s .noted .anchor .state ≡ 1 → 1 ≤ s .noted .anchor .count → s .noted .anchor .count ≤ perRegion (s .class)
       → s .noted .anchor .avail < perRegion (s .class)
       → WorkRelated regions a m s (a3-exchange (s .class) (s .hand .descriptor) n)
@@ -130,7 +138,8 @@ pub data WorkRelated (regions : ℕ) (a : Memory) (m : Mem) (s : Slot) : Work �
       → WorkRelated regions a m s (f3-link (s .class) (s .unit) y g (s .hand .descriptor) n)
   r-f3-exchange : {y : ℕ} {g : List ℕ} {n : Note} → s .place ≡ F3-EXCHANGE → (G : GroupRelated a s y g)
       → NoteRelated m (s .class) (s .hand .descriptor) n (s .noted .anchor)
-      → s .group .count + s .noted .anchor .count ≤ perRegion (s .class) → link (a .area) (G .last) ≡ s .noted .anchor .avail
+      → s .group .count + s .noted .anchor .count ≤ perRegion (s .class)
+      → link (a .area) (G .last) ≡ s .noted .anchor .avail
       → WorkRelated regions a m s (f3-exchange (s .class) (s .unit) y g (s .hand .descriptor) n)
   r-f4-clear : {w : State} → s .place ≡ F4-CLEAR → s .hand .state ≡ numberOf w
       → WorkRelated regions a m s (f4-clear (s .class) (s .unit) (s .hand .descriptor) w (s .hand .region))

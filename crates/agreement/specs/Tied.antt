@@ -10,8 +10,9 @@ use Rattle.stepped.specs.Outcome.{Memories}
 use Rattle.agreement.specs.Memory.{memoryOf}
 use Rattle.agreement.specs.Relation.{Related}
 
--- The control memory has its length and holds bytes; the started numbers of tasks and regions are the plain pool's; the plain
--- pool has its invariant; and, once it is started, the fields and links are in relation with the plain pool's rows.
+-- The control memory has its length and holds bytes; the started numbers of tasks and regions are the plain pool's; the
+-- plain pool has its invariant; and, once it is started, the fields and links are in relation with the plain pool's
+-- rows.
 pub record Tied (s₁ : Memories) (s : Pool) : Type 0 where
   pub length : Control (s₁ .control)
   pub bytes : Bytes (s₁ .control)

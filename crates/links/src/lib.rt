@@ -35,7 +35,8 @@ fn write_in_part(part: &mut [u8], unit: usize, to: u32)
 // Writes a link by lending the region's own part of the area. Caller: the carving step, which has tested that the
 // region is one of the area's.
 pub fn write_in_region(area: &mut [u8], region: usize, unit: usize, to: u32)
-    requires { ⌜ (region < REGIONS) × (REGION-BYTES * region + REGION-BYTES ≤ length (now area)) × (unit < REGION-UNITS) ⌝ }
+    requires { ⌜ (region < REGIONS) × (REGION-BYTES * region + REGION-BYTES ≤ length (now area))
+        × (unit < REGION-UNITS) ⌝ }
     ensures { λ r. ⌜ now (area .exit) ≡ withLink (now (area .entry)) (REGION-UNITS * region + unit) to ⌝ }
 {
     let start = limits::REGION_BYTES * region;

@@ -81,8 +81,8 @@ PushNote won read = Unit {0}
 PushNote won (next n) = n ≤ won
 PushNote won (exchange n) = n ≤ won
 
--- What holds of the note of a task that has h under way. Where an allocate noted the anchor of a descriptor, it has it in
--- hand; where a free did, the map still names it for the region of a block under way.
+-- What holds of the note of a task that has h under way. Where an allocate noted the anchor of a descriptor, it has it
+-- in hand; where a free did, the map still names it for the region of a block under way.
 abbrev pub NotedHolds : (ℕ → List ℕ) → (won map : ℕ → ℕ) → Held → Noted → Type 0
 NotedHolds row won map h unnoted = Unit {0}
 NotedHolds row won map h (pop-noted p φ) = PopNote (row (popList p)) (won (popList p)) φ

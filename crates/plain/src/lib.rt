@@ -1,1 +1,2 @@
-// The plain pool: document 01's whole run, as definitions. It has no code; the crates above compare the code's pool with it.
+// The plain pool: document 01's whole run, as definitions. It has no code; the crates above compare the code's pool
+// with it.

@@ -10,9 +10,11 @@ use Rattle.stepped.specs.Outcome.{Outcome}
 use Rattle.stepped.specs.Done.{Done, DoneIn, NumberIn}
 
 -- the definition's outcome is o′, whose answer, writes and links are those of the code
-pub done : {o o′ : Outcome} {before after : List ℕ} {r : Answer} → o ≡ o′ → r ≡ o′ .answer → after ≡ changed (o′ .writes) before
+pub done : {o o′ : Outcome} {before after : List ℕ} {r : Answer} → o ≡ o′ → r ≡ o′ .answer
+    → after ≡ changed (o′ .writes) before
     → o′ .links ≡ [] → Done o before after r
-done {before = b} {after = a} {r = r} e p q l = subst⁻¹ (λ (x : Outcome). Done x b a r) e (record { answer = p; control = q; links = l })
+done {before = b} {after = a} {r = r} e p q l =
+    subst⁻¹ (λ (x : Outcome). Done x b a r) e (record { answer = p; control = q; links = l })
 
 pub done-in : {o o′ : Outcome} {c a c′ a′ : List ℕ} {r : Answer} → o ≡ o′ → r ≡ o′ .answer → c′ ≡ changed (o′ .writes) c
     → a′ ≡ linked (o′ .links) a → DoneIn o c a c′ a′ r
@@ -20,7 +22,8 @@ done-in {c = c} {a = a} {c′ = c′} {a′ = a′} {r = r} e p q l =
     subst⁻¹ (λ (x : Outcome). DoneIn x c a c′ a′ r) e (record { answer = p; control = q; area = l })
 
 -- another function did the whole outcome
-pub does : {o o′ : Outcome} {before after : List ℕ} {r : Answer} → o ≡ o′ → Done o′ before after r → Done o before after r
+pub does : {o o′ : Outcome} {before after : List ℕ} {r : Answer} → o ≡ o′ → Done o′ before after r
+    → Done o before after r
 does {before = b} {after = a} {r = r} e d = subst⁻¹ (λ (x : Outcome). Done x b a r) e d
 
 pub does-in : {o o′ : Outcome} {c a c′ a′ : List ℕ} {r : Answer} → o ≡ o′ → DoneIn o′ c a c′ a′ r → DoneIn o c a c′ a′ r
@@ -32,9 +35,11 @@ lends {o} {c} {a} {c′} {r} d =
     record { answer = d .answer; control = d .control; area = subst⁻¹ (λ ls. a ≡ linked ls a) (d .links) refl }
 
 -- the number of what a function did and answered
-pub numbers : {o : Outcome} {c a c′ a′ : List ℕ} {r : Answer} {n : ℕ} → DoneIn o c a c′ a′ r → n ≡ numberOf r → NumberIn o c a c′ a′ n
+pub numbers : {o : Outcome} {c a c′ a′ : List ℕ} {r : Answer} {n : ℕ} → DoneIn o c a c′ a′ r → n ≡ numberOf r
+    → NumberIn o c a c′ a′ n
 numbers d e = record { number = e ∙ ap numberOf (d .answer); control = d .control; area = d .area }
 
 -- another function did the whole outcome, and answered its number
-pub numbers-in : {o o′ : Outcome} {c a c′ a′ : List ℕ} {n : ℕ} → o ≡ o′ → NumberIn o′ c a c′ a′ n → NumberIn o c a c′ a′ n
+pub numbers-in : {o o′ : Outcome} {c a c′ a′ : List ℕ} {n : ℕ} → o ≡ o′ → NumberIn o′ c a c′ a′ n
+    → NumberIn o c a c′ a′ n
 numbers-in {c = c} {a = a} {c′ = c′} {a′ = a′} {n = n} e d = subst⁻¹ (λ (x : Outcome). NumberIn x c a c′ a′ n) e d

@@ -1,4 +1,5 @@
--- Every place has its step in the step list, and every step its place: the three of a pop, and of a push, stand in a row.
+-- Every place has its step in the step list, and every step its place: the three of a pop, and of a push, stand in a
+-- row.
 use mathlib.Core.Path.{_≡_, refl}
 use Prim.Native.Nat.{ℕ, _+_}
 use lib.ListN.{length}

@@ -48,8 +48,8 @@ module _ (v : View) (link : ℕ → ℕ) (regions t c : ℕ) where
       (accept nothing (TaskPlace t := popPlace Partial ∷ []) [])
       (cond (leb k n) (a1Take k (v (CacheTop t c))) bad)
 
-  -- ---- step 3: "Read the anchor. EMPTY: push the descriptor on the spare list, then 2. Else exchange it for (FULL, n, 0);
-  -- lost: read again."
+  -- ---- step 3: "Read the anchor. EMPTY: push the descriptor on the spare list, then 2. Else exchange it for (FULL, n,
+  -- 0); lost: read again."
 
   -- the anchor of the descriptor d
   unfoldable pub a3ReadOf : ℕ → Outcome
@@ -91,8 +91,8 @@ module _ (v : View) (link : ℕ → ℕ) (regions t c : ℕ) where
       let word = v (TaskAnchor t) in
       cond (ltb d DESCRIPTORS && hasChain n word) (a3ExchangeOf d word) bad
 
-  -- ---- step 4: "Move the taken chain to the cache, one block a step in chain order; after the last, 1." The block's own link
-  -- is read before the push overwrites it.
+  -- ---- step 4: "Move the taken chain to the cache, one block a step in chain order; after the last, 1." The block's
+  -- own link is read before the push overwrites it.
 
   -- the block u, with `left` of the chain still to move, goes on top of a cache of k blocks
   unfoldable pub a4Move : ℕ → ℕ → ℕ → ℕ → Outcome
@@ -112,7 +112,8 @@ module _ (v : View) (link : ℕ → ℕ) (regions t c : ℕ) where
       let left = v (TaskLeft t) in
       let k = v (CacheCount t c) in
       let top = v (CacheTop t c) in
-      cond (ltb r regions && ltb i n && oneTo n left && ltb k n && isTop regions c k top) (a4Move (unitOf r c i) left k top) bad
+      cond (ltb r regions && ltb i n && oneTo n left && ltb k n && isTop regions c k top)
+      (a4Move (unitOf r c i) left k top) bad
 
   -- ---- step 7: "One step writes the descriptor (FULL, n, 0) and the map."
 

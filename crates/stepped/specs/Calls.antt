@@ -1,5 +1,5 @@
--- The calls of the stepped pool, with their tests in the paper's order: "Start tests 1, 2, 3. Other calls test 1, 4, 2, 5, then
--- 6 or 7, then 8, 9 or 10, 11. 14 comes where the bad value is read."
+-- The calls of the stepped pool, with their tests in the paper's order: "Start tests 1, 2, 3. Other calls test 1, 4, 2,
+-- 5, then 6 or 7, then 8, 9 or 10, 11. 14 comes where the bad value is read."
 use Prim.Native.Nat.{ℕ, _*_, _/_, _%_, _-_, _≤_, _<_}
 use mathlib.Core.Path.{_≡_}
 use mathlib.Core.Bool.{cond, _&&_}
@@ -109,8 +109,8 @@ beginFree v regions t u = cond (ltb (regionOf u) regions) (freeEntry v regions t
 
 -- ---- the calls, from the bytes that are lent to the bytes that they leave
 
--- "1 control not 8,192 bytes; 2 area length zero, no multiple of 4,096 or above 65,536; 3 tasks not 1 to 8". An accepted start
--- is lent the area and leaves it as it is; a refused one leaves the memories `control` and `before`.
+-- "1 control not 8,192 bytes; 2 area length zero, no multiple of 4,096 or above 65,536; 3 tasks not 1 to 8". An
+-- accepted start is lent the area and leaves it as it is; a refused one leaves the memories `control` and `before`.
 unfoldable pub startIn : ℕ → List ℕ → ℕ → List ℕ → List ℕ → Effect
 startIn size area tasks control before =
     let bytes = length area in
@@ -132,8 +132,8 @@ freeOutcome control area v t u = tested control area v t (whenIdle v t (beginFre
 unfoldable pub stepOutcome : ℕ → ℕ → View → (ℕ → ℕ) → ℕ → Outcome
 stepOutcome control area v link t = tested control area v t (Steps.step v link (v Regions) t)
 
--- What a call is lent: a control memory of so many bytes, and an area. A start takes the area for the pool's; of any other
--- call the area's length alone matters.
+-- What a call is lent: a control memory of so many bytes, and an area. A start takes the area for the pool's; of any
+-- other call the area's length alone matters.
 pub record Lent : Type 0 where
   pub control : ℕ
   pub area : List ℕ

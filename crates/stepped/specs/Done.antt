@@ -10,7 +10,8 @@ use Rattle.control.specs.Answers.{numberOf}
 use Rattle.control.specs.declared.answer.Answer.{Answer}
 use Rattle.stepped.specs.Outcome.{Outcome}
 
--- a control memory, r started regions, and a task t whose request is of the class c; the tests of the call have shown it
+-- a control memory, r started regions, and a task t whose request is of the class c; the tests of the call have shown
+-- it
 pub record Given (memory : List ℕ) (r t c : ℕ) : Type 0 where
   pub control : length memory ≡ CONTROL-BYTES
   pub some : 1 ≤ r
@@ -23,8 +24,8 @@ pub record Lent (memory blocks : List ℕ) (r t c : ℕ) : Type 0 where
   pub given : Given memory r t c
   pub area : length blocks ≡ REGION-BYTES * r
 
--- A function that is handed the control memory alone: its answer and every byte afterwards are those of the outcome, which
--- writes no link.
+-- A function that is handed the control memory alone: its answer and every byte afterwards are those of the outcome,
+-- which writes no link.
 pub record Done (o : Outcome) (before after : List ℕ) (r : Answer) : Type 0 where
   pub answer : r ≡ o .answer
   pub control : after ≡ changed (o .writes) before

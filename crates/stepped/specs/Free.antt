@@ -91,8 +91,8 @@ module _ (v : View) (link : ℕ → ℕ) (regions t c : ℕ) where
       (cond (eqb k 0) f2Close (f2Top k (v (CacheTop t c)) g))
       bad
 
-  -- ---- step 3: "Read the anchor. Write the last link to its avail. Exchange: avail is the group's first, count grows by the
-  -- group, state is EMPTY if count is now n, else PARTIAL. Lost: read again."
+  -- ---- step 3: "Read the anchor. Write the last link to its avail. Exchange: avail is the group's first, count grows
+  -- by the group, state is EMPTY if count is now n, else PARTIAL. Lost: read again."
 
   -- the anchor of the descriptor d, for a group of g blocks
   unfoldable pub f3ReadOf : ℕ → ℕ → Outcome
@@ -126,7 +126,8 @@ module _ (v : View) (link : ℕ → ℕ) (regions t c : ℕ) where
   f3Won d word first g =
       let a = anchorOf word in
       let ws = Anchor d := anchorWord (returned a first g n) ∷ TaskState t := a .state ∷ [] in
-      cond (eqb (a .count + g) n) (accept (gave d) (TaskPlace t := F4-CLEAR ∷ ws) []) (f5 v regions t c (a .state) (gave d) ws)
+      cond (eqb (a .count + g) n) (accept (gave d) (TaskPlace t := F4-CLEAR ∷ ws) [])
+      (f5 v regions t c (a .state) (gave d) ws)
 
   unfoldable pub f3ExchangeOf : ℕ → ℕ → ℕ → ℕ → Outcome
   f3ExchangeOf d word first g =
@@ -142,9 +143,11 @@ module _ (v : View) (link : ℕ → ℕ) (regions t c : ℕ) where
       let word = v (TaskAnchor t) in
       let first = v (GroupFirst t) in
       let g = v (GroupCount t) in
-      cond (ltb d DESCRIPTORS && ltb first n && oneTo n g && isAnchor word && hasRoom n g word) (f3ExchangeOf d word first g) bad
+      cond (ltb d DESCRIPTORS && ltb first n && oneTo n g && isAnchor word && hasRoom n g word)
+      (f3ExchangeOf d word first g) bad
 
-  -- ---- step 4: "If now EMPTY: one step clears the map entry of the group's region, then push that region on its spare list."
+  -- ---- step 4: "If now EMPTY: one step clears the map entry of the group's region, then push that region on its spare
+  -- list."
 
   unfoldable pub f4Clear : Outcome
   f4Clear =

@@ -1,5 +1,6 @@
--- The pops and pushes of the step list, each in three steps. "Pop of a list: read head (this finds an empty list); read the
--- item's next; exchange. Push: read head; write the item's next; exchange. A lost exchange goes back to the head read."
+-- The pops and pushes of the step list, each in three steps. "Pop of a list: read head (this finds an empty list); read
+-- the item's next; exchange. Push: read head; write the item's next; exchange. A lost exchange goes back to the head
+-- read."
 use Prim.Native.Nat.{ℕ, _+_, _-_}
 use mathlib.Core.Bool.{cond, _&&_}
 use mathlib.Core.List.{List, [], _∷_}

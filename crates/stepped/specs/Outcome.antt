@@ -8,8 +8,8 @@ use Rattle.control.specs.Layout.{changed}
 use Rattle.control.specs.declared.answer.Answer.{Answer}
 use Rattle.control.specs.declared.answer.Answer.the-variants.{Accepted, Refused}
 
--- The answer, the move that was decided, the fields of the control memory that are written, and the links that are written in
--- the area. Nothing else changes.
+-- The answer, the move that was decided, the fields of the control memory that are written, and the links that are
+-- written in the area. Nothing else changes.
 pub record Outcome : Type 0 where
   pub answer : Answer
   pub decided : Decided

@@ -1,6 +1,6 @@
--- The tests whose failure is 14: "a value read for this call is outside its field's range, or names none, or no block of the
--- class, where one is due; a count would pass n; an anchor to take a chain from is FULL, or PARTIAL with count 0; or a link is
--- outside 0 to n − 1 while more blocks are due". docs/LAYOUT.md has the ranges.
+-- The tests whose failure is 14: "a value read for this call is outside its field's range, or names none, or no block
+-- of the class, where one is due; a count would pass n; an anchor to take a chain from is FULL, or PARTIAL with count
+-- 0; or a link is outside 0 to n − 1 while more blocks are due". docs/LAYOUT.md has the ranges.
 use Prim.Native.Nat.{ℕ, _+_}
 use mathlib.Core.Bool.{Bool, cond, _&&_, _||_}
 use lib.Dec.{ltb, leb, eqb}
@@ -16,8 +16,8 @@ oneTo most x = leb 1 x && leb x most
 abbrev pub isBlock : ℕ → ℕ → ℕ → Bool
 isBlock regions c u = ltb (regionOf u) regions && isFirst c u
 
--- the top of k cached blocks, as a cache's field or the link of the block above names it: "the unit of the block below, with
--- 8,192 at the bottom"
+-- the top of k cached blocks, as a cache's field or the link of the block above names it: "the unit of the block below,
+-- with 8,192 at the bottom"
 abbrev pub isTop : ℕ → ℕ → ℕ → ℕ → Bool
 isTop regions c k u = cond (eqb k 0) (eqb u UNITS) (isBlock regions c u)
 
@@ -25,7 +25,8 @@ isTop regions c k u = cond (eqb k 0) (eqb u UNITS) (isBlock regions c u)
 abbrev pub isAnchor : ℕ → Bool
 isAnchor w = isState (anchorOf w .state) && leb (anchorOf w .avail) MOST-BLOCKS && leb (anchorOf w .count) MOST-BLOCKS
 
--- a chain can be taken: the anchor is not "FULL, or PARTIAL with count 0", avail names a block, and the count does not pass n
+-- a chain can be taken: the anchor is not "FULL, or PARTIAL with count 0", avail names a block, and the count does not
+-- pass n
 abbrev pub hasChain : ℕ → ℕ → Bool
 hasChain n w = eqb (anchorOf w .state) PARTIAL && oneTo n (anchorOf w .count) && ltb (anchorOf w .avail) n
 

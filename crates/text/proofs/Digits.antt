@@ -1,4 +1,4 @@
--- The laws of a number's decimal text. Assumes nothing.
+-- The laws of a number's decimal text.
 use Prim.Native.Nat.{ℕ, zero, suc, _+_, _/_, _%_, _^_, _≤_, _<_}
 use mathlib.Core.Path.{_≡_, ap, _∙_}
 use mathlib.Core.List.{List, [], _∷_, _++_}
@@ -17,7 +17,8 @@ enough zero g n h k = absurd (omega arith)
 enough (suc f) zero n h k = absurd (omega arith)
 enough (suc f) (suc g) n h k = elim (decLt n 10) [
   | yes d ↦ rw (lt-ltb n 10 d)
-  | no d ↦ rw (le-ltb n 10 (omega arith)) (ap (λ (l : List ℕ). l ++ (48 + n % 10) ∷ []) (enough f g (n / 10) (omega arith) (omega arith)))
+  | no d ↦ rw (le-ltb n 10 (omega arith))
+      (ap (λ (l : List ℕ). l ++ (48 + n % 10) ∷ []) (enough f g (n / 10) (omega arith) (omega arith)))
 ]
 
 pub one-digit : (n : ℕ) → n < 10 → decimal n ≡ (48 + n) ∷ []
@@ -27,7 +28,8 @@ one-digit n h = rw (lt-ltb n 10 h)
 pub last-digit : (n : ℕ) → 10 ≤ n → decimal n ≡ decimal (n / 10) ++ (48 + n % 10) ∷ []
 unfolding digits
 last-digit n h =
-    rw (le-ltb n 10 h) (ap (λ (l : List ℕ). l ++ (48 + n % 10) ∷ []) (enough n (suc (n / 10)) (n / 10) (omega arith) (omega arith)))
+    rw (le-ltb n 10 h)
+    (ap (λ (l : List ℕ). l ++ (48 + n % 10) ∷ []) (enough n (suc (n / 10)) (n / 10) (omega arith) (omega arith)))
 
 pub one-longer : (n : ℕ) → 10 ≤ n → length (decimal n) ≡ length (decimal (n / 10)) + 1
 one-longer n h = ap length (last-digit n h) ∙ length-append (decimal (n / 10)) ((48 + n % 10) ∷ [])
@@ -45,7 +47,12 @@ short (suc f) k n h = elim (decLt n 10) [
         → length (digits f (n / 10) ++ (48 + n % 10) ∷ []) ≤ suc k
     longer zero h d front = absurd (omega arith)
     longer (suc k) h d front =
-        omega (arith, length-append (digits f (n / 10)) ((48 + n % 10) ∷ []), front k (omega (arith, pow-succ' 10 (suc k))))
+        omega (
+          arith,
+          length-append (digits f (n / 10)) ((48 + n % 10) ∷ []),
+          front k
+              (omega (arith, pow-succ' 10 (suc k))),
+        )
 
 -- a number of 64 bits has at most 20 digits
 pub twenty : (n : ℕ) → n < 2 ^ 64 → length (decimal n) ≤ 20

@@ -1,5 +1,4 @@
 -- A number's decimal text is what it should be: read as decimal it says the number, and no zero stands in front.
--- Assumes nothing.
 use Prim.Native.Nat.{ℕ, zero, suc, _+_, _*_, _-_, _/_, _%_, _≤_, _<_}
 use mathlib.Core.Path.{_≡_, refl}
 use mathlib.Core.List.{List, [], _∷_, _++_}
@@ -23,7 +22,8 @@ unfolding digits
 digits-value zero n h = absurd (omega arith)
 digits-value (suc f) n h = elim (decLt n 10) [
   | yes d ↦ rw (lt-ltb n 10 d) (omega arith)
-  | no d ↦ rw (le-ltb n 10 (omega arith)) (omega (arith, value-last 0 (digits f (n / 10)) (48 + n % 10), digits-value f (n / 10) (omega arith)))
+  | no d ↦ rw (le-ltb n 10 (omega arith))
+      (omega (arith, value-last 0 (digits f (n / 10)) (48 + n % 10), digits-value f (n / 10) (omega arith)))
 ]
 
 pub reads-back : (n : ℕ) → value 0 (decimal n) ≡ n
@@ -38,7 +38,8 @@ unfolding digits
 digits-first zero n h k = absurd (omega arith)
 digits-first (suc f) n h k = elim (decLt n 10) [
   | yes d ↦ rw (lt-ltb n 10 d) (omega arith)
-  | no d ↦ rw (le-ltb n 10 (omega arith)) (front (digits f (n / 10)) ((48 + n % 10) ∷ []) (digits-first f (n / 10) (omega arith) (omega arith)))
+  | no d ↦ rw (le-ltb n 10 (omega arith))
+      (front (digits f (n / 10)) ((48 + n % 10) ∷ []) (digits-first f (n / 10) (omega arith) (omega arith)))
 ]
 
 -- the first digit of a number that is not 0 is 1 at least

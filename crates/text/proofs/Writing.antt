@@ -1,4 +1,4 @@
--- The laws of writing texts one behind the other. Assumes nothing.
+-- The laws of writing texts one behind the other.
 use Prim.Native.Nat.{ℕ, _+_, _-_, _≤_, _<_}
 use mathlib.Core.Path.{refl, sym, ap, _∙_}
 use mathlib.Core.List.{List, [], _∷_, _++_, append-assoc, append-nil}
@@ -21,11 +21,15 @@ module _ {before after : List ℕ} {at r : ℕ} {text : List ℕ} (w : Appended 
     same-length = length-set after r v ∙ w .same-length;
     end = omega (arith, length-append text (v ∷ []), w .end);
     within = omega (arith, length-set after r v);
-    text-is = rw (add-one) (take-suc-set after r v h ∙ ap (λ (l : List ℕ). l ++ v ∷ []) (w .text-is) ∙ append-assoc (take at before) text (v ∷ []));
+    text-is =
+        rw (add-one)
+        (take-suc-set after r v h ∙ ap (λ (l : List ℕ). l ++ v ∷ []) (w .text-is)
+        ∙ append-assoc (take at before) text (v ∷ []));
   }
 
   -- another text behind it
-  pub both : {last : List ℕ} {q : ℕ} {more : List ℕ} → Appended after last r more q → Appended before last at (text ++ more) q
+  pub both : {last : List ℕ} {q : ℕ} {more : List ℕ} → Appended after last r more q
+      → Appended before last at (text ++ more) q
   both {last} {q} {more} x = record {
     same-length = x .same-length ∙ w .same-length;
     end = omega (arith, length-append text more, w .end, x .end);
@@ -35,12 +39,14 @@ module _ {before after : List ℕ} {at r : ℕ} {text : List ℕ} (w : Appended 
 
 -- one byte more of a text that is copied byte by byte
 pub next : {before after : List ℕ} {at : ℕ} (text : List ℕ) (i : ℕ) → Appended before after at (take i text) (at + i)
-    → i < length text → at + i < length after → Appended before (set after (at + i) (getD text i 0)) at (take (i + 1) text) (at + (i + 1))
+    → i < length text → at + i < length after
+    → Appended before (set after (at + i) (getD text i 0)) at (take (i + 1) text) (at + (i + 1))
 next {before} {after} {at} text i w h k =
     rw (add-one i, take-suc text i 0, ← add-one i, ← add-assoc at i 1) (one-more w (getD text i 0) k)
 
 -- a text at the start of the part that begins at `at`, put back
-pub at-part : (out part text : List ℕ) (at r : ℕ) → at ≤ length out → Appended (midOf at (length out - at) out) part 0 text r
+pub at-part : (out part text : List ℕ) (at r : ℕ) → at ≤ length out
+    → Appended (midOf at (length out - at) out) part 0 text r
     → Appended out (putMid at (length out - at) out part) at text (at + r)
 at-part out part text at r h w =
     let k = length out - at in

@@ -1,5 +1,4 @@
 -- The lines of the stand's table. The character 32 is a space, 10 the end of a line.
--- Assumes nothing.
 use Prim.Native.Nat.{ℕ}
 use mathlib.Core.List.{List, [], _∷_, _++_}
 use Rattle.text.specs.Numbers.{decimal}

@@ -1,5 +1,4 @@
 -- Numbers as text, and what it is to write a text into bytes.
--- Assumes nothing.
 use Prim.Native.Nat.{ℕ, zero, suc, _+_, _/_, _%_, _≤_}
 use mathlib.Core.Path.{_≡_}
 use mathlib.Core.Bool.{cond}
@@ -16,8 +15,8 @@ digits (suc f) n = cond (ltb n 10) ((48 + n) ∷ []) (digits f (n / 10) ++ (48 +
 abbrev pub decimal : ℕ → List ℕ
 decimal n = digits (suc n) n
 
--- What a function ensures that writes a text into `before` from the byte `at` on, which leaves `after`, and answers r. With `at` 0
--- the first r bytes are the text.
+-- What a function ensures that writes a text into `before` from the byte `at` on, which leaves `after`, and answers r.
+-- With `at` 0 the first r bytes are the text.
 pub record Appended (before after : List ℕ) (at : ℕ) (text : List ℕ) (r : ℕ) : Type 0 where
   pub same-length : length after ≡ length before
   pub end : r ≡ at + length text

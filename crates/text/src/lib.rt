@@ -1,5 +1,5 @@
-// The text of the stand's table, written into bytes that the caller lends. Each function writes from the byte `at` on, or
-// from the first, and answers where its text ends.
+// The text of the stand's table, written into bytes that the caller lends. Each function writes from the byte `at` on,
+// or from the first, and answers where its text ends.
 ghost use Prim.Native.Nat.{_+_, _≤_};
 ghost use lib.ListN.{length};
 ghost use Rattle.text.specs.Numbers.{decimal as decimalText, Appended};

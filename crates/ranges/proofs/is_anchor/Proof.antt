@@ -23,4 +23,5 @@ returns-3 c =
     rw (← anchor-count (p .before .args .word) (omega (arith, e)) (omega (arith, e)), e .count)
 
 pub is-anchor-spec : {M : Type 1} → statement M
-is-anchor-spec = tie.close (tie.spec (λ c κs. search needs) returns (λ c. search needs) (λ c. search needs) returns-2 returns-3)
+is-anchor-spec =
+    tie.close (tie.spec (λ c κs. search needs) returns (λ c. search needs) (λ c. search needs) returns-2 returns-3)

@@ -1,4 +1,4 @@
--- The proof of `decimal`, which calls itself with all digits but the last: the measure is the number. Assumes nothing.
+-- The proof of `decimal`, which calls itself with all digits but the last: the measure is the number.
 use Prim.Native.Nat.{ℕ, _+_, _%_, _<_}
 use mathlib.Core.Path.{ap}
 use native.Mathlib.Omega.{arith}
@@ -57,7 +57,8 @@ decimal-returns :
 decimal-returns t c =
     let start = c .before .before in
     let e = one-digit (start .args .number) (omega arith) in
-    rw e (one-more (none (start .args .out .now) (start .args .at) (omega arith)) (48 + start .args .number) (omega (arith, ap length e)))
+    rw e (one-more (none (start .args .out .now) (start .args .at) (omega arith)) (48 + start .args .number)
+    (omega (arith, ap length e)))
 
 decimal-decimal-requires : (t : ℕ) → decimal-lts.Need-decimal-requires (
   decimal-below t,

@@ -1,4 +1,4 @@
--- The number's digits, at most twenty, and the byte behind them. Assumes nothing.
+-- The number's digits, at most twenty, and the byte behind them.
 use native.Mathlib.Omega.{arith}
 use borrow.Author.Needs.{needs}
 use Rattle.text.proofs.Digits.{twenty}
@@ -14,7 +14,11 @@ decimal-requires c κs =
 slice-write-out : tie.Need-slice-write-out
 slice-write-out c =
     let start = c .before .before .before .before .before in
-    omega (arith, twenty (start .args .number) (omega (arith, start .fits .number)), c .before .before .decimal .ensures .end)
+    omega (
+      arith,
+      twenty (start .args .number) (omega (arith, start .fits .number)),
+      c .before .before .decimal .ensures .end,
+    )
 
 add-result : tie.Need-add-result
 add-result c = search needs

@@ -1,4 +1,4 @@
--- The four numbers one behind the other. Assumes nothing.
+-- The four numbers one behind the other.
 use borrow.Author.Needs.{needs}
 use Rattle.text.specs.Lines.{lineText}
 use Rattle.text.proofs.Writing.{both}

@@ -1,4 +1,4 @@
--- The word and the three numbers one behind the other. Assumes nothing.
+-- The word and the three numbers one behind the other.
 use borrow.Author.Needs.{needs}
 use Rattle.text.specs.Lines.{totalText}
 use Rattle.text.proofs.Writing.{both}

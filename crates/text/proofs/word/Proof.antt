@@ -1,4 +1,4 @@
--- At the head of the loop as many bytes of the text as i says are written. Assumes nothing.
+-- At the head of the loop as many bytes of the text as i says are written.
 use Prim.Native.Nat.{_+_, _-_, _≤_}
 use native.Mathlib.Omega.{arith}
 use native.Mathlib.Nat.{add-zero}
