@@ -17,8 +17,8 @@ use Rattle.words.specs.Anchor.{Fields, anchorOf, anchorWord, full}
 use Rattle.words.proofs.Anchors.{anchor-of-word, full-fits, anchor-below}
 use Rattle.words.specs.declared.anchor.Anchor.{Anchor}
 use Rattle.classes.specs.Classes.{perRegion}
-use Rattle.classes.specs.Places.{indexOf}
-use Rattle.classes.proofs.Places.{index-below}
+use Rattle.classes.specs.Geometry.{indexOf}
+use Rattle.classes.proofs.BlockUnits.{index-below}
 use Rattle.classes.proofs.Tables.{perRegion-high}
 use Rattle.links.specs.Link.{link}
 use Rattle.plain.specs.State.{State, EMPTY, PARTIAL, FULL, numberOf, Note, read, retire, Place, pushing, a3-read}
@@ -41,7 +41,7 @@ use Rattle.control.specs.Places.{PUSH-RETIRE, A3-READ, A3-EXCHANGE, A4}
 use Rattle.stepped.specs.Ranges.{isAnchor, hasChain}
 use Rattle.stepped.specs.Outcome.{accept}
 use Rattle.stepped.specs.Allocate as Allocate
-use Rattle.agreement.specs.Memory.{slotOf, memoryOf}
+use Rattle.agreement.specs.Contents.{slotOf, contentsOf}
 use Rattle.agreement.specs.Relation.{PushRelated, NoteRelated, ChainRelated, r-retire, r-a3-read, r-a3-exchange}
 use Rattle.agreement.specs.Relation.{r-a4, r-working}
 use Rattle.agreement.proofs.Slots.{toPlace, toAnchor, toChain}
@@ -216,13 +216,13 @@ module _ {regions : ℕ} {v : View} {area : List ℕ} {m : Mem} {t : ℕ} {k : �
         keeps = (refl, refl);
         rel = shares w
             (TaskPlace t := A4 ∷ Layout.Anchor d := anchorWord (full (perRegion c)) ∷ own)
-            s (working (a4 c x q)) (setAnchor d (full (perRegion c)) (memoryOf v area))
+            s (working (a4 c x q)) (setAnchor d (full (perRegion c)) (contentsOf v area))
             (setDescriptor d (chained E FULL []) m)
             (anchoring (w .pair) d (full (perRegion c)) (chained E FULL []) s (taskOf (working (a4 c x q)) k) (T .fits)
             refl refl refl
             (record { linked = ends (ap perRegion (T .class)); counts = refl }) (perRegion-high c) (omega arith))
             (anchor-written v S area d (anchorWord (full (perRegion c)))
-            ∙ ap (λ (z : Anchor). withSlots S (setAnchor d z (memoryOf v area))) (full-read c))
+            ∙ ap (λ (z : Anchor). withSlots S (setAnchor d z (contentsOf v area))) (full-read c))
             refl refl (rw (eq-eqb t t refl)) (λ j n. rw (ne-eqb t j n)) refl refl
             (r-working (r-a4 refl (subst (Linked (link area) (indexOf c) (perRegion c) (b .avail)) i lk)
             (sym (same .1) ∙ C .counts ∙ ap length i) (λ y. omega (arith, inside y, ap (count y) i))));

@@ -17,7 +17,7 @@ use Rattle.words.specs.Mark.{bitAt, isSet, withClear}
 use Rattle.words.proofs.Marks.{clear-below}
 use Rattle.classes.specs.Classes.{units, perRegion}
 use Rattle.classes.specs.Sizes.{classOf}
-use Rattle.classes.specs.Places.{regionOf, indexOf, isFirst}
+use Rattle.classes.specs.Geometry.{regionOf, indexOf, isFirst}
 use Rattle.classes.proofs.Sizes.{is-class}
 use Rattle.plain.specs.State.{State, EMPTY, PARTIAL, FULL, numberOf, Place, idle, a1, f1, Mem, Task, setTask, setHands}
 use Rattle.plain.specs.State.{working}
@@ -32,7 +32,7 @@ use Rattle.control.specs.Places.{IDLE, A1, F1, PLACES}
 use Rattle.stepped.specs.Outcome.{Outcome, refuse}
 use Rattle.stepped.specs.Ranges.{isAnchor}
 use Rattle.stepped.specs.Calls as Stepped
-use Rattle.agreement.specs.Memory.{TaskCaches, Slot, Memory, slotOf, memoryOf}
+use Rattle.agreement.specs.Contents.{TaskCaches, Slot, Contents, slotOf, contentsOf}
 use Rattle.agreement.specs.Relation
 use Rattle.agreement.specs.Relation.{CachesRelated, PlaceRelated, r-idle, r-a1, r-f1, SlotRelated, Related}
 use Rattle.agreement.specs.Relation.{r-working}
@@ -47,14 +47,14 @@ use Rattle.agreement.proofs.Both.{Both, pass, meet, choose, decide}
 use Rattle.agreement.proofs.Turns.{At}
 use Rattle.agreement.proofs.WorkPlaces.{work-place}
 
-module _ {regions : ℕ} {v : View} {area : List ℕ} {m : Mem} (R : Related regions (memoryOf v area) m) where
+module _ {regions : ℕ} {v : View} {area : List ℕ} {m : Mem} (R : Related regions (contentsOf v area) m) where
   -- a refused call changes nothing
   pub refusal : (n : ℕ) → Both regions v area m (refuse n) (m, refused n)
   refusal n = record { says = refl; rel = R; keeps = (refl, refl); sound = tt; apart = tt }
 
   module _ (t : ℕ) (x : Outcome) (y : Result) where
     -- "6 the task has a request in hand"
-    pub when-idle : (p : Place) → PlaceRelated regions (memoryOf v area) m (slotOf v t) p
+    pub when-idle : (p : Place) → PlaceRelated regions (contentsOf v area) m (slotOf v t) p
         → (p ≡ idle → Both regions v area m x y)
         → Both regions v area m (Stepped.whenIdle v t x) (Plain.whenIdle p y m)
     unfolding Stepped.whenIdle
@@ -68,11 +68,11 @@ module _ {regions : ℕ} {v : View} {area : List ℕ} {m : Mem} (R : Related reg
 
 module _ {regions : ℕ} {v : View} {area : List ℕ} {m : Mem} {t : ℕ} {k : ℕ → List ℕ}
     (w : At regions v area m t idle k) where
-  abbrev R : Related regions (memoryOf v area) m
+  abbrev R : Related regions (contentsOf v area) m
   R = w .pair .rel
 
   -- a task's part with its caches as they were, and another class
-  begun : (a′ : Memory) (m′ : Mem) (s : Slot) (p : Place) → a′ .area ≡ area → s .class < CLASSES
+  begun : (a′ : Contents) (m′ : Mem) (s : Slot) (p : Place) → a′ .area ≡ area → s .class < CLASSES
       → s .caches ≡ slotOf v t .caches
       → PlaceRelated regions a′ m′ s p → SlotRelated regions a′ m′ s (taskOf p k)
   begun a′ m′ s p e f g pl = record {
@@ -96,11 +96,11 @@ module _ {regions : ℕ} {v : View} {area : List ℕ} {m : Mem} {t : ℕ} {k : �
       record {
         says = refl;
         rel =
-            subst (λ (z : Memory). Related regions z
+            subst (λ (z : Contents). Related regions z
             (setTask t (record { place = working (a1 (classOf size)); cache = m .task t .cache }) m))
-            (sym (becomes v (assigned ws v) area t s (memoryOf v area) refl refl (rw (eq-eqb t t refl))
+            (sym (becomes v (assigned ws v) area t s (contentsOf v area) refl refl (rw (eq-eqb t t refl))
             (λ j n. rw (ne-eqb t j n))))
-            (subst (λ (q : ℕ → List ℕ). Related regions (setSlot t s (memoryOf v area))
+            (subst (λ (q : ℕ → List ℕ). Related regions (setSlot t s (contentsOf v area))
             (setTask t (record { place = working (a1 (classOf size)); cache = q }) m)) (sym cache-is)
             (quiet (w .pair) s (taskOf (working (a1 (classOf size))) k)
             (begun _ _ s (working (a1 (classOf size))) refl l refl (r-working (r-a1 refl)))));
@@ -167,11 +167,11 @@ module _ {regions : ℕ} {v : View} {area : List ℕ} {m : Mem} {t : ℕ} {k : �
       (eq-eqb (bitAt (v (Marks (u / 64))) (u % 64)) 1 (mark ∙ one))
       (record {
         says = refl;
-        rel = subst (λ (z : Memory). Related regions z (freed c .0))
-            (sym (becomes v (assigned ws v) area t s (setMark u 0 (memoryOf v area))
+        rel = subst (λ (z : Contents). Related regions z (freed c .0))
+            (sym (becomes v (assigned ws v) area t s (setMark u 0 (contentsOf v area))
             (mark-clear-written v (slotOf (assigned ws v)) area u) refl (rw (eq-eqb t t refl))
             (λ j n. rw (ne-eqb t j n))))
-            (subst (λ (q : ℕ → List ℕ). Related regions (setSlot t s (setMark u 0 (memoryOf v area)))
+            (subst (λ (q : ℕ → List ℕ). Related regions (setSlot t s (setMark u 0 (contentsOf v area)))
             (setTask t (record { place = working (f1 c u); cache = q }) (setHands u 0 m))) (sym cache-is)
             (marking (w .pair) u 0 s (taskOf (working (f1 c u)) k)
             (begun w _ _ s (working (f1 c u)) refl l refl (r-working (r-f1 refl)))));

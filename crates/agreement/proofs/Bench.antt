@@ -18,9 +18,9 @@ use Rattle.words.specs.Head.{word, tagOf, nextTag, advancedWord}
 use Rattle.words.specs.Anchor.{EMPTY, PARTIAL, full, returned}
 use Rattle.classes.specs.Classes.{units, block, perRegion}
 use Rattle.classes.specs.Sizes.{classOf, choice}
-use Rattle.classes.specs.Places.{unitOf}
+use Rattle.classes.specs.Geometry.{unitOf}
 use Rattle.classes.specs.declared.size.Choice.the-variants.{Class, Refused}
-use Rattle.classes.proofs.Bench.{Shown, bytes, number, shown, sizes, sizes-hold}
+use Rattle.classes.proofs.Bench.{Served, bytes, number, served, sizes, sizes-hold}
 use Rattle.classes.proofs.Sizes.{is-class}
 use Rattle.classes.proofs.Tables.{perRegion-high}
 use Rattle.plain.specs.State.{a1, working, Mem, setTask}
@@ -46,7 +46,7 @@ use Rattle.agreement.proofs.Runs.{steppedAnswers, wholeAnswers, answere
 
 pub data Row : Type 0 where
   -- a size, and the block that serves it or the number that refuses it
-  of-size : ℕ → Shown → Row
+  of-size : ℕ → Served → Row
   -- the first allocation of a size in a fresh pool: the step at which it finishes, and the unit
   first-allocation : (size step unit : ℕ) → Row
   -- a tag, and the tag after a won exchange
@@ -74,15 +74,15 @@ table =
 
 -- What the beginning of an allocation shows: the block of its class where the code is 0, else the number that refuses
 -- it.
-abbrev pub begins : (code class : ℕ) → Shown
+abbrev pub begins : (code class : ℕ) → Served
 begins code class = cond (eqb code 0) (bytes (block class)) (number code)
 
 -- in the stepped pool, by its answer and the class that it writes
-abbrev pub steppedBegins : View → ℕ → Outcome → Shown
+abbrev pub steppedBegins : View → ℕ → Outcome → Served
 steppedBegins v t o = begins (codeOf (o .answer)) (assigned (o .writes) v (TaskClass t))
 
 -- in the plain pool, by its answer and the class of the task's request
-abbrev pub plainBegins : ℕ → Result → Shown
+abbrev pub plainBegins : ℕ → Result → Served
 plainBegins t y = begins (y .1 .code) (classAt (y .0 .task t .place))
 
 -- what every call is lent: the control memory, and this area
@@ -119,19 +119,19 @@ Every (r ∷ q) = Holds r × Every q
 
 -- ---- sizes
 
-stepped-size : (s t : ℕ) (v : View) → steppedBegins v t (Stepped.beginAllocate t s) ≡ shown (choice s)
+stepped-size : (s t : ℕ) (v : View) → steppedBegins v t (Stepped.beginAllocate t s) ≡ served (choice s)
 unfolding Stepped.beginAllocate choice
 stepped-size s t v = by (eqb s 0) (ltb MOST-BYTES s)
   where
     by : (a b : Bool)
         → steppedBegins v t (cond a (refuse 8) (cond b (refuse 9)
         (accept nothing (TaskPlace t := A1 ∷ TaskClass t := classOf s ∷ []) [])))
-        ≡ shown (cond a (Refused 8) (cond b (Refused 9) (Class (classOf s))))
+        ≡ served (cond a (Refused 8) (cond b (Refused 9) (Class (classOf s))))
     by true b = refl
     by false true = refl
     by false false = rw (eq-eqb t t refl)
 
-plain-size : (s t : ℕ) (m : Mem) → plainBegins t (Plain.beginAllocate t s m) ≡ shown (choice s)
+plain-size : (s t : ℕ) (m : Mem) → plainBegins t (Plain.beginAllocate t s m) ≡ served (choice s)
 unfolding choice
 plain-size s t m = by (ℕ-discrete s 0) (decLt MOST-BYTES s)
   where
@@ -139,7 +139,7 @@ plain-size s t m = by (ℕ-discrete s 0) (decLt MOST-BYTES s)
         → plainBegins t
         (if a (m, refused 8)
         (if b (m, refused 9) (setTask t (taskOf (working (a1 (classOf s))) (m .task t .cache)) m, going nothing)))
-        ≡ shown (choice s)
+        ≡ served (choice s)
     by (yes e) b = rw (eq-eqb s 0 e)
     by (no e) (yes l) = rw (ne-eqb s 0 e, lt-ltb MOST-BYTES s l)
     by (no e) (no l) =
@@ -151,11 +151,11 @@ plain-size s t m = by (ℕ-discrete s 0) (decLt MOST-BYTES s)
         )
 
 -- a list of sizes that are shown as they should be
-each : (q : List (ℕ × Shown)) → map (λ r. shown (choice (r .0))) q ≡ map (λ r. r .1) q
+each : (q : List (ℕ × Served)) → map (λ r. served (choice (r .0))) q ≡ map (λ r. r .1) q
     → Every (map (λ r. of-size (r .0) (r .1)) q)
 each [] h = tt
 each (r ∷ q) h =
-    let e : shown (choice (r .0)) ≡ r .1 = cc in
+    let e : served (choice (r .0)) ≡ r .1 = cc in
     (λ t v m. (stepped-size (r .0) t v ∙ e, plain-size (r .0) t m ∙ e), each q (cc))
 
 join : (p q : List Row) → Every p → Every q → Every (p ++ q)

@@ -16,8 +16,8 @@ use Rattle.rows.proofs.Totals.{total-one}
 use Rattle.rows.proofs.Update.{update-all₂}
 use Rattle.rows.proofs.Weights.{when-same}
 use Rattle.classes.specs.Classes.{counts}
-use Rattle.classes.specs.Places.{Block, regionOf}
-use Rattle.classes.proofs.Places.{block-first, region-is}
+use Rattle.classes.specs.Geometry.{Block, regionOf}
+use Rattle.classes.proofs.BlockUnits.{block-first, region-is}
 use Rattle.links.specs.Link.{link, withLink}
 use Rattle.plain.specs.State.{Mem, Place}
 use Rattle.plain.specs.Steps.{at}
@@ -28,7 +28,7 @@ use Rattle.plain.proofs.Owners.{home-of}
 use Rattle.plain.proofs.Places.{taskOf}
 use Rattle.stepped.specs.Ranges
 use Rattle.stepped.specs.Ranges.{isTop}
-use Rattle.agreement.specs.Memory.{TaskCaches, Memory, Slot}
+use Rattle.agreement.specs.Contents.{TaskCaches, Contents, Slot}
 use Rattle.agreement.specs.Relation.{CachesRelated, PlaceRelated, SlotRelated}
 use Rattle.stepped.proofs.Conjunction.{both-true}
 use Rattle.agreement.proofs.Slots.{toCache}
@@ -39,7 +39,7 @@ use Rattle.agreement.proofs.Couple.{Pair, agrees, mine, own-block, regi
 pub block-tested : {regions r c v : ℕ} → Block r c v → r < regions → Ranges.isBlock regions c v ≡ true
 block-tested {r = r} {c = c} {v = v} b l = both-true (lt-ltb (regionOf v) _ (rw (region-is b) l)) (block-first b)
 
-module _ {regions : ℕ} {a : Memory} {m : Mem} {t : ℕ} {p : Place} {k : ℕ → List ℕ} (w : Pair regions a m t p k) where
+module _ {regions : ℕ} {a : Contents} {m : Mem} {t : ℕ} {p : Place} {k : ℕ → List ℕ} (w : Pair regions a m t p k) where
   home-region : {c v : ℕ} (h : Home m c v) → m .descriptor (h .d) .region < regions
   home-region {v = v} h =
       region-below (w .turn .inv) {v = v} (record { d = h .d; fits = h .fits; counts = h .counts; block = h .block })
@@ -93,7 +93,7 @@ module _ {regions : ℕ} {a : Memory} {m : Mem} {t : ℕ} {p : Place} {k : ℕ �
   wrote u x h l = Couple.written w u x (mine-under u h .0) (omega arith)
 
   -- the caches with a new one of the class c
-  pub re-cache : (a′ : Memory) (m′ : Mem) (s : Slot) (p′ : Place) (c b n : ℕ) (q : List ℕ)
+  pub re-cache : (a′ : Contents) (m′ : Mem) (s : Slot) (p′ : Place) (c b n : ℕ) (q : List ℕ)
       → ((e : ℕ) → e < CLASSES → Agree (link (a .area)) (link (a′ .area)) (k e)) → s .class ≡ a .slot t .class
       → s .caches ≡ toCache c b n (a .slot t) .caches → Linked (link (a′ .area)) (λ u. u) UNITS b q → n ≡ length q
       → PlaceRelated regions a′ m′ s p′ → SlotRelated regions a′ m′ s (taskOf p′ (update k c q))
@@ -111,7 +111,7 @@ module _ {regions : ℕ} {a : Memory} {m : Mem} {t : ℕ} {p : Place} {k : ℕ �
   }
 
   -- the caches as they were, after a link under way is written
-  pub re-link : (a′ : Memory) (m′ : Mem) (s : Slot) (p′ : Place)
+  pub re-link : (a′ : Contents) (m′ : Mem) (s : Slot) (p′ : Place)
       → ((e : ℕ) → e < CLASSES → Agree (link (a .area)) (link (a′ .area)) (k e)) → s .class ≡ a .slot t .class
       → s .caches ≡ a .slot t .caches → PlaceRelated regions a′ m′ s p′ → SlotRelated regions a′ m′ s (taskOf p′ k)
   re-link a′ m′ s p′ g f i pl = record {
@@ -124,7 +124,7 @@ module _ {regions : ℕ} {a : Memory} {m : Mem} {t : ℕ} {p : Place} {k : ℕ �
   }
 
   -- the caches as they were
-  pub re-slot : (a′ : Memory) (m′ : Mem) (s : Slot) (p′ : Place) → a′ .area ≡ a .area → s .class ≡ a .slot t .class
+  pub re-slot : (a′ : Contents) (m′ : Mem) (s : Slot) (p′ : Place) → a′ .area ≡ a .area → s .class ≡ a .slot t .class
       → s .caches ≡ a .slot t .caches → PlaceRelated regions a′ m′ s p′ → SlotRelated regions a′ m′ s (taskOf p′ k)
   re-slot a′ m′ s p′ e f g pl = re-link a′ m′ s p′ (λ c l u i. ap (λ (z : List ℕ). link z u) e) f g pl
 

@@ -15,16 +15,16 @@ use Rattle.plain.specs.Weights.{insideWeight}
 use Rattle.control.specs.Layout.{layout, Tasks, Regions}
 use Rattle.control.specs.Answers.{codeOf, valueOf}
 use Rattle.stepped.specs.Outcome.{Outcome, bad}
-use Rattle.agreement.specs.Memory.{Memory, memoryOf}
+use Rattle.agreement.specs.Contents.{Contents, contentsOf}
 use Rattle.agreement.specs.Relation.{Related}
 
 -- the code, the value and the decided move of an outcome
-abbrev pub shown : Outcome → Answer
-shown o = record { code = codeOf (o .answer); value = valueOf (o .answer); decided = o .decided }
+abbrev pub answerOf : Outcome → Answer
+answerOf o = record { code = codeOf (o .answer); value = valueOf (o .answer); decided = o .decided }
 
 -- the memories after an outcome, column by column
-abbrev pub afterwards : Outcome → View → List ℕ → Memory
-afterwards o v area = memoryOf (assigned (o .writes) v) (linked (o .links) area)
+abbrev pub afterwards : Outcome → View → List ℕ → Contents
+afterwards o v area = contentsOf (assigned (o .writes) v) (linked (o .links) area)
 
 -- each link is written in a block of an open region that is in no user's hands
 abbrev pub Apart : Mem → List LinkWrite → Type 0
@@ -32,7 +32,7 @@ Apart m [] = Unit {0}
 Apart m ((u ⇒ x) ∷ ls) = ((m .hands u ≡ 0) × (1 ≤ total DESCRIPTORS (insideWeight u) (m .descriptor))) × Apart m ls
 
 pub record Both (regions : ℕ) (v : View) (area : List ℕ) (m : Mem) (o : Outcome) (y : Result) : Type 0 where
-  pub says : shown o ≡ y .1
+  pub says : answerOf o ≡ y .1
   pub rel : Related regions (afterwards o v area) (y .0)
   pub keeps : (assigned (o .writes) v Tasks ≡ v Tasks) × (assigned (o .writes) v Regions ≡ v Regions)
   pub sound : Sound layout (o .writes)

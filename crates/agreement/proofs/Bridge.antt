@@ -18,7 +18,7 @@ use Rattle.control.specs.Layout.{Marks}
 use Rattle.control.specs.Layout
 use Rattle.words.specs.Head.{headOf}
 use Rattle.words.specs.Anchor.{anchorOf}
-use Rattle.agreement.specs.Memory.{Slot, Memory, byClass, slotOf, markOf, memoryOf}
+use Rattle.agreement.specs.Contents.{Slot, Contents, byClass, slotOf, markOf, contentsOf}
 use Rattle.agreement.proofs.Sets.{onLists, onDescriptors, onEntries, withSlots, withHeads, withDescriptorNexts}
 use Rattle.agreement.proofs.Sets.{withRegionNexts, withAnchors, withMap, withMarks, setSlot, setHead}
 use Rattle.agreement.proofs.Sets.{setDescriptorNext}
@@ -117,58 +117,58 @@ mark-clear v u =
 
 -- After writes that change the view v to v′: what is shared is as in b, and of the tasks' parts only that of t, now s,
 -- has changed. The first premise is `refl` where only fields of tasks were written.
-pub becomes : (v v′ : View) (area : List ℕ) (t : ℕ) (s : Slot) (b : Memory) → memoryOf v′ area ≡ withSlots (slotOf v′) b
+pub becomes : (v v′ : View) (area : List ℕ) (t : ℕ) (s : Slot) (b : Contents) → contentsOf v′ area ≡ withSlots (slotOf v′) b
     → b .slot ≡ slotOf v → slotOf v′ t ≡ s → ((j : ℕ) → t ≢ j → slotOf v′ j ≡ slotOf v j)
-    → memoryOf v′ area ≡ setSlot t s b
+    → contentsOf v′ area ≡ setSlot t s b
 becomes v v′ area t s b e f own others =
     e ∙ ap (λ (S : ℕ → Slot). withSlots S b)
     (slots-update v v′ t s own others ∙ ap (λ (S : ℕ → Slot). update S t s) (sym f))
 
 -- What is shared, after a write of one of its columns; S are the tasks' parts. `put` puts a column into the memories.
 module _ (v : View) (S : ℕ → Slot) (area : List ℕ) where
-  abbrev before : Memory
-  before = withSlots S (memoryOf v area)
+  abbrev before : Contents
+  before = withSlots S (contentsOf v area)
 
-  column-written : {A : Type 0} (put : (ℕ → A) → Memory → Memory) (g : ℕ → A) (f : ℕ → ℕ) (i x : ℕ)
+  column-written : {A : Type 0} (put : (ℕ → A) → Contents → Contents) (g : ℕ → A) (f : ℕ → ℕ) (i x : ℕ)
       → put (λ (j : ℕ). g (cond (eqb i j) x (f j))) before ≡ put (update (λ (j : ℕ). g (f j)) i (g x)) before
   column-written {A} put g f i x = ap (λ (h : ℕ → A). put h before) (column-update g f i x)
 
   -- a head
   pub head-written : (ℓ w : ℕ)
-      → withSlots S (memoryOf (assigned (Layout.Head ℓ := w ∷ []) v) area)
-      ≡ withSlots S (setHead ℓ (headOf w) (memoryOf v area))
+      → withSlots S (contentsOf (assigned (Layout.Head ℓ := w ∷ []) v) area)
+      ≡ withSlots S (setHead ℓ (headOf w) (contentsOf v area))
   head-written = column-written (λ f. onLists (withHeads f)) headOf (λ j. v (Layout.Head j))
 
   -- a descriptor's next
   pub descriptorNext-written : (d x : ℕ)
-      → withSlots S (memoryOf (assigned (Layout.DescriptorNext d := x ∷ []) v) area)
-      ≡ withSlots S (setDescriptorNext d x (memoryOf v area))
+      → withSlots S (contentsOf (assigned (Layout.DescriptorNext d := x ∷ []) v) area)
+      ≡ withSlots S (setDescriptorNext d x (contentsOf v area))
   descriptorNext-written =
       column-written (λ f. onLists (withDescriptorNexts f)) (λ y. y) (λ j. v (Layout.DescriptorNext j))
 
   -- a region's next
   pub regionNext-written : (r x : ℕ)
-      → withSlots S (memoryOf (assigned (Layout.RegionNext r := x ∷ []) v) area)
-      ≡ withSlots S (setRegionNext r x (memoryOf v area))
+      → withSlots S (contentsOf (assigned (Layout.RegionNext r := x ∷ []) v) area)
+      ≡ withSlots S (setRegionNext r x (contentsOf v area))
   regionNext-written = column-written (λ f. onLists (withRegionNexts f)) (λ y. y) (λ j. v (Layout.RegionNext j))
 
   -- an anchor
   pub anchor-written : (d w : ℕ)
-      → withSlots S (memoryOf (assigned (Layout.Anchor d := w ∷ []) v) area)
-      ≡ withSlots S (setAnchor d (anchorOf w) (memoryOf v area))
+      → withSlots S (contentsOf (assigned (Layout.Anchor d := w ∷ []) v) area)
+      ≡ withSlots S (setAnchor d (anchorOf w) (contentsOf v area))
   anchor-written = column-written (λ f. onDescriptors (withAnchors f)) anchorOf (λ j. v (Layout.Anchor j))
 
   -- a map entry
   pub map-written : (r x : ℕ)
-      → withSlots S (memoryOf (assigned (Layout.Map r := x ∷ []) v) area)
-      ≡ withSlots S (setMap r x (memoryOf v area))
+      → withSlots S (contentsOf (assigned (Layout.Map r := x ∷ []) v) area)
+      ≡ withSlots S (setMap r x (contentsOf v area))
   map-written = column-written (λ f. onEntries (withMap f)) (λ y. y) (λ j. v (Layout.Map j))
 
   -- a descriptor written whole, and a map entry
   pub owner-written : (d w r c e : ℕ)
-      → withSlots S (memoryOf (assigned (Layout.Anchor d := w ∷ Layout.DescriptorRegion d := r
+      → withSlots S (contentsOf (assigned (Layout.Anchor d := w ∷ Layout.DescriptorRegion d := r
       ∷ Layout.DescriptorClass d := c ∷ Layout.Map r := e ∷ []) v) area)
-      ≡ withSlots S (setOwner d (anchorOf w) r c e (memoryOf v area))
+      ≡ withSlots S (setOwner d (anchorOf w) r c e (contentsOf v area))
   owner-written d w r c e z =
       onEntries (withMap (column-update (λ (y : ℕ). y) (λ (j : ℕ). v (Layout.Map j)) r e z))
       (onDescriptors (λ D. record {
@@ -180,13 +180,13 @@ module _ (v : View) (S : ℕ → Slot) (area : List ℕ) where
   -- a mark that is set
   pub mark-set-written : (u : ℕ)
       → withSlots S
-      (memoryOf (assigned (Layout.Marks (u / 64) := withSet (v (Layout.Marks (u / 64))) (u % 64) ∷ []) v) area)
-      ≡ withSlots S (setMark u 1 (memoryOf v area))
+      (contentsOf (assigned (Layout.Marks (u / 64) := withSet (v (Layout.Marks (u / 64))) (u % 64) ∷ []) v) area)
+      ≡ withSlots S (setMark u 1 (contentsOf v area))
   mark-set-written u = ap (λ (f : ℕ → ℕ). onEntries (withMarks f) before) (mark-set v u)
 
   -- a mark that is cleared
   pub mark-clear-written : (u : ℕ)
       → withSlots S
-      (memoryOf (assigned (Layout.Marks (u / 64) := withClear (v (Layout.Marks (u / 64))) (u % 64) ∷ []) v) area)
-      ≡ withSlots S (setMark u 0 (memoryOf v area))
+      (contentsOf (assigned (Layout.Marks (u / 64) := withClear (v (Layout.Marks (u / 64))) (u % 64) ∷ []) v) area)
+      ≡ withSlots S (setMark u 0 (contentsOf v area))
   mark-clear-written u = ap (λ (f : ℕ → ℕ). onEntries (withMarks f) before) (mark-clear v u)

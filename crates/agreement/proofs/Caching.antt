@@ -26,9 +26,9 @@ use Rattle.control.specs.Answers.{codeOf, valueOf}
 use Rattle.control.specs.declared.answer.Answer.{Answer}
 use Rattle.control.specs.Layout
 use Rattle.control.specs.Layout.{layout, Tasks, Regions, CacheTop, CacheCount, TaskClass}
-use Rattle.stepped.specs.Outcome.{close}
+use Rattle.stepped.specs.Outcome.{over}
 use Rattle.stepped.specs.Ranges.{isTop}
-use Rattle.agreement.specs.Memory.{TaskCaches, Slot, Memory, slotOf, memoryOf}
+use Rattle.agreement.specs.Contents.{TaskCaches, Slot, Contents, slotOf, contentsOf}
 use Rattle.agreement.specs.Relation.{PlaceRelated, Related}
 use Rattle.agreement.proofs.Images.{append-sound}
 use Rattle.agreement.proofs.Slots.{toCache, withCaches}
@@ -70,17 +70,17 @@ module _ (v : View) (t c b n : ℕ) (l : c < CLASSES) where
 
 -- The memories after own and shared writes, which made v₁ of the view v, and those of a cache's two fields: what is
 -- shared is as in a, and of the tasks' parts only that of t has changed, which is s with that cache.
-pub cache-becomes : (v v₁ : View) (area : List ℕ) (t c b n : ℕ) (s : Slot) (a : Memory) → c < CLASSES
-    → memoryOf v₁ area ≡ withSlots (slotOf v₁) a → a .slot ≡ slotOf v → slotOf v₁ t ≡ s
+pub cache-becomes : (v v₁ : View) (area : List ℕ) (t c b n : ℕ) (s : Slot) (a : Contents) → c < CLASSES
+    → contentsOf v₁ area ≡ withSlots (slotOf v₁) a → a .slot ≡ slotOf v → slotOf v₁ t ≡ s
     → ((j : ℕ) → t ≢ j → slotOf v₁ j ≡ slotOf v j)
-    → memoryOf (withCache t c b n v₁) area ≡ setSlot t (toCache c b n s) a
+    → contentsOf (withCache t c b n v₁) area ≡ setSlot t (toCache c b n s) a
 cache-becomes v v₁ area t c b n s a l e f own others =
     becomes v (withCache t c b n v₁) area t (toCache c b n s) a
     (ap (withSlots (slotOf (withCache t c b n v₁))) e) f
     (cache-own v₁ t c b n l ∙ ap (toCache c b n) own) (λ j d. cache-others v₁ t c b n l j d ∙ others j d)
 
 -- over records: the block u under way goes on top of the cache of the request's class, above x
-pushed : {regions : ℕ} {a : Memory} {m : Mem} {t : ℕ} {p : Place} {k : ℕ → List ℕ} (w : Pair regions a m t p k)
+pushed : {regions : ℕ} {a : Contents} {m : Mem} {t : ℕ} {p : Place} {k : ℕ → List ℕ} (w : Pair regions a m t p k)
     (u x n : ℕ) (s : Slot) (p′ : Place) → 1 ≤ count u (underWay p) → a .slot t .caches .top (a .slot t .class) ≡ x
     → n ≡ suc (length (k (a .slot t .class))) → s .class ≡ a .slot t .class
     → s .caches ≡ toCache (a .slot t .class) u n (a .slot t) .caches
@@ -125,24 +125,24 @@ module _ {regions : ℕ} {v : View} {area : List ℕ} {m : Mem} {t : ℕ} {p : P
   -- The block u under way goes on top of the cache of the request's class, after the own writes ws, which make s of the
   -- task's part and do not change the caches: the task goes to the place p′.
   pub cache-push : (ws : List Write) (u : ℕ) (s : Slot) (p′ : Place) → 1 ≤ count u (underWay p)
-      → memoryOf (assigned ws v) area ≡ withSlots (slotOf (assigned ws v)) (memoryOf v area)
+      → contentsOf (assigned ws v) area ≡ withSlots (slotOf (assigned ws v)) (contentsOf v area)
       → slotOf (assigned ws v) t ≡ s → ((j : ℕ) → t ≢ j → slotOf (assigned ws v) j ≡ slotOf v j)
       → s .class ≡ slotOf v t .class → s .caches ≡ slotOf v t .caches
       → PlaceRelated regions
       (setSlot t (toCache (v (TaskClass t)) u (v (CacheCount t (v (TaskClass t))) + 1) s)
-      (setLink u (v (CacheTop t (v (TaskClass t)))) (memoryOf v area)))
+      (setLink u (v (CacheTop t (v (TaskClass t)))) (contentsOf v area)))
       (cached t k (v (TaskClass t)) (u ∷ k (v (TaskClass t))) p′ m)
       (toCache (v (TaskClass t)) u (v (CacheCount t (v (TaskClass t))) + 1) s) p′
       → Related regions
-      (memoryOf (withCache t (v (TaskClass t)) u (v (CacheCount t (v (TaskClass t))) + 1) (assigned ws v))
+      (contentsOf (withCache t (v (TaskClass t)) u (v (CacheCount t (v (TaskClass t))) + 1) (assigned ws v))
       (withLink area u (v (CacheTop t (v (TaskClass t))))))
       (cached t k (v (TaskClass t)) (u ∷ k (v (TaskClass t))) p′ m)
   cache-push ws u s p′ o e own others f g pl =
       let c = v (TaskClass t) in
       let n = v (CacheCount t c) + 1 in
       let x = v (CacheTop t c) in
-      subst (λ (z : Memory). Related regions z (cached t k c (u ∷ k c) p′ m))
-      (sym (cache-becomes v (assigned ws v) (withLink area u x) t c u n s (setLink u x (memoryOf v area))
+      subst (λ (z : Contents). Related regions z (cached t k c (u ∷ k c) p′ m))
+      (sym (cache-becomes v (assigned ws v) (withLink area u x) t c u n s (setLink u x (contentsOf v area))
       (mine (w .pair) .fits)
       (ap (setLink u x) e) refl own others))
       (pushed (w .pair) u x n (toCache c u n s) p′ o (cache-top w)
@@ -153,16 +153,16 @@ module _ {regions : ℕ} {v : View} {area : List ℕ} {m : Mem} {t : ℕ} {p : P
   pub push-both : (answer : Answer) (e : Decided) (ws : List Write) (u : ℕ) (s : Slot) (p′ : Place)
       → 1 ≤ count u (underWay p) → length (k (v (TaskClass t))) < perRegion (v (TaskClass t)) → Sound layout ws
       → (assigned ws v Tasks ≡ v Tasks) × (assigned ws v Regions ≡ v Regions)
-      → memoryOf (assigned ws v) area ≡ withSlots (slotOf (assigned ws v)) (memoryOf v area)
+      → contentsOf (assigned ws v) area ≡ withSlots (slotOf (assigned ws v)) (contentsOf v area)
       → slotOf (assigned ws v) t ≡ s → ((j : ℕ) → t ≢ j → slotOf (assigned ws v) j ≡ slotOf v j)
       → s .class ≡ slotOf v t .class → s .caches ≡ slotOf v t .caches
       → PlaceRelated regions
       (setSlot t (toCache (v (TaskClass t)) u (v (CacheCount t (v (TaskClass t))) + 1) s)
-      (setLink u (v (CacheTop t (v (TaskClass t)))) (memoryOf v area)))
+      (setLink u (v (CacheTop t (v (TaskClass t)))) (contentsOf v area)))
       (cached t k (v (TaskClass t)) (u ∷ k (v (TaskClass t))) p′ m)
       (toCache (v (TaskClass t)) u (v (CacheCount t (v (TaskClass t))) + 1) s) p′
       → Both regions v area m
-      (close answer e
+      (over answer e
       (ws
       ++ (CacheTop t (v (TaskClass t)) := u ∷ CacheCount t (v (TaskClass t)) := (v (CacheCount t (v (TaskClass t))) + 1)
       ∷ []))
@@ -177,7 +177,7 @@ module _ {regions : ℕ} {v : View} {area : List ℕ} {m : Mem} {t : ℕ} {p : P
       record {
         says = refl;
         rel = subst
-            (λ (z : View). Related regions (memoryOf z (withLink area u (v (CacheTop t c))))
+            (λ (z : View). Related regions (contentsOf z (withLink area u (v (CacheTop t c))))
             (cached t k c (u ∷ k c) p′ m))
             (sym (assigned-append ws xs v)) (cache-push ws u s p′ o i own others f g pl);
         keeps = (

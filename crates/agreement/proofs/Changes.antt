@@ -20,7 +20,7 @@ use Rattle.plain.specs.State.{setTask}
 use Rattle.plain.specs.Held.{holdsDescriptor, holdsRegion}
 use Rattle.plain.specs.States.{IfOpen}
 use Rattle.plain.specs.Weights.{descriptorWeight, regionWeight, rowWeight}
-use Rattle.agreement.specs.Memory.{Memory, Slot}
+use Rattle.agreement.specs.Contents.{Contents, Slot}
 use Rattle.agreement.specs.Relation.{ChainRelated, Core, Related, SlotRelated, wrap}
 use Rattle.agreement.proofs.Couple.{Pair, descriptor-apart, region-apart}
 use Rattle.agreement.proofs.Frames.{after, lists-kept}
@@ -39,7 +39,7 @@ still m ℓ q =
     update-all₂ (λ j x r. x ≡ m .won j → r ≡ m .row j) (m .won) (m .row) ℓ (m .won ℓ + 1) q (λ e. absurd (omega arith))
     (λ j d e. refl)
 
-module _ {regions : ℕ} {a : Memory} {m : Mem} {t : ℕ} {p : Place} {k : ℕ → List ℕ} (w : Pair regions a m t p k) where
+module _ {regions : ℕ} {a : Contents} {m : Mem} {t : ℕ} {p : Place} {k : ℕ → List ℕ} (w : Pair regions a m t p k) where
   abbrev C : Core regions a m
   C = w .rel .core
 

@@ -13,7 +13,7 @@ use Rattle.plain.proofs.Places.{taskOf}
 use Rattle.control.specs.Layout.{Map, TaskClass, TaskDescriptor, TaskPlace, TaskRegion, TaskState, TaskUnit}
 use Rattle.control.specs.Places.{PUSH-RELEASE}
 use Rattle.stepped.specs.Free as Free
-use Rattle.agreement.specs.Memory.{slotOf}
+use Rattle.agreement.specs.Contents.{slotOf}
 use Rattle.agreement.specs.Relation.{PushRelated, r-release, r-working}
 use Rattle.agreement.proofs.Slots.{toPlace}
 use Rattle.agreement.proofs.Bridge.{map-written}

@@ -11,7 +11,7 @@ use Rattle.fields.specs.Columns.{View, assigned}
 use Rattle.links.specs.Link.{LinkWrite, _⇒_}
 use Rattle.classes.specs.Classes.{units, perRegion}
 use Rattle.classes.specs.Sizes.{classOf}
-use Rattle.classes.specs.Places.{isFirst}
+use Rattle.classes.specs.Geometry.{isFirst}
 use Rattle.plain.specs.Moves.{Answer, nothing}
 use Rattle.plain.specs.Calls.{Call, start, allocate, free, step}
 use Rattle.control.specs.Answers.{codeOf, valueOf}

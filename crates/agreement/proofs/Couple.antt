@@ -13,8 +13,8 @@ use Rattle.rows.specs.Totals.{total}
 use Rattle.rows.specs.Weights.{one}
 use Rattle.rows.proofs.Totals.{total-found, total-one, total-two}
 use Rattle.rows.proofs.Weights.{below-is, below-max, when-same}
-use Rattle.classes.specs.Places.{Block}
-use Rattle.classes.proofs.Places.{inside}
+use Rattle.classes.specs.Geometry.{Block}
+use Rattle.classes.proofs.BlockUnits.{inside}
 use Rattle.classes.proofs.Tables.{units-low}
 use Rattle.links.specs.Link.{LINK-BYTES, _⇒_, link, withLink}
 use Rattle.links.proofs.Links.{length-linked, link-other, link-same}
@@ -29,7 +29,7 @@ use Rattle.plain.proofs.Homes.{inside-open}
 use Rattle.plain.proofs.Places.{taskOf}
 use Rattle.plain.proofs.States.{open-counts}
 use Rattle.plain.proofs.Turn.{Turn}
-use Rattle.agreement.specs.Memory.{Memory, Slot}
+use Rattle.agreement.specs.Contents.{Contents, Slot}
 use Rattle.agreement.specs.Relation.{Core, Related, SlotRelated}
 use Rattle.agreement.proofs.Frames.{after, lists-kept}
 use Rattle.agreement.proofs.Parts.{links-related}
@@ -37,7 +37,7 @@ use Rattle.agreement.proofs.Sets.{setLink, setSlot}
 
 -- the relation, and the plain pool's own invariant, at the turn of the task t, which is at the place p with the caches
 -- k
-pub record Pair (regions : ℕ) (a : Memory) (m : Mem) (t : ℕ) (p : Place) (k : ℕ → List ℕ) : Type 0 where
+pub record Pair (regions : ℕ) (a : Contents) (m : Mem) (t : ℕ) (p : Place) (k : ℕ → List ℕ) : Type 0 where
   pub rel : Related regions a m
   pub turn : Turn regions m t (taskOf p k)
   pub small : regions ≤ REGIONS
@@ -105,7 +105,7 @@ module _ {regions : ℕ} {m : Mem} (I : Invariant regions m) where
       let b = valid m u p in
       link-same a u x (omega (arith, region-below b, inside (b .block), units-low (m .descriptor (b .d) .class))) h
 
-module _ {regions : ℕ} {a : Memory} {m : Mem} {t : ℕ} {p : Place} {k : ℕ → List ℕ} (w : Pair regions a m t p k) where
+module _ {regions : ℕ} {a : Contents} {m : Mem} {t : ℕ} {p : Place} {k : ℕ → List ℕ} (w : Pair regions a m t p k) where
   pub mine : SlotRelated regions a m (a .slot t) (taskOf p k)
   mine = subst (SlotRelated regions a m (a .slot t)) (w .turn .is) (w .rel .slots t (w .turn .fits))
 

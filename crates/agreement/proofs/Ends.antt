@@ -14,7 +14,7 @@ use Rattle.links.specs.Link.{LinkWrite, link, linked}
 use Rattle.words.specs.Head.{itemOf, advancedWord}
 use Rattle.words.specs.Anchor.{EMPTY, anchorOf}
 use Rattle.words.specs.Mark.{isSet}
-use Rattle.classes.specs.Places.{regionOf, isFirst}
+use Rattle.classes.specs.Geometry.{regionOf, isFirst}
 use Rattle.classes.proofs.Sizes.{is-class, holds, smallest}
 use Rattle.plain.specs.Moves.{Decided, found-empty, pushed}
 use Rattle.control.specs.Layout.{Head, TaskHead, Anchor, Marks, TaskPlace, TaskClass, DescriptorRegion, DescriptorClass}

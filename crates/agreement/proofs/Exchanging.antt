@@ -16,7 +16,7 @@ use Rattle.words.specs.Anchor.{Fields, anchorOf, anchorWord, returned}
 use Rattle.words.specs.declared.anchor.Anchor as Declared
 use Rattle.words.proofs.Anchors.{anchor-below, anchor-of-word, returned-fits}
 use Rattle.classes.specs.Classes.{perRegion}
-use Rattle.classes.specs.Places.{indexOf, regionOf}
+use Rattle.classes.specs.Geometry.{indexOf, regionOf}
 use Rattle.classes.proofs.Tables.{perRegion-high}
 use Rattle.plain.specs.State.{EMPTY, PARTIAL, Mem, Note, Place, State, f1, f2, f3-exchange, f3-read, f4-clear, numberOf}
 use Rattle.plain.specs.State.{offer, pushing, read, setDescriptor, working}
@@ -31,7 +31,7 @@ use Rattle.control.specs.Layout.{layout, Anchor, GroupCount, GroupFirst, TaskAn
 use Rattle.control.specs.Layout.{TaskPlace, TaskRegion, TaskState, TaskUnit}
 use Rattle.control.specs.Places.{PUSH-OFFER, F1, F2, F3-READ, F4-CLEAR}
 use Rattle.stepped.specs.Free as Free
-use Rattle.agreement.specs.Memory.{Slot, slotOf, memoryOf}
+use Rattle.agreement.specs.Contents.{Slot, slotOf, contentsOf}
 use Rattle.agreement.specs.Relation.{ChainRelated, GroupRelated, NoteRelated, PlaceRelated, PushRelated, Related}
 use Rattle.agreement.specs.Relation.{r-f1, r-f2, r-f3-read, r-f4-clear, r-offer, r-working}
 use Rattle.agreement.proofs.Slots.{toGrouped, toPlace, toState}
@@ -51,7 +51,7 @@ use Rattle.agreement.proofs.Groups.{first-below, same-group}
 module _ {regions : ℕ} {v : View} {area : List ℕ} {m : Mem} {t : ℕ} {k : ℕ → List ℕ} {y : ℕ} {g : List ℕ} {n : Note}
     (w : At regions v area m t (working (f3-exchange (v (TaskClass t)) (v (TaskUnit t)) y g (v (TaskDescriptor t)) n))
     k)
-    (G : GroupRelated (memoryOf v area) (slotOf v t) y g)
+    (G : GroupRelated (contentsOf v area) (slotOf v t) y g)
     (N : NoteRelated m (v (TaskClass t)) (v (TaskDescriptor t)) n (anchorOf (v (TaskAnchor t))))
     (room : v (GroupCount t) + anchorOf (v (TaskAnchor t)) .count ≤ perRegion (v (TaskClass t)))
     (tied : link area (G .last) ≡ anchorOf (v (TaskAnchor t)) .avail) where
@@ -117,11 +117,11 @@ module _ {regions : ℕ} {v : View} {area : List ℕ} {m : Mem} {t : ℕ} {k : �
     gives : (z : State) → new .state ≡ numberOf z
         → IfOpen z (ChainRelated (link area) new (chained (m .descriptor d) z J))
         → (v′ : View) (s : Slot) (p : Place)
-        → Writes v v′ area t s (setAnchor d (anchorOf (anchorWord new)) (memoryOf v area))
+        → Writes v v′ area t s (setAnchor d (anchorOf (anchorWord new)) (contentsOf v area))
         → s .class ≡ slotOf v t .class → s .caches ≡ slotOf v t .caches
-        → PlaceRelated regions (setSlot t s (setAnchor d (anchorOf (anchorWord new)) (memoryOf v area)))
+        → PlaceRelated regions (setSlot t s (setAnchor d (anchorOf (anchorWord new)) (contentsOf v area)))
         (Steps.at t k p (setDescriptor d (chained (m .descriptor d) z J) m)) s p
-        → Related regions (memoryOf v′ area)
+        → Related regions (contentsOf v′ area)
         (Steps.at t k p (setDescriptor d (chained (m .descriptor d) z J) m))
     gives z e i v′ s p b f f₁ pl =
         let W = anchor-of-word new new-fits in
@@ -146,7 +146,7 @@ module _ {regions : ℕ} {v : View} {area : List ℕ} {m : Mem} {t : ℕ} {k : �
 
     place-written : (i : ℕ)
         → Writes v (assigned (TaskPlace t := i ∷ ws) v) area t (part i)
-        (setAnchor d (anchorOf (anchorWord new)) (memoryOf v area))
+        (setAnchor d (anchorOf (anchorWord new)) (contentsOf v area))
     place-written i = record {
       shared = anchor-written v (slotOf (assigned (TaskPlace t := i ∷ ws) v)) area d (anchorWord new);
       own = rw (eq-eqb t t refl);

@@ -16,8 +16,8 @@ use Rattle.rows.proofs.Linked.{linked-frame}
 use Rattle.rows.proofs.Weights.{when-same}
 use Rattle.fields.specs.Columns.{View, _:=_}
 use Rattle.classes.specs.Classes.{perRegion}
-use Rattle.classes.specs.Places.{unitOf, indexOf, Block}
-use Rattle.classes.proofs.Places.{block-at, index-below, region-is, unit-again}
+use Rattle.classes.specs.Geometry.{unitOf, indexOf, Block}
+use Rattle.classes.proofs.BlockUnits.{block-at, index-below, region-is, unit-again}
 use Rattle.classes.proofs.Tables.{perRegion-high}
 use Rattle.links.specs.Link.{link}
 use Rattle.plain.specs.State.{Place, a1, a4, a8, Mem, working}
@@ -33,7 +33,7 @@ use Rattle.control.specs.Places.{A1, A4, A8}
 use Rattle.control.specs.declared.answer.Answer.the-variants.{Accepted}
 use Rattle.stepped.specs.Ranges.{oneTo, isTop}
 use Rattle.stepped.specs.Allocate as Allocate
-use Rattle.agreement.specs.Memory.{slotOf}
+use Rattle.agreement.specs.Contents.{slotOf}
 use Rattle.agreement.specs.Relation.{r-a1, r-a4, r-a8, r-working}
 use Rattle.agreement.proofs.Slots.{toPlace, toChain}
 use Rattle.agreement.proofs.Tops.{first-of, rest-of}

@@ -17,7 +17,7 @@ use Rattle.control.specs.Layout.{layout, Tasks, Regions, CacheCount, GroupCount
 use Rattle.control.specs.Places.{PUSH-OFFER, F1, F2}
 use Rattle.stepped.specs.Outcome.{accept}
 use Rattle.stepped.specs.Lists as Lists
-use Rattle.agreement.specs.Memory.{memoryOf}
+use Rattle.agreement.specs.Contents.{contentsOf}
 use Rattle.agreement.specs.Relation.{Related}
 use Rattle.agreement.proofs.Both.{Both, pass}
 use Rattle.agreement.proofs.Turns.{At, cache-count}
@@ -27,9 +27,9 @@ use Rattle.agreement.proofs.Turns.{At, cache-count}
 module _ {regions : ℕ} {v : View} {area : List ℕ} {m : Mem} {t : ℕ} {p : Place} {k : ℕ → List ℕ}
     (w : At regions v area m t p k) (e : Decided) (ws : List Write) (m₁ : Mem) (u : ℕ) (sound : Sound layout ws)
     (keeps : (assigned ws v Tasks ≡ v Tasks) × (assigned ws v Regions ≡ v Regions))
-    (at-f1 : Related regions (memoryOf (assigned (TaskPlace t := F1 ∷ ws) v) area)
+    (at-f1 : Related regions (contentsOf (assigned (TaskPlace t := F1 ∷ ws) v) area)
     (Steps.at t k (working (f1 (v (TaskClass t)) u)) m₁))
-    (at-f2 : Related regions (memoryOf (assigned (TaskPlace t := F2 ∷ GroupCount t := 0 ∷ ws) v) area)
+    (at-f2 : Related regions (contentsOf (assigned (TaskPlace t := F2 ∷ GroupCount t := 0 ∷ ws) v) area)
     (Steps.at t k (working (f2 (v (TaskClass t)) u [])) m₁)) where
   -- a write before ws to a field of a task leaves the numbers of tasks and regions
   keeps-after : (v′ : View) → v′ Tasks ≡ v Tasks → v′ Regions ≡ v Regions
@@ -73,7 +73,7 @@ module _ {regions : ℕ} {v : View} {area : List ℕ} {m : Mem} {t : ℕ} {p : P
 
   -- step 5: "If it was FULL: push the descriptor on the partial list"
   pub five : (was : ℕ) (z : State) (d : ℕ) → was ≡ numberOf z
-      → Related regions (memoryOf (assigned (TaskPlace t := PUSH-OFFER ∷ ws) v) area)
+      → Related regions (contentsOf (assigned (TaskPlace t := PUSH-OFFER ∷ ws) v) area)
       (Steps.at t k (working (pushing (offer (v (TaskClass t)) u d) read)) m₁)
       → Both regions v area m (Lists.f5 v regions t (v (TaskClass t)) was e ws)
       (Steps.to t k (Steps.f5 z (k (v (TaskClass t))) (v (TaskClass t)) u d) m₁, going e)

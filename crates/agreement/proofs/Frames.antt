@@ -21,7 +21,7 @@ use Rattle.plain.specs.State.{Mem, Note, Phase, Work, Place, working, Task, reg
 use Rattle.plain.specs.Noted.{Noted, unnoted, pop-noted, push-noted, anchor-noted, entry-noted, noted}
 use Rattle.plain.specs.Held.{holdsDescriptor, holdsRegion, underWay}
 use Rattle.plain.specs.Weights.{blockWeight, rowWeight}
-use Rattle.agreement.specs.Memory.{Lists, Memory, Slot}
+use Rattle.agreement.specs.Contents.{Lists, Contents, Slot}
 use Rattle.agreement.specs.Relation.{Core, GroupRelated, NoteRelated, HeadNoted, PlaceRelated, PopRelated}
 use Rattle.agreement.specs.Relation.{PushRelated, Related, SlotRelated, r-a1, r-a3-exchange, r-a3-read, r-a4}
 use Rattle.agreement.specs.Relation.{r-a7, r-a8, r-back, r-f1, r-f2, r-f2-more, r-f3-exchange, r-f3-link}
@@ -50,12 +50,12 @@ lists-kept =
     record { wins = λ ℓ. omega arith; still = λ ℓ e. refl; descriptorNexts = λ x h. refl; regionNexts = λ x h. refl }
 
 -- what a turn leaves to another task
-pub record Kept (a a′ : Memory) (m m′ : Mem) (T : Task) : Type 0 where
+pub record Framed (a a′ : Contents) (m m′ : Mem) (T : Task) : Type 0 where
   pub lists : KeptLists (a .lists) (a′ .lists) (m .won) (m′ .won) (m .row) (m′ .row) (T .place)
   pub links : (v : ℕ) → 1 ≤ blockWeight v 0 T → link (a′ .area) v ≡ link (a .area) v
   pub regions : (x : ℕ) → Reads x (noted (T .place)) → m′ .descriptor x .region ≡ m .descriptor x .region
 
-module _ {a a′ : Memory} {m m′ : Mem} {T : Task} (K : Kept a a′ m m′ T) where
+module _ {a a′ : Contents} {m m′ : Mem} {T : Task} (K : Framed a a′ m m′ T) where
   kept-noted : {ℓ : ℕ} {h : Head} {n : ℕ} → HeadNoted m ℓ h n → HeadNoted m′ ℓ h n
   kept-noted {ℓ} {h} {n} N = record {
     past = omega (arith, K .lists .wins ℓ, N .past);
@@ -99,12 +99,12 @@ module _ {a a′ : Memory} {m m′ : Mem} {T : Task} (K : Kept a a′ m m′ T) 
   }
 
 -- the blocks under way count with the task's
-under-links : {a a′ : Memory} {m m′ : Mem} {T : Task} → Kept a a′ m m′ T → (v : ℕ) → 1 ≤ count v (underWay (T .place))
+under-links : {a a′ : Contents} {m m′ : Mem} {T : Task} → Framed a a′ m m′ T → (v : ℕ) → 1 ≤ count v (underWay (T .place))
     → link (a′ .area) v ≡ link (a .area) v
 under-links K v h = K .links v (omega arith)
 
-kept-work : {regions : ℕ} {a a′ : Memory} {m m′ : Mem} {s : Slot} {w : Work} {k : ℕ → List ℕ}
-    → Kept a a′ m m′ (record { place = working w; cache = k }) → WorkRelated regions a m s w
+kept-work : {regions : ℕ} {a a′ : Contents} {m m′ : Mem} {s : Slot} {w : Work} {k : ℕ → List ℕ}
+    → Framed a a′ m m′ (record { place = working w; cache = k }) → WorkRelated regions a m s w
     → WorkRelated regions a′ m′ s w
 unfolding kept-group
 kept-work K (r-a1 e) = r-a1 e
@@ -148,12 +148,12 @@ kept-work {s = s} K (r-f3-exchange e G N l f) =
     )) ∙ f)
 kept-work K (r-f4-clear e h) = r-f4-clear e h
 
-kept-place : {regions : ℕ} {a a′ : Memory} {m m′ : Mem} {s : Slot} {p : Place} {k : ℕ → List ℕ}
-    → Kept a a′ m m′ (record { place = p; cache = k }) → PlaceRelated regions a m s p → PlaceRelated regions a′ m′ s p
+kept-place : {regions : ℕ} {a a′ : Contents} {m m′ : Mem} {s : Slot} {p : Place} {k : ℕ → List ℕ}
+    → Framed a a′ m m′ (record { place = p; cache = k }) → PlaceRelated regions a m s p → PlaceRelated regions a′ m′ s p
 kept-place K (r-idle e) = r-idle e
 kept-place {k = k} K (r-working W) = r-working (kept-work {k = k} K W)
 
-pub kept-slot : {regions : ℕ} {a a′ : Memory} {m m′ : Mem} {s : Slot} {T : Task} → Kept a a′ m m′ T
+pub kept-slot : {regions : ℕ} {a a′ : Contents} {m m′ : Mem} {s : Slot} {T : Task} → Framed a a′ m m′ T
     → SlotRelated regions a m s T → SlotRelated regions a′ m′ s T
 kept-slot {T = T} K S = record {
   fits = S .fits;
@@ -166,9 +166,9 @@ kept-slot {T = T} K S = record {
 }
 
 -- a task's step: what stands after it for that task, and what is kept for the others
-pub after : {regions : ℕ} {a a′ : Memory} {m m′ : Mem} (t : ℕ) (s : Slot) (T : Task) → a′ .slot ≡ update (a .slot) t s
+pub after : {regions : ℕ} {a a′ : Contents} {m m′ : Mem} (t : ℕ) (s : Slot) (T : Task) → a′ .slot ≡ update (a .slot) t s
     → m′ .task ≡ update (m .task) t T
-    → Core regions a′ m′ → SlotRelated regions a′ m′ s T → ((j : ℕ) → j < TASKS → j ≢ t → Kept a a′ m m′ (m .task j))
+    → Core regions a′ m′ → SlotRelated regions a′ m′ s T → ((j : ℕ) → j < TASKS → j ≢ t → Framed a a′ m m′ (m .task j))
     → ((j : ℕ) → j < TASKS → SlotRelated regions a m (a .slot j) (m .task j)) → Related regions a′ m′
 after {regions} {a} {a′} {m} {m′} t s T e f C own kept old = record {
   core = C;

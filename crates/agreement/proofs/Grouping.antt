@@ -15,7 +15,7 @@ use Rattle.rows.proofs.Linked.{linked-frame, linked-append-one}
 use Rattle.fields.specs.Columns.{View, _:=_, assigned}
 use Rattle.links.specs.Link.{link}
 use Rattle.classes.specs.Classes.{perRegion}
-use Rattle.classes.specs.Places.{indexOf, regionOf}
+use Rattle.classes.specs.Geometry.{indexOf, regionOf}
 use Rattle.classes.proofs.Tables.{perRegion-high}
 use Rattle.plain.specs.State.{Mem, f2, f3-read, working}
 use Rattle.plain.specs.Moves.{going, nothing}
@@ -25,7 +25,7 @@ use Rattle.control.specs.Layout.{CacheTop, CacheCount, GroupCount, GroupFirst, 
 use Rattle.control.specs.Layout.{TaskPlace, TaskUnit}
 use Rattle.control.specs.Places.{F2, F3-READ}
 use Rattle.stepped.specs.Free as Free
-use Rattle.agreement.specs.Memory.{slotOf, memoryOf}
+use Rattle.agreement.specs.Contents.{slotOf, contentsOf}
 use Rattle.agreement.specs.Relation.{GroupRelated, r-f2-more, r-f3-read, r-working}
 use Rattle.agreement.proofs.Slots.{toPlace, toGroup, toCache}
 use Rattle.agreement.proofs.Couple.{mine}
@@ -87,7 +87,7 @@ module _ {regions : ℕ} {v : View} {area : List ℕ} {m : Mem} {t : ℕ} {k : �
       })
 
   module _ {y : ℕ} {g : List ℕ} (w : At regions v area m t (working (f2 (v (TaskClass t)) (v (TaskUnit t)) (y ∷ g))) k)
-      (G : GroupRelated (memoryOf v area) (slotOf v t) y g) where
+      (G : GroupRelated (contentsOf v area) (slotOf v t) y g) where
     -- a further block, linked behind the last
     more-both : v (TaskPlace t) ≡ F2 → (x : ℕ) (q : List ℕ) → k (v (TaskClass t)) ≡ x ∷ q
         → Both regions v area m
@@ -187,7 +187,7 @@ module _ {regions : ℕ} {v : View} {area : List ℕ} {m : Mem} {t : ℕ} {k : �
   -- beside a group, the cache may be empty
   pub f2-more-both : {y : ℕ} {g : List ℕ} → At regions v area m t
       (working (f2 (v (TaskClass t)) (v (TaskUnit t)) (y ∷ g))) k
-      → v (TaskPlace t) ≡ F2 → GroupRelated (memoryOf v area) (slotOf v t) y g
+      → v (TaskPlace t) ≡ F2 → GroupRelated (contentsOf v area) (slotOf v t) y g
       → Both regions v area m (Free.f2 v (link area) regions t (v (TaskClass t)))
       (Steps.stepAt t k (f2 (v (TaskClass t)) (v (TaskUnit t)) (y ∷ g)) m)
   unfolding Free.f2 Free.f2Top

@@ -9,20 +9,20 @@ use Rattle.rows.specs.Tests.{other, same, same?}
 use Rattle.rows.proofs.Counting.{count-append}
 use Rattle.rows.proofs.Weights.{when-other, when-same}
 use Rattle.classes.specs.Classes.{perRegion}
-use Rattle.classes.specs.Places.{Block, indexOf, regionOf, unitOf}
-use Rattle.classes.proofs.Places.{index-below, unit-again}
+use Rattle.classes.specs.Geometry.{Block, indexOf, regionOf, unitOf}
+use Rattle.classes.proofs.BlockUnits.{index-below, unit-again}
 use Rattle.links.specs.Link.{link}
 use Rattle.plain.specs.State.{Mem, Place}
 use Rattle.plain.specs.Held.{classAt, underWay}
 use Rattle.plain.specs.Places.{Together}
 use Rattle.plain.proofs.Owners.{home-of}
-use Rattle.agreement.specs.Memory.{TaskGroup, Memory, Slot}
+use Rattle.agreement.specs.Contents.{TaskGroup, Contents, Slot}
 use Rattle.agreement.specs.Relation.{GroupRelated}
 use Rattle.agreement.proofs.Blocks.{home-below, mine-under}
 use Rattle.agreement.proofs.Couple.{Pair}
 
 -- a group goes over to another place, where the task's part and the links say the same of it
-pub same-group : {a a′ : Memory} {s₀ s : Slot} {y : ℕ} {g : List ℕ} → s .class ≡ s₀ .class → s .group ≡ s₀ .group
+pub same-group : {a a′ : Contents} {s₀ s : Slot} {y : ℕ} {g : List ℕ} → s .class ≡ s₀ .class → s .group ≡ s₀ .group
     → s .hand .region ≡ s₀ .hand .region → a′ .area ≡ a .area → GroupRelated a s₀ y g → GroupRelated a′ s y g
 same-group e f r i G = record {
   front = G .front;
@@ -40,7 +40,7 @@ pub record Last (s : Slot) (l : ℕ) : Type 0 where
   pub at : unitOf (s .hand .region) (s .class) (s .group .last) ≡ l
 
 -- the task's group is under way at its place
-module _ {regions : ℕ} {a : Memory} {m : Mem} {t : ℕ} {p : Place} {k : ℕ → List ℕ} {y : ℕ} {g : List ℕ}
+module _ {regions : ℕ} {a : Contents} {m : Mem} {t : ℕ} {p : Place} {k : ℕ → List ℕ} {y : ℕ} {g : List ℕ}
     (w : Pair regions a m t p k) (G : GroupRelated a (a .slot t) y g)
     (sub : (v : ℕ) → count v (y ∷ g) ≤ count v (underWay p)) (class : classAt p ≡ a .slot t .class)
     (together : Together y g) where

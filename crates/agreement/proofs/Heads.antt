@@ -22,8 +22,8 @@ use Rattle.plain.proofs.Places.{taskOf}
 use Rattle.control.specs.Layout.{Head, DescriptorNext, RegionNext, TaskPlace, TaskHead}
 use Rattle.control.specs.Answers.{codeOf, valueOf}
 use Rattle.control.specs.declared.answer.Answer.{Answer}
-use Rattle.stepped.specs.Outcome.{Outcome, accept, close}
-use Rattle.agreement.specs.Memory.{Slot, Memory, slotOf, memoryOf}
+use Rattle.stepped.specs.Outcome.{Outcome, accept, over}
+use Rattle.agreement.specs.Contents.{Slot, Contents, slotOf, contentsOf}
 use Rattle.agreement.specs.Relation.{HeadNoted, PlaceRelated, Related, wrap}
 use Rattle.agreement.proofs.Slots.{toPlace, toHead}
 use Rattle.agreement.proofs.Sets.{withSlots, setSlot, setHead}
@@ -35,7 +35,7 @@ use Rattle.agreement.proofs.Turns.{At, goes}
 use Rattle.agreement.proofs.Sharing.{shares}
 
 -- The two kinds of list: its number, how many items there are, the field of an item's next, the column of the nexts.
-pub data Kind (regions : ℕ) : ℕ → ℕ → (ℕ → Field) → (Memory → ℕ → ℕ) → Type 0 where
+pub data Kind (regions : ℕ) : ℕ → ℕ → (ℕ → Field) → (Contents → ℕ → ℕ) → Type 0 where
   descriptors : {ℓ : ℕ} → ℓ < SPARE-REGIONS → Kind regions ℓ DESCRIPTORS DescriptorNext (λ a. a .lists .descriptorNext)
   spare-regions : Kind regions SPARE-REGIONS regions RegionNext (λ a. a .lists .regionNext)
 
@@ -56,19 +56,19 @@ pub record Won (v : View) (m : Mem) (t ℓ : ℕ) (nx : ℕ → Field) (x : ℕ)
 
 -- a list of one kind is linked by the nexts of that kind
 module _ (v : View) {f : ℕ} {q : List ℕ} {regions : ℕ} where
-  of-descriptors : {ℓ items : ℕ} {nx : ℕ → Field} {column : Memory → ℕ → ℕ} → Kind regions ℓ items nx column
+  of-descriptors : {ℓ items : ℕ} {nx : ℕ → Field} {column : Contents → ℕ → ℕ} → Kind regions ℓ items nx column
       → Linked (λ (y : ℕ). v (nx y)) suc 0 f q → ℓ < SPARE-REGIONS → Linked (λ (y : ℕ). v (DescriptorNext y)) suc 0 f q
   of-descriptors (descriptors l) h b = h
   of-descriptors spare-regions h b = absurd (omega arith)
 
-  of-regions : {ℓ items : ℕ} {nx : ℕ → Field} {column : Memory → ℕ → ℕ} → Kind regions ℓ items nx column
+  of-regions : {ℓ items : ℕ} {nx : ℕ → Field} {column : Contents → ℕ → ℕ} → Kind regions ℓ items nx column
       → Linked (λ (y : ℕ). v (nx y)) suc 0 f q → ℓ ≡ SPARE-REGIONS → Linked (λ (y : ℕ). v (RegionNext y)) suc 0 f q
   of-regions (descriptors l) h b = absurd (omega arith)
   of-regions spare-regions h b = h
 
 module _ {regions : ℕ} {v : View} {area : List ℕ} {m : Mem} {t : ℕ} {p : Place} {k : ℕ → List ℕ}
     (w : At regions v area m t p k) where
-  pub list-of : {ℓ items : ℕ} {nx : ℕ → Field} {column : Memory → ℕ → ℕ} → Kind regions ℓ items nx column
+  pub list-of : {ℓ items : ℕ} {nx : ℕ → Field} {column : Contents → ℕ → ℕ} → Kind regions ℓ items nx column
       → Listed v m ℓ items nx
   list-of (descriptors {ℓ = ℓ} l) =
       let C = w .pair .rel .core in
@@ -99,9 +99,9 @@ module _ {regions : ℕ} {v : View} {area : List ℕ} {m : Mem} {t : ℕ} {p : P
 
   -- the place alone changes, as where a list is found empty or an exchange is lost
   pub moves : (A : Answer) (e : Decided) (b : ℕ) (p′ : Place) → b < 256
-      → PlaceRelated regions (setSlot t (toPlace b (slotOf v t)) (memoryOf v area)) (at t k p′ m)
+      → PlaceRelated regions (setSlot t (toPlace b (slotOf v t)) (contentsOf v area)) (at t k p′ m)
       (toPlace b (slotOf v t)) p′
-      → Both regions v area m (close A e (TaskPlace t := b ∷ []) [])
+      → Both regions v area m (over A e (TaskPlace t := b ∷ []) [])
       (at t k p′ m, record { code = codeOf A; value = valueOf A; decided = e })
   moves A e b p′ l h = record {
     says = refl;
@@ -114,7 +114,7 @@ module _ {regions : ℕ} {v : View} {area : List ℕ} {m : Mem} {t : ℕ} {p : P
 
   -- the head read: the head word is noted
   pub notes : (ℓ b : ℕ) (p′ : Place) → ℓ < LISTS → b < 256
-      → PlaceRelated regions (setSlot t (toPlace b (toHead (headOf (v (Head ℓ))) (slotOf v t))) (memoryOf v area))
+      → PlaceRelated regions (setSlot t (toPlace b (toHead (headOf (v (Head ℓ))) (slotOf v t))) (contentsOf v area))
       (at t k p′ m) (toPlace b (toHead (headOf (v (Head ℓ))) (slotOf v t))) p′
       → Both regions v area m (accept nothing (TaskPlace t := b ∷ TaskHead t := v (Head ℓ) ∷ []) [])
       (at t k p′ m, going nothing)
@@ -144,20 +144,20 @@ module _ {regions : ℕ} {v : View} {area : List ℕ} {m : Mem} {t : ℕ} {p : P
 
   -- The exchange is won, and the writes ws, the new head word among them, change the task's own part to s, but not its
   -- caches: it goes to the place p′.
-  pub wins : {ℓ items x : ℕ} {nx : ℕ → Field} {column : Memory → ℕ → ℕ} {q : List ℕ} → Kind regions ℓ items nx column
+  pub wins : {ℓ items x : ℕ} {nx : ℕ → Field} {column : Contents → ℕ → ℕ} {q : List ℕ} → Kind regions ℓ items nx column
       → Won v m t ℓ nx x q → (ws : List Write) (s : Slot) (p′ : Place)
-      → memoryOf (assigned ws v) area
-      ≡ withSlots (slotOf (assigned ws v)) (setHead ℓ (headOf (advancedWord (v (TaskHead t)) x)) (memoryOf v area))
+      → contentsOf (assigned ws v) area
+      ≡ withSlots (slotOf (assigned ws v)) (setHead ℓ (headOf (advancedWord (v (TaskHead t)) x)) (contentsOf v area))
       → slotOf (assigned ws v) t ≡ s → ((j : ℕ) → t ≢ j → slotOf (assigned ws v) j ≡ slotOf v j)
       → s .class ≡ slotOf v t .class → s .caches ≡ slotOf v t .caches
-      → PlaceRelated regions (setSlot t s (setHead ℓ (headOf (advancedWord (v (TaskHead t)) x)) (memoryOf v area)))
+      → PlaceRelated regions (setSlot t s (setHead ℓ (headOf (advancedWord (v (TaskHead t)) x)) (contentsOf v area)))
       (at t k p′ (setRow ℓ q m)) s p′
-      → Related regions (memoryOf (assigned ws v) area) (at t k p′ (setRow ℓ q m))
+      → Related regions (contentsOf (assigned ws v) area) (at t k p′ (setRow ℓ q m))
   wins {ℓ} {x = x} {q = q} K W ws s p′ e own others f g pl =
       let word = v (TaskHead t) in
       let new = headOf (advancedWord word x) in
       let i : x < ITEMS = omega (arith, W .most) in
-      shares w ws s p′ (setHead ℓ new (memoryOf v area)) (setRow ℓ q m)
+      shares w ws s p′ (setHead ℓ new (contentsOf v area)) (setRow ℓ q m)
       (heading (w .pair) ℓ new q s (taskOf p′ k) (tagOf-advanced word x i ∙ W .tag)
       (of-descriptors v K (rw (itemOf-advanced word x i) (W .linked)))
       (of-regions v K (rw (itemOf-advanced word x i) (W .linked))))

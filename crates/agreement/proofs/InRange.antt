@@ -28,7 +28,7 @@ use Rattle.control.specs.Layout.{Anchor, CacheTop, CacheCount, TaskUnit, TaskPl
 use Rattle.control.specs.Layout.{TaskState, DescriptorClass, Regions, seen}
 use Rattle.control.specs.Places.{PUSH-RELEASE, PUSH-OFFER, A3-READ, F1, F4-CLEAR}
 use Rattle.stepped.specs.Ranges.{isBlock, isTop}
-use Rattle.agreement.specs.Memory.{slotOf, memoryOf}
+use Rattle.agreement.specs.Contents.{slotOf, contentsOf}
 use Rattle.agreement.specs.Relation.{PlaceRelated, Related}
 use Rattle.stepped.specs.Outcome.{Memories}
 use Rattle.agreement.specs.Events.{Event, whole, Premises, Unstarted}
@@ -55,7 +55,7 @@ module _ (regions : ℕ) (v : View) (area : List ℕ) (m : Mem) (t : ℕ) where
   abbrev d : ℕ
   d = v (TaskDescriptor t)
 
-  module _ {p : Place} {k : ℕ → List ℕ} (w : Pair regions (memoryOf v area) m t p k)
+  module _ {p : Place} {k : ℕ → List ℕ} (w : Pair regions (contentsOf v area) m t p k)
       (noted : v (TaskState t) ≤ FULL) where
     abbrev c : ℕ
     c = v (TaskClass t)
@@ -99,7 +99,7 @@ module _ (regions : ℕ) (v : View) (area : List ℕ) (m : Mem) (t : ℕ) where
       top-below : v (CacheTop t e) ≤ UNITS
       top-below = top-max w e (v (CacheTop t e)) row top-linked (λ x. omega arith)
 
-    task-in-range : PlaceRelated regions (memoryOf v area) m (slotOf v t) p → TaskInRange regions v t
+    task-in-range : PlaceRelated regions (contentsOf v area) m (slotOf v t) p → TaskInRange regions v t
     task-in-range P =
         let N = numbers-at regions v area m t k noted w P in
         let F = N .2 in
@@ -130,7 +130,7 @@ chain-most EMPTY n l o h = absurd (omega (arith, o 1))
 chain-most PARTIAL n l o h = omega arith
 chain-most Plain.FULL n l o h = omega arith
 
-module _ {regions : ℕ} (v : View) {area : List ℕ} {m : Mem} (R : Related regions (memoryOf v area) m)
+module _ {regions : ℕ} (v : View) {area : List ℕ} {m : Mem} (R : Related regions (contentsOf v area) m)
     (I : Invariant regions m) where
   open-anchor : (e : ℕ) → e < DESCRIPTORS → 1 ≤ anchorOf (v (Anchor e)) .state
       → OpenAnchor (perRegion (v (DescriptorClass e))) (anchorOf (v (Anchor e)) .avail) (anchorOf (v (Anchor e)) .count)
@@ -158,7 +158,7 @@ in-range {s₁} {s} S noted started =
     let C = R .core in
     let I = S .good .inv q in
     let e : v Regions ≡ s .regions = S .regions q in
-    let pair : (t : ℕ) (l : t < TASKS) → Pair (s .regions) (memoryOf v (s₁ .area)) (s .mem) t (s .mem .task t .place)
+    let pair : (t : ℕ) (l : t < TASKS) → Pair (s .regions) (contentsOf v (s₁ .area)) (s .mem) t (s .mem .task t .place)
     (s .mem .task t .cache) =
     λ t l. record { rel = R; turn = record { inv = I; fits = l; is = refl }; small = S .good .small q } in
     record {

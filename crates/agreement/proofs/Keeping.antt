@@ -20,7 +20,7 @@ use Rattle.plain.proofs.Places.{lengths}
 use Rattle.control.specs.Layout.{CacheCount, CacheTop, GroupCount, TaskClass, TaskPlace, TaskUnit}
 use Rattle.control.specs.Places.{IDLE, F2}
 use Rattle.stepped.specs.Free as Free
-use Rattle.agreement.specs.Memory.{slotOf}
+use Rattle.agreement.specs.Contents.{slotOf}
 use Rattle.agreement.specs.Relation.{r-f2, r-idle, r-working}
 use Rattle.agreement.proofs.Slots.{toGrouped, toPlace}
 use Rattle.agreement.proofs.Couple.{mine}

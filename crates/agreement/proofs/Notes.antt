@@ -9,8 +9,8 @@ use Rattle.rows.specs.Counting.{count}
 use Rattle.rows.specs.Linked.{Linked, ends, links}
 use Rattle.rows.proofs.Weights.{when-same}
 use Rattle.classes.specs.Classes.{perRegion}
-use Rattle.classes.specs.Places.{indexOf, unitOf}
-use Rattle.classes.proofs.Places.{index-below, unit-again}
+use Rattle.classes.specs.Geometry.{indexOf, unitOf}
+use Rattle.classes.proofs.BlockUnits.{index-below, unit-again}
 use Rattle.words.specs.Anchor.{anchorOf}
 use Rattle.words.proofs.Anchors.{word-of-anchor}
 use Rattle.plain.specs.State.{EMPTY, FULL, Mem, Note, PARTIAL, State, numberOf}

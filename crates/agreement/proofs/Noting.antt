@@ -9,7 +9,7 @@ use Rattle.limits.specs.Limits.{MOST-BLOCKS}
 use Rattle.words.specs.Anchor.{anchorOf}
 use Rattle.words.specs.declared.anchor.Anchor.{Anchor}
 use Rattle.classes.specs.Classes.{perRegion}
-use Rattle.classes.proofs.Places.{index-below}
+use Rattle.classes.proofs.BlockUnits.{index-below}
 use Rattle.classes.proofs.Tables.{perRegion-high}
 use Rattle.plain.specs.State.{Mem, Note}
 use Rattle.stepped.specs.Ranges.{isAnchor, hasFirst, hasRoom}

@@ -15,8 +15,8 @@ use Rattle.rows.specs.Linked.{Linked, ends, links, walk}
 use Rattle.rows.proofs.Totals.{total-one, total-two, total-only, total-same}
 use Rattle.rows.proofs.Pigeonhole.{pigeonhole}
 use Rattle.rows.proofs.Linked.{linked-walk, linked-append-one}
-use Rattle.classes.specs.Places.{unitOf, indexOf, Block}
-use Rattle.classes.proofs.Places.{unit-again, unit-below}
+use Rattle.classes.specs.Geometry.{unitOf, indexOf, Block}
+use Rattle.classes.proofs.BlockUnits.{unit-again, unit-below}
 use Rattle.links.specs.Link.{link}
 use Rattle.plain.specs.State.{State, EMPTY, PARTIAL, FULL, numberOf, Phase, Place, Mem, Work, working}
 use Rattle.plain.specs.Calls.{rising, NotEmpty, Opens, opens?}
@@ -34,7 +34,7 @@ use Rattle.plain.proofs.Places.{placeHolds}
 use Rattle.plain.proofs.Starts.{rising-count, length-rising}
 use Rattle.control.specs.Places.{IDLE, A1, A3-READ, A3-EXCHANGE, A4, A7, A8, F1, F2, F3-READ, F3-LINK, F3-EXCHANGE}
 use Rattle.control.specs.Places.{F4-CLEAR}
-use Rattle.agreement.specs.Memory.{Memory}
+use Rattle.agreement.specs.Contents.{Contents}
 use Rattle.agreement.specs.Relation.{PopRelated, PushRelated, GroupRelated, PlaceRelated, r-idle, r-a1, r-partial}
 use Rattle.agreement.specs.Relation.{r-spare, r-region, r-retire, r-back, r-release, r-offer, r-a3-read}
 use Rattle.agreement.specs.Relation.{r-a3-exchange, r-a4, r-a7, r-a8, r-f1, r-f2, r-f2-more, r-f3-read, r-f3-link}
@@ -42,7 +42,7 @@ use Rattle.agreement.specs.Relation.{r-f3-exchange, r-f4-clear, Descript
 use Rattle.agreement.specs.Relation.{r-working}
 use Rattle.agreement.specs.Observe.{listFrom, classBy, chainBy, plainClassBy, plainChainBy, plainClass}
 use Rattle.agreement.specs.Observe.{plainChain, underWays, blocksAt, inCache, withTask, hands, task, chain}
-use Rattle.agreement.specs.Observe.{holderOf, Same}
+use Rattle.agreement.specs.Observe.{holderOf, SameObserved}
 use Rattle.agreement.proofs.Couple.{Pair}
 use Rattle.agreement.proofs.Notes.{number-open}
 use Rattle.agreement.proofs.Groups.{of-region}
@@ -66,7 +66,7 @@ more h = omega arith
 
 -- ---- open regions
 
-module _ {regions : ℕ} {a : Memory} {m : Mem} (R : Related regions a m) (I : Invariant regions m) where
+module _ {regions : ℕ} {a : Contents} {m : Mem} (R : Related regions a m) (I : Invariant regions m) where
   not-empty : (z : State) → NotEmpty z → 1 ≤ numberOf z
   not-empty EMPTY h = absurd h
   not-empty PARTIAL h = omega arith
@@ -130,7 +130,7 @@ module _ {regions : ℕ} {a : Memory} {m : Mem} (R : Related regions a m) (I : I
 freed-with : {u : ℕ} {q r : List ℕ} → q ≡ r → u ∷ q ≡ u ∷ r
 freed-with {u} e = ap (λ (z : List ℕ). u ∷ z) e
 
-module _ {regions : ℕ} {a : Memory} {m : Mem} {t : ℕ} {k : ℕ → List ℕ} where
+module _ {regions : ℕ} {a : Contents} {m : Mem} {t : ℕ} {k : ℕ → List ℕ} where
   group-is : {p : Place} {y : ℕ} {g : List ℕ} (w : Pair regions a m t p k) (G : GroupRelated a (a .slot t) y g)
       → ((v : ℕ) → count v (y ∷ g) ≤ count v (underWay p)) → classAt p ≡ a .slot t .class → Together y g
       → walk (link (a .area)) (unitOf (a .slot t .hand .region) (a .slot t .class)) (a .slot t .group .first)
@@ -222,7 +222,7 @@ holder-same zero f g c t h = refl
 holder-same (suc n) f g c t h =
     rw (h t (omega arith) (omega arith), holder-same n f g c (suc t) (λ j l k. h j (omega arith) (omega arith)))
 
-module _ {regions : ℕ} {a : Memory} {m : Mem} (small : regions ≤ REGIONS) (R : Related regions a m)
+module _ {regions : ℕ} {a : Contents} {m : Mem} (small : regions ≤ REGIONS) (R : Related regions a m)
     (I : Invariant regions m) where
   with-task : (t v : ℕ) → t < TASKS → withTask a t v ≡ blockWeight v t (m .task t)
   with-task t v l =
@@ -312,7 +312,7 @@ module _ {regions : ℕ} {a : Memory} {m : Mem} (small : regions ≤ REGIONS) (R
           (subst (λ (x : ℕ). Block x (D .class) v) (q .0)
           (counts-block (D .region) (D .class) v (omega (arith, L .inside v))))
 
-  pub observed : Same regions a m
+  pub observed : SameObserved regions a m
   observed = record {
     lists =
         λ ℓ l. list-read (suc DESCRIPTORS) (R .core .lists .rows ℓ l)

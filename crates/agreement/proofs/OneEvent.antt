@@ -24,7 +24,7 @@ use Rattle.stepped.specs.Calls.{Lent, lengths}
 use Rattle.stepped.specs.Calls as Stepped
 use Rattle.agreement.specs.Events.{Event, write, stepped, whole, Taken, Premise, call}
 use Rattle.agreement.specs.Events.{CallPremise}
-use Rattle.agreement.specs.Agreement.{Kept}
+use Rattle.agreement.specs.Agreement.{HandsKept}
 use Rattle.agreement.proofs.Both.{Both}
 use Rattle.agreement.proofs.Turns.{At}
 use Rattle.agreement.specs.Tied.{Tied}
@@ -85,19 +85,19 @@ good-after : {lent : Lengths} {t : ℕ} {s : Pool} (y : Result) → Good (Plain.
 good-after y g T = subst (λ (x : Pool × Answer). Good (x .0)) (taken-is y T) g
 
 -- what the turn of one call shows of the memories after it
-abbrev pub CallShown : Call → Memories → Pool → Memories → Type 0
-CallShown (start b) s₁ s z = Unit {0}
-CallShown (allocate t size) s₁ s z = Kept s₁ s z
-CallShown (free t u) s₁ s z = Kept s₁ s z
-CallShown (step t) s₁ s z = Kept s₁ s z
+abbrev pub CallKeeps : Call → Memories → Pool → Memories → Type 0
+CallKeeps (start b) s₁ s z = Unit {0}
+CallKeeps (allocate t size) s₁ s z = HandsKept s₁ s z
+CallKeeps (free t u) s₁ s z = HandsKept s₁ s z
+CallKeeps (step t) s₁ s z = HandsKept s₁ s z
 
-abbrev pub Shown : Event → Memories → Pool → Memories → Type 0
-Shown (call k lent) s₁ s z = CallShown k s₁ s z
-Shown (write at b) s₁ s z = Unit {0}
+abbrev pub EventKeeps : Event → Memories → Pool → Memories → Type 0
+EventKeeps (call k lent) s₁ s z = CallKeeps k s₁ s z
+EventKeeps (write at b) s₁ s z = Unit {0}
 
 -- one call: the same answer, in relation again, and each byte in hands as it was
 call-alike : (k : Call) (lent : Lent) (s₁ : Memories) (s : Pool) → Tied s₁ s → CallPremise k (lengths lent) s
-    → Alike (CallShown k s₁ s) (stepped (call k lent) s₁) (whole (call k lent) s)
+    → Alike (CallKeeps k s₁ s) (stepped (call k lent) s₁) (whole (call k lent) s)
 unfolding Plain.call Stepped.allocateOutcome Stepped.freeOutcome Stepped.stepOutcome
 call-alike (start b) lent s₁ s S h =
     start-alike S (lent .control) (lent .area) (b .tasks) (ℕ-discrete (lent .control) CONTROL-BYTES)
@@ -132,7 +132,7 @@ call-alike (step t) lent s₁ s S h =
 
 -- one event
 pub alike : (e : Event) (s₁ : Memories) (s : Pool) → Tied s₁ s → Premise e s
-    → Alike (Shown e s₁ s) (stepped e s₁) (whole e s)
+    → Alike (EventKeeps e s₁ s) (stepped e s₁) (whole e s)
 alike (call k lent) s₁ s S h = call-alike k lent s₁ s S h
 alike (write at b) s₁ s S h = record {
   says = refl;

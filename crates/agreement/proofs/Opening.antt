@@ -38,7 +38,7 @@ use Rattle.control.specs.Layout.{TaskPlace, TaskClass, TaskDescriptor, TaskRegi
 use Rattle.control.specs.Layout.{DescriptorRegion, DescriptorClass, Map}
 use Rattle.control.specs.Places.{A8}
 use Rattle.stepped.specs.Allocate as Allocate
-use Rattle.agreement.specs.Memory.{Memory, Slot, slotOf, memoryOf}
+use Rattle.agreement.specs.Contents.{Contents, Slot, slotOf, contentsOf}
 use Rattle.agreement.specs.Relation.{DescriptorRelated, SlotRelated, Core, Related, r-a8, r-working}
 use Rattle.agreement.proofs.Slots.{toPlace, toChain}
 use Rattle.agreement.proofs.Sets.{withSlots, setSlot, setOwner}
@@ -74,7 +74,7 @@ abbrev opened : ℕ → ℕ → Descriptor
 opened r c = record { state = FULL; region = r; class = c; chain = [] }
 
 -- the change over records: the descriptor d is written whole, and the map's entry e of the region r names it
-opening : {regions : ℕ} {a : Memory} {m : Mem} {t c d r : ℕ} {k : ℕ → List ℕ}
+opening : {regions : ℕ} {a : Contents} {m : Mem} {t c d r : ℕ} {k : ℕ → List ℕ}
     (w : Pair regions a m t (working (a7 c d r)) k) (e : ℕ)
     (s : Slot) (T : Task) → c < CLASSES → e ≡ suc d
     → SlotRelated regions (setSlot t s (setOwner d (full (perRegion c)) r c e a))
@@ -171,11 +171,11 @@ module _ {regions : ℕ} {v : View} {area : List ℕ} {m : Mem} {t : ℕ} {k : �
         keeps = (refl, refl);
         rel = shares w
             (TaskPlace t := A8 ∷ TaskIndex t := 0 ∷ writes) s (working (a8 c r 0))
-            (setOwner d (full (perRegion c)) r c (d + 1) (memoryOf v area))
+            (setOwner d (full (perRegion c)) r c (d + 1) (contentsOf v area))
             (setMap r (suc d) (setDescriptor d (opened r c) m))
             (opening (w .pair) (d + 1) s (taskOf (working (a8 c r 0)) k) (mine (w .pair) .fits) (add-one d))
             (owner-written v S area d word r c (d + 1)
-            ∙ ap (λ (z : Anchor). withSlots S (setOwner d z r c (d + 1) (memoryOf v area))) (full-read c))
+            ∙ ap (λ (z : Anchor). withSlots S (setOwner d z r c (d + 1) (contentsOf v area))) (full-read c))
             refl refl (rw (eq-eqb t t refl)) (λ j n. rw (ne-eqb t j n)) refl refl (r-working (r-a8 refl));
         sound = omega (
           arith,

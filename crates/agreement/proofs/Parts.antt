@@ -13,7 +13,7 @@ use Rattle.rows.proofs.Linked.{linked-frame, linked-update}
 use Rattle.rows.proofs.Update.{update-all, update-all₂}
 use Rattle.plain.specs.State.{Descriptor, EMPTY, FULL, PARTIAL, State, numberOf}
 use Rattle.plain.specs.States.{IfOpen, IsOpen}
-use Rattle.agreement.specs.Memory.{Lists, Descriptors, Entries}
+use Rattle.agreement.specs.Contents.{Lists, Descriptors, Entries}
 use Rattle.agreement.specs.Relation.{ChainRelated, DescriptorRelated, DescriptorsRelated, EntriesRelated}
 use Rattle.agreement.specs.Relation.{ListsRelated, wrap}
 use Rattle.agreement.proofs.Sets.{withHeads, withDescriptorNexts, withRegionNexts, withAnchors, withMap}

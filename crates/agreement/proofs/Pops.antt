@@ -28,7 +28,7 @@ use Rattle.stepped.specs.Lists as Lists
 use Rattle.stepped.specs.Steps as Stepped
 use Rattle.stepped.proofs.MovePlaces.{pop-steps}
 use Rattle.agreement.specs.Events.{Recent}
-use Rattle.agreement.specs.Memory.{Slot, Memory, slotOf, memoryOf}
+use Rattle.agreement.specs.Contents.{Slot, Contents, slotOf, contentsOf}
 use Rattle.agreement.specs.Relation.{tail, PopRelated, PushRelated, PlaceRelated, r-idle, r-partial, r-spare}
 use Rattle.agreement.specs.Relation.{r-region, r-back, r-a3-read, r-a7, r-working}
 use Rattle.agreement.proofs.Slots.{toPlace, toNext, toDescriptor, toRegion}
@@ -62,7 +62,7 @@ pop-list v t Spare = refl
 pop-list v t Region = refl
 
 -- the column of the nexts of its items
-abbrev nexts : Pop → Memory → ℕ → ℕ
+abbrev nexts : Pop → Contents → ℕ → ℕ
 nexts Partial a = a .lists .descriptorNext
 nexts Spare a = a .lists .descriptorNext
 nexts Region a = a .lists .regionNext
@@ -74,7 +74,7 @@ pop-kind Spare regions c h = descriptors {ℓ = SPARE-DESCRIPTORS} (omega arith)
 pop-kind Region regions c h = spare-regions
 
 -- the place of a pop
-pub pop-place : {regions : ℕ} {a : Memory} {m : Mem} {s : Slot} {φ : Phase} (P : Pop)
+pub pop-place : {regions : ℕ} {a : Contents} {m : Mem} {s : Slot} {φ : Phase} (P : Pop)
     → PopRelated m s (Lists.popPlace P) (Lists.popList P (s .class)) (Lists.popItems P regions) φ
     → PlaceRelated regions a m s (working (popping (plainPop P (s .class) (s .hand .descriptor)) φ))
 pop-place Partial h = r-working (r-partial h)
@@ -166,11 +166,11 @@ module _ {regions : ℕ} {v : View} {area : List ℕ} {m : Mem} {t : ℕ} {k : �
   -- ---- the exchange
 
   -- won with the descriptor x, which is then in hand
-  descriptor-won : {ℓ items : ℕ} {nx : ℕ → Field} {column : Memory → ℕ → ℕ} {p : Place} {q : List ℕ}
+  descriptor-won : {ℓ items : ℕ} {nx : ℕ → Field} {column : Contents → ℕ → ℕ} {p : Place} {q : List ℕ}
       → At regions v area m t p k → Kind regions ℓ items nx column → Won v m t ℓ nx (v (TaskNext t)) q
       → (e : Decided) (x b : ℕ) (p′ : Place) → x < DESCRIPTORS → b < 256
       → PlaceRelated regions (setSlot t (toPlace b (toDescriptor x (slotOf v t)))
-      (setHead ℓ (headOf (advanced v t)) (memoryOf v area))) (Steps.at t k p′ (setRow ℓ q m))
+      (setHead ℓ (headOf (advanced v t)) (contentsOf v area))) (Steps.at t k p′ (setRow ℓ q m))
       (toPlace b (toDescriptor x (slotOf v t))) p′
       → Both regions v area m (accept e (TaskPlace t := b ∷ TaskDescriptor t := x ∷ Head ℓ := advanced v t ∷ []) [])
       (Steps.at t k p′ (setRow ℓ q m), going e)
@@ -265,7 +265,7 @@ pop-both {regions} {v} {t = t} link P w (PopRelated.at-exchange e N i l b f) nea
 -- a step at a place of a pop, from what the relation says of the place
 pub pops : {regions : ℕ} {v : View} {area : List ℕ} {m : Mem} {t : ℕ} {k : ℕ → List ℕ} {p : Plain.Pop} {φ : Phase}
     (link : ℕ → ℕ) → At regions v area m t (working (popping p φ)) k
-    → PlaceRelated regions (memoryOf v area) m (slotOf v t) (working (popping p φ))
+    → PlaceRelated regions (contentsOf v area) m (slotOf v t) (working (popping p φ))
     → Recent (m .won (Steps.popList p)) φ
     → Both regions v area m (Stepped.stepAt v link regions t (v (TaskClass t)) (v (TaskPlace t)))
     (Steps.stepAt t k (popping p φ) m)

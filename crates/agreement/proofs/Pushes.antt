@@ -27,7 +27,7 @@ use Rattle.stepped.specs.Lists as Lists
 use Rattle.stepped.specs.Steps as Stepped
 use Rattle.stepped.proofs.MovePlaces.{push-steps}
 use Rattle.agreement.specs.Events.{Recent}
-use Rattle.agreement.specs.Memory.{Slot, Memory, slotOf, memoryOf}
+use Rattle.agreement.specs.Contents.{Slot, Contents, slotOf, contentsOf}
 use Rattle.agreement.specs.Relation.{PopRelated, PushRelated, PlaceRelated, r-idle, r-partial, r-retire, r-back}
 use Rattle.agreement.specs.Relation.{r-release, r-offer, r-working}
 use Rattle.agreement.proofs.Slots.{toPlace}
@@ -54,7 +54,7 @@ inHand Release s = s .hand .region
 inHand Offer s = s .hand .descriptor
 
 -- the column of the nexts of the list's items
-abbrev pub pushNexts : Push → Memory → ℕ → ℕ
+abbrev pub pushNexts : Push → Contents → ℕ → ℕ
 pushNexts Retire a = a .lists .descriptorNext
 pushNexts Back a = a .lists .descriptorNext
 pushNexts Release a = a .lists .regionNext
@@ -68,7 +68,7 @@ Found Release was z = was ≡ numberOf z
 Found Offer was z = Unit {0}
 
 -- the place of a push
-pub push-place : {regions : ℕ} {a : Memory} {m : Mem} {s : Slot} {φ : Phase} (P : Push) (z : State)
+pub push-place : {regions : ℕ} {a : Contents} {m : Mem} {s : Slot} {φ : Phase} (P : Push) (z : State)
     → Found P (s .hand .state) z
     → PushRelated m s (Lists.pushPlace P) (Lists.pushList P (s .class)) (Lists.pushItems P regions) (inHand P s)
     (pushNexts P a) φ
@@ -126,7 +126,7 @@ item-is v t b Offer = refl
 
 -- so is its next in the column
 next-is : (v : View) (area : List ℕ) (t : ℕ) (P : Push)
-    → pushNexts P (memoryOf v area) (inHand P (slotOf v t)) ≡ v (Lists.pushNextField P (itemAt v t P))
+    → pushNexts P (contentsOf v area) (inHand P (slotOf v t)) ≡ v (Lists.pushNextField P (itemAt v t P))
 next-is v area t Retire = refl
 next-is v area t Back = refl
 next-is v area t Release = refl
@@ -169,7 +169,7 @@ module _ {regions : ℕ} {v : View} {area : List ℕ} {m : Mem} {t : ℕ} {k : �
   pub push-next : (P : Push) (z : State) {n : ℕ} → At regions v area m t (working (pushing (pushOf v t z P) (next n))) k
       → Found P (v (TaskState t)) z
       → PushRelated m (slotOf v t) (Lists.pushPlace P) (listOf v t P) (Lists.pushItems P regions)
-      (inHand P (slotOf v t)) (pushNexts P (memoryOf v area)) (next n)
+      (inHand P (slotOf v t)) (pushNexts P (contentsOf v area)) (next n)
       → Both regions v area m (Lists.pushNext v regions t (v (TaskClass t)) P)
       (Steps.pushStep t k (pushOf v t z P) (next n) m)
   unfolding Lists.pushNext kind
@@ -184,7 +184,7 @@ module _ {regions : ℕ} {v : View} {area : List ℕ} {m : Mem} {t : ℕ} {k : �
       pass (ltb x items && leb below items) (both-true (lt-ltb x items (held-below w K x h)) (le-leb below items l))
       (writes-next w K x below b p′ h l (place-max P)
       (push-place P z f (PushRelated.at-exchange refl (kept w p′ N) l
-      (rw (item-is v t b P) (next-set K t (toPlace b (slotOf v t)) x below (memoryOf v area))))))
+      (rw (item-is v t b P) (next-set K t (toPlace b (slotOf v t)) x below (contentsOf v area))))))
 
   -- ---- the exchange
 
@@ -215,7 +215,7 @@ module _ {regions : ℕ} {v : View} {area : List ℕ} {m : Mem} {t : ℕ} {k : �
       → At regions v area m t (working (pushing (pushOf v t z P) (exchange n))) k
       → Found P (v (TaskState t)) z
       → PushRelated m (slotOf v t) (Lists.pushPlace P) (listOf v t P) (Lists.pushItems P regions)
-      (inHand P (slotOf v t)) (pushNexts P (memoryOf v area)) (exchange n)
+      (inHand P (slotOf v t)) (pushNexts P (contentsOf v area)) (exchange n)
       → m .won (listOf v t P) < n + TAGS
       → Both regions v area m (Lists.pushExchange v regions t (v (TaskClass t)) P)
       (Steps.pushStep t k (pushOf v t z P) (exchange n) m)
@@ -252,7 +252,7 @@ pub push-both : {regions : ℕ} {v : View} {area : List ℕ} {m : Mem} {t : ℕ}
     (P : Push) (z : State) → At regions v area m t (working (pushing (pushOf v t z P) φ)) k
     → Found P (v (TaskState t)) z
     → PushRelated m (slotOf v t) (Lists.pushPlace P) (listOf v t P) (Lists.pushItems P regions) (inHand P (slotOf v t))
-    (pushNexts P (memoryOf v area)) φ
+    (pushNexts P (contentsOf v area)) φ
     → Recent (m .won (listOf v t P)) φ
     → Both regions v area m (Stepped.stepAt v link regions t (v (TaskClass t)) (v (TaskPlace t)))
     (Steps.pushStep t k (pushOf v t z P) φ m)
@@ -267,7 +267,7 @@ push-both {regions} {v} {t = t} link P z w f (PushRelated.at-exchange e N l g) n
 -- a step at a place of a push, from what the relation says of the place; only a release has a state found
 pub pushes : {regions : ℕ} {v : View} {area : List ℕ} {m : Mem} {t : ℕ} {k : ℕ → List ℕ} {p : Plain.Push} {φ : Phase}
     (link : ℕ → ℕ) → At regions v area m t (working (pushing p φ)) k
-    → PlaceRelated regions (memoryOf v area) m (slotOf v t) (working (pushing p φ))
+    → PlaceRelated regions (contentsOf v area) m (slotOf v t) (working (pushing p φ))
     → Recent (m .won (Steps.pushList p)) φ
     → Both regions v area m (Stepped.stepAt v link regions t (v (TaskClass t)) (v (TaskPlace t)))
     (Steps.stepAt t k (pushing p φ) m)

@@ -15,9 +15,9 @@ use Rattle.control.specs.Layout.{TaskState}
 use Rattle.control.specs.Places.{PUSH-OFFER, F1, F2}
 use Rattle.control.specs.Answers.{codeOf, valueOf}
 use Rattle.control.specs.declared.answer.Answer.{Answer}
-use Rattle.stepped.specs.Outcome.{close}
+use Rattle.stepped.specs.Outcome.{over}
 use Rattle.stepped.specs.Lists as Lists
-use Rattle.agreement.specs.Memory.{Memory, slotOf, memoryOf}
+use Rattle.agreement.specs.Contents.{Contents, slotOf, contentsOf}
 use Rattle.agreement.specs.Relation.{PushRelated, PlaceRelated, Related, r-offer, r-f1, r-f2, r-working}
 use Rattle.agreement.proofs.Slots.{toPlace, toGrouped}
 use Rattle.agreement.proofs.Sets.{setSlot, setHead}
@@ -32,7 +32,7 @@ abbrev pub advanced : View → ℕ → ℕ → ℕ
 advanced v t x = advancedWord (v (TaskHead t)) (x + 1)
 
 module _ {regions : ℕ} {v : View} {area : List ℕ} {m : Mem} {t : ℕ} {p : Place} {k : ℕ → List ℕ}
-    (w : At regions v area m t p k) {ℓ items : ℕ} {nx : ℕ → Field} {column : Memory → ℕ → ℕ} {q : List ℕ}
+    (w : At regions v area m t p k) {ℓ items : ℕ} {nx : ℕ → Field} {column : Contents → ℕ → ℕ} {q : List ℕ}
     (K : Kind regions ℓ items nx column) (x : ℕ) (W : Won v m t ℓ nx (x + 1) q) where
   exchange-sound : Sound layout (Head ℓ := advanced v t x ∷ [])
   exchange-sound =
@@ -41,9 +41,9 @@ module _ {regions : ℕ} {v : View} {area : List ℕ} {m : Mem} {t : ℕ} {p : P
   -- to a place, and nothing else
   leads : (b : ℕ) (p′ : Place)
       → PlaceRelated regions (setSlot t (toPlace b (slotOf v t))
-      (setHead ℓ (headOf (advanced v t x)) (memoryOf v area))) (Steps.at t k p′ (setRow ℓ q m))
+      (setHead ℓ (headOf (advanced v t x)) (contentsOf v area))) (Steps.at t k p′ (setRow ℓ q m))
       (toPlace b (slotOf v t)) p′
-      → Related regions (memoryOf (assigned (TaskPlace t := b ∷ Head ℓ := advanced v t x ∷ []) v) area)
+      → Related regions (contentsOf (assigned (TaskPlace t := b ∷ Head ℓ := advanced v t x ∷ []) v) area)
       (Steps.at t k p′ (setRow ℓ q m))
   leads b p′ pl =
       let ws = TaskPlace t := b ∷ Head ℓ := advanced v t x ∷ [] in
@@ -52,9 +52,9 @@ module _ {regions : ℕ} {v : View} {area : List ℕ} {m : Mem} {t : ℕ} {p : P
 
   pub leads-to : (A : Answer) (e : Decided) (b : ℕ) (p′ : Place) → b < 256
       → PlaceRelated regions (setSlot t (toPlace b (slotOf v t))
-      (setHead ℓ (headOf (advanced v t x)) (memoryOf v area))) (Steps.at t k p′ (setRow ℓ q m))
+      (setHead ℓ (headOf (advanced v t x)) (contentsOf v area))) (Steps.at t k p′ (setRow ℓ q m))
       (toPlace b (slotOf v t)) p′
-      → Both regions v area m (close A e (TaskPlace t := b ∷ Head ℓ := advanced v t x ∷ []) [])
+      → Both regions v area m (over A e (TaskPlace t := b ∷ Head ℓ := advanced v t x ∷ []) [])
       (Steps.at t k p′ (setRow ℓ q m), record { code = codeOf A; value = valueOf A; decided = e })
   leads-to A e b p′ l pl =
       let fits = w .pair .turn .fits in
@@ -69,7 +69,7 @@ module _ {regions : ℕ} {v : View} {area : List ℕ} {m : Mem} {t : ℕ} {p : P
 
   -- to step 2 of a free, with a group of none
   leads-f2 : Related regions
-      (memoryOf (assigned (TaskPlace t := F2 ∷ GroupCount t := 0 ∷ Head ℓ := advanced v t x ∷ []) v) area)
+      (contentsOf (assigned (TaskPlace t := F2 ∷ GroupCount t := 0 ∷ Head ℓ := advanced v t x ∷ []) v) area)
       (Steps.at t k (working (f2 (v (TaskClass t)) (v (TaskUnit t)) [])) (setRow ℓ q m))
   leads-f2 =
       let ws = TaskPlace t := F2 ∷ GroupCount t := 0 ∷ Head ℓ := advanced v t x ∷ [] in

@@ -13,7 +13,7 @@ use Rattle.fields.specs.Columns.{View, _:=_, assigned}
 use Rattle.links.specs.Link.{link}
 use Rattle.words.specs.Anchor.{anchorOf}
 use Rattle.classes.specs.Classes.{perRegion}
-use Rattle.classes.specs.Places.{regionOf}
+use Rattle.classes.specs.Geometry.{regionOf}
 use Rattle.plain.specs.State.{Mem, Note, f3-read, f3-link, f3-exchange, working}
 use Rattle.plain.specs.Moves.{going, nothing}
 use Rattle.plain.specs.Steps.{noteOf}
@@ -26,7 +26,7 @@ use Rattle.control.specs.Layout.{Anchor, GroupCount, GroupLast, Map, TaskAnchor
 use Rattle.control.specs.Layout.{TaskRegion, TaskUnit}
 use Rattle.control.specs.Places.{F3-LINK, F3-EXCHANGE}
 use Rattle.stepped.specs.Free as Free
-use Rattle.agreement.specs.Memory.{slotOf, memoryOf}
+use Rattle.agreement.specs.Contents.{slotOf, contentsOf}
 use Rattle.agreement.specs.Relation.{GroupRelated, NoteRelated, r-f3-exchange, r-f3-link, r-working}
 use Rattle.agreement.proofs.Slots.{toPlace, toAnchor, toDescriptor}
 use Rattle.agreement.proofs.Blocks.{cache-agrees, mine-apart, mine-under, re-link, row-agrees, wrote}
@@ -51,7 +51,7 @@ module _ {regions : ℕ} {v : View} {area : List ℕ} {m : Mem} {t : ℕ} {k : �
         (record { blocks = refl; class = refl; together = placeHolds (w .pair .turn) .2; named = e })
 
     -- the anchor of the descriptor d
-    read-of : (d : ℕ) → m .map (regionOf y) ≡ suc d → GroupRelated (memoryOf v area) (slotOf v t) y g
+    read-of : (d : ℕ) → m .map (regionOf y) ≡ suc d → GroupRelated (contentsOf v area) (slotOf v t) y g
         → Both regions v area m (Free.f3ReadOf v (link area) regions t (v (TaskClass t)) d (v (GroupCount t))) (
           Steps.at t k (working (f3-link (v (TaskClass t)) (v (TaskUnit t)) y g d (noteOf (m .descriptor d)))) m,
           going
@@ -81,7 +81,7 @@ module _ {regions : ℕ} {v : View} {area : List ℕ} {m : Mem} {t : ℕ} {k : �
         })
 
   pub f3-read-both : At regions v area m t (working (f3-read (v (TaskClass t)) (v (TaskUnit t)) y g)) k
-      → GroupRelated (memoryOf v area) (slotOf v t) y g
+      → GroupRelated (contentsOf v area) (slotOf v t) y g
       → Both regions v area m (Free.f3Read v (link area) regions t (v (TaskClass t)))
       (Steps.stepAt t k (f3-read (v (TaskClass t)) (v (TaskUnit t)) y g) m)
   unfolding Free.f3Read Free.f3ReadBy
@@ -103,7 +103,7 @@ module _ {regions : ℕ} {v : View} {area : List ℕ} {m : Mem} {t : ℕ} {k : �
 
   pub f3-link-both : {n : Note}
       → At regions v area m t (working (f3-link (v (TaskClass t)) (v (TaskUnit t)) y g (v (TaskDescriptor t)) n)) k
-      → GroupRelated (memoryOf v area) (slotOf v t) y g
+      → GroupRelated (contentsOf v area) (slotOf v t) y g
       → NoteRelated m (v (TaskClass t)) (v (TaskDescriptor t)) n (anchorOf (v (TaskAnchor t)))
       → v (GroupCount t) + anchorOf (v (TaskAnchor t)) .count ≤ perRegion (v (TaskClass t))
       → Both regions v area m (Free.f3Link v (link area) regions t (v (TaskClass t)))

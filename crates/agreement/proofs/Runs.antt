@@ -8,7 +8,7 @@ use lib.ListN.{length}
 use Rattle.limits.specs.Limits.{UNIT-BYTES, TAGS}
 use Rattle.rows.specs.Branch.{both}
 use Rattle.classes.specs.Classes.{block}
-use Rattle.classes.specs.Places.{unitOf, regionOf, indexOf}
+use Rattle.classes.specs.Geometry.{unitOf, regionOf, indexOf}
 use Rattle.plain.specs.State.{Phase, read, next, exchange}
 use Rattle.plain.specs.Noted.{Noted, unnoted, pop-noted, push-noted, anchor-noted, entry-noted, noted}
 use Rattle.plain.specs.Moves.{Answer}

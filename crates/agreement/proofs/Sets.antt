@@ -6,32 +6,32 @@ use Rattle.rows.specs.Update.{update}
 use Rattle.links.specs.Link.{withLink}
 use Rattle.words.specs.declared.head.Head.{Head}
 use Rattle.words.specs.declared.anchor.Anchor.{Anchor}
-use Rattle.agreement.specs.Memory.{Slot, Lists, Descriptors, Entries, Memory}
+use Rattle.agreement.specs.Contents.{Slot, Lists, Descriptors, Entries, Contents}
 
 -- ---- the parts
 
 -- other lists
-abbrev pub onLists : (Lists → Lists) → Memory → Memory
+abbrev pub onLists : (Lists → Lists) → Contents → Contents
 onLists f a =
     record { lists = f (a .lists); descriptors = a .descriptors; entries = a .entries; slot = a .slot; area = a .area }
 
 -- other descriptors
-abbrev pub onDescriptors : (Descriptors → Descriptors) → Memory → Memory
+abbrev pub onDescriptors : (Descriptors → Descriptors) → Contents → Contents
 onDescriptors f a =
     record { lists = a .lists; descriptors = f (a .descriptors); entries = a .entries; slot = a .slot; area = a .area }
 
 -- another map, other marks
-abbrev pub onEntries : (Entries → Entries) → Memory → Memory
+abbrev pub onEntries : (Entries → Entries) → Contents → Contents
 onEntries f a =
     record { lists = a .lists; descriptors = a .descriptors; entries = f (a .entries); slot = a .slot; area = a .area }
 
 -- other parts of the tasks
-abbrev pub withSlots : (ℕ → Slot) → Memory → Memory
+abbrev pub withSlots : (ℕ → Slot) → Contents → Contents
 withSlots S a =
     record { lists = a .lists; descriptors = a .descriptors; entries = a .entries; slot = S; area = a .area }
 
 -- another area
-abbrev pub withArea : List ℕ → Memory → Memory
+abbrev pub withArea : List ℕ → Contents → Contents
 withArea b a = record { lists = a .lists; descriptors = a .descriptors; entries = a .entries; slot = a .slot; area = b }
 
 -- ---- a part with another column
@@ -57,27 +57,27 @@ withMarks f e = record { map = e .map; mark = f }
 -- ---- one item of a column
 
 -- the part of the task t
-abbrev pub setSlot : ℕ → Slot → Memory → Memory
+abbrev pub setSlot : ℕ → Slot → Contents → Contents
 setSlot t s a = withSlots (update (a .slot) t s) a
 
 -- the head of the list ℓ
-abbrev pub setHead : ℕ → Head → Memory → Memory
+abbrev pub setHead : ℕ → Head → Contents → Contents
 setHead ℓ h = onLists (λ l. withHeads (update (l .head) ℓ h) l)
 
 -- the next of a descriptor
-abbrev pub setDescriptorNext : ℕ → ℕ → Memory → Memory
+abbrev pub setDescriptorNext : ℕ → ℕ → Contents → Contents
 setDescriptorNext d n = onLists (λ l. withDescriptorNexts (update (l .descriptorNext) d n) l)
 
 -- the next of a region
-abbrev pub setRegionNext : ℕ → ℕ → Memory → Memory
+abbrev pub setRegionNext : ℕ → ℕ → Contents → Contents
 setRegionNext r n = onLists (λ l. withRegionNexts (update (l .regionNext) r n) l)
 
 -- the anchor of a descriptor
-abbrev pub setAnchor : ℕ → Anchor → Memory → Memory
+abbrev pub setAnchor : ℕ → Anchor → Contents → Contents
 setAnchor d b = onDescriptors (λ D. withAnchors (update (D .anchor) d b) D)
 
 -- a descriptor written whole
-abbrev pub setDescriptor : ℕ → Anchor → ℕ → ℕ → Memory → Memory
+abbrev pub setDescriptor : ℕ → Anchor → ℕ → ℕ → Contents → Contents
 setDescriptor d b r c = onDescriptors (λ D. record {
   anchor = update (D .anchor) d b;
   region = update (D .region) d r;
@@ -85,17 +85,17 @@ setDescriptor d b r c = onDescriptors (λ D. record {
 })
 
 -- a map entry
-abbrev pub setMap : ℕ → ℕ → Memory → Memory
+abbrev pub setMap : ℕ → ℕ → Contents → Contents
 setMap r e = onEntries (λ E. withMap (update (E .map) r e) E)
 
 -- a descriptor written whole, and the map entry e of its region
-abbrev pub setOwner : ℕ → Anchor → ℕ → ℕ → ℕ → Memory → Memory
+abbrev pub setOwner : ℕ → Anchor → ℕ → ℕ → ℕ → Contents → Contents
 setOwner d b r c e a = setMap r e (setDescriptor d b r c a)
 
 -- a mark
-abbrev pub setMark : ℕ → ℕ → Memory → Memory
+abbrev pub setMark : ℕ → ℕ → Contents → Contents
 setMark u b = onEntries (λ e. withMarks (update (e .mark) u b) e)
 
 -- a link
-abbrev pub setLink : ℕ → ℕ → Memory → Memory
+abbrev pub setLink : ℕ → ℕ → Contents → Contents
 setLink u x a = withArea (withLink (a .area) u x) a

@@ -28,16 +28,16 @@ use Rattle.stepped.specs.Outcome.{Outcome, effect, refuse, Memories}
 use Rattle.stepped.specs.Calls as Stepped
 use Rattle.agreement.specs.Events.{ran, Taken}
 use Rattle.agreement.specs.Tied.{Tied}
-use Rattle.agreement.specs.Agreement.{Kept}
+use Rattle.agreement.specs.Agreement.{HandsKept}
 use Rattle.agreement.proofs.Both.{Both, Fitting}
 use Rattle.agreement.proofs.Views.{views-related}
 use Rattle.agreement.proofs.Writing.{byte-kept}
 
 -- the same answer, the relation after it, and what else is shown of the memories after it
-pub record Alike (Shown : Memories → Type 0) (x : Memories × Answer) (y : Pool × Answer) : Type 0 where
+pub record Alike (Further : Memories → Type 0) (x : Memories × Answer) (y : Pool × Answer) : Type 0 where
   pub says : x .1 ≡ y .1
   pub tied : Tied (x .0) (y .0)
-  pub shows : Shown (x .0)
+  pub shows : Further (x .0)
 
 -- the fields of bytes hold numbers of their widths
 pub fitting : (b : List ℕ) → Bytes b → Fitting (seen b)
@@ -48,9 +48,9 @@ module _ {s₁ : Memories} {s : Pool} (S : Tied s₁ s) where
   v = seen (s₁ .control)
 
   -- a refused call
-  pub stays : (Shown : Memories → Type 0) → Shown s₁ → (n : ℕ)
-      → Alike Shown (ran (effect (refuse n) (s₁ .control) (s₁ .area))) (Plain.refuse n s)
-  stays Shown h n = record {
+  pub stays : (Further : Memories → Type 0) → Further s₁ → (n : ℕ)
+      → Alike Further (ran (effect (refuse n) (s₁ .control) (s₁ .area))) (Plain.refuse n s)
+  stays Further h n = record {
     says = refl;
     shows = h;
     tied =
@@ -69,7 +69,7 @@ module _ {s₁ : Memories} {s : Pool} (S : Tied s₁ s) where
   -- an outcome whose writes are done on the bytes
   pub moves : (o : Outcome) (y : Result) → 1 ≤ s .tasks → Good (Plain.became s y .0)
       → Both (s .regions) v (s₁ .area) (s .mem) o y
-      → Alike (Kept s₁ s) (ran (effect o (s₁ .control) (s₁ .area))) (Plain.became s y)
+      → Alike (HandsKept s₁ s) (ran (effect o (s₁ .control) (s₁ .area))) (Plain.became s y)
   moves o y h g B = record {
     says = B .says;
     shows =
@@ -97,32 +97,32 @@ module _ {s₁ : Memories} {s : Pool} (S : Tied s₁ s) where
     Run o = ran (effect o (s₁ .control) (s₁ .area))
 
     test-five : control ≡ CONTROL-BYTES → 1 ≤ s .tasks → area ≡ REGION-BYTES * s .regions → (d : Dec (t < s .tasks))
-        → Alike (Kept s₁ s) (Run (cond (ltb t (v Tasks)) x (refuse 5))) (if d (Plain.became s y) (Plain.refuse 5 s))
+        → Alike (HandsKept s₁ s) (Run (cond (ltb t (v Tasks)) x (refuse 5))) (if d (Plain.became s y) (Plain.refuse 5 s))
     test-five p q r (yes l) =
         let T : Taken (record { control = control; area = area }) t s =
         record { control-is = p; started = q; area-is = r; below = l } in
         rw (S .tasks, lt-ltb t (s .tasks) l) (moves x y q (g T) (both T))
-    test-five p q r (no l) = rw (S .tasks, le-ltb t (s .tasks) (omega arith)) (stays (Kept s₁ s) (λ at k. refl) 5)
+    test-five p q r (no l) = rw (S .tasks, le-ltb t (s .tasks) (omega arith)) (stays (HandsKept s₁ s) (λ at k. refl) 5)
 
     test-two : control ≡ CONTROL-BYTES → 1 ≤ s .tasks → (d : Dec (area ≡ REGION-BYTES * s .regions))
-        → Alike (Kept s₁ s)
+        → Alike (HandsKept s₁ s)
         (Run (cond (eqb area (REGION-BYTES * v Regions)) (cond (ltb t (v Tasks)) x (refuse 5)) (refuse 2)))
         (if d (if (decLt t (s .tasks)) (Plain.became s y) (Plain.refuse 5 s)) (Plain.refuse 2 s))
     test-two p q (yes e) =
         rw (S .regions q, eq-eqb area (REGION-BYTES * s .regions) e) (test-five p q e (decLt t (s .tasks)))
     test-two p q (no e) =
-        rw (S .regions q, ne-eqb area (REGION-BYTES * s .regions) e) (stays (Kept s₁ s) (λ at k. refl) 2)
+        rw (S .regions q, ne-eqb area (REGION-BYTES * s .regions) e) (stays (HandsKept s₁ s) (λ at k. refl) 2)
 
     -- the stored numbers are in their ranges
     test-four : control ≡ CONTROL-BYTES → (d : Dec (s .tasks ≡ 0))
-        → Alike (Kept s₁ s) (Run (Stepped.tested CONTROL-BYTES area v t x))
+        → Alike (HandsKept s₁ s) (Run (Stepped.tested CONTROL-BYTES area v t x))
         (if d (Plain.refuse 4 s)
         (if (ℕ-discrete area (REGION-BYTES * s .regions))
         (if (decLt t (s .tasks)) (Plain.became s y) (Plain.refuse 5 s)) (Plain.refuse 2 s)))
     unfolding Stepped.tested
     test-four p (yes e) =
         rw (le-leb (v Tasks) TASKS (omega (arith, S .tasks)), eq-eqb (v Tasks) 0 (S .tasks ∙ e))
-        (stays (Kept s₁ s) (λ at k. refl) 4)
+        (stays (HandsKept s₁ s) (λ at k. refl) 4)
     test-four p (no e) =
         let q : 1 ≤ s .tasks = omega arith in
         rw (
@@ -134,7 +134,7 @@ module _ {s₁ : Memories} {s : Pool} (S : Tied s₁ s) where
         (test-two p q (ℕ-discrete area (REGION-BYTES * s .regions)))
 
     pub tested-alike : (d : Dec (control ≡ CONTROL-BYTES))
-        → Alike (Kept s₁ s) (Run (Stepped.tested control area v t x))
+        → Alike (HandsKept s₁ s) (Run (Stepped.tested control area v t x))
         (if d
         (if (ℕ-discrete (s .tasks) 0) (Plain.refuse 4 s)
         (if (ℕ-discrete area (REGION-BYTES * s .regions))
@@ -142,7 +142,7 @@ module _ {s₁ : Memories} {s : Pool} (S : Tied s₁ s) where
         (Plain.refuse 1 s))
     unfolding Stepped.tested
     tested-alike (yes e) = rw e (test-four e (ℕ-discrete (s .tasks) 0))
-    tested-alike (no e) = rw (ne-eqb control CONTROL-BYTES e) (stays (Kept s₁ s) (λ at k. refl) 1)
+    tested-alike (no e) = rw (ne-eqb control CONTROL-BYTES e) (stays (HandsKept s₁ s) (λ at k. refl) 1)
 
 -- a call that passes the tests does what follows them
 pub taken-is : {lent : Lengths} {t : ℕ} {s : Pool} (y : Result) → Taken lent t s

@@ -4,7 +4,7 @@ use Prim.Native.Nat.{ℕ}
 use Rattle.rows.specs.Update.{update}
 use Rattle.words.specs.declared.head.Head.{Head}
 use Rattle.words.specs.declared.anchor.Anchor.{Anchor}
-use Rattle.agreement.specs.Memory.{TaskNotes, TaskHand, TaskGroup, TaskCaches, Slot}
+use Rattle.agreement.specs.Contents.{TaskNotes, TaskHand, TaskGroup, TaskCaches, Slot}
 
 -- ---- the parts
 

@@ -12,9 +12,9 @@ use Rattle.words.specs.Anchor.{EMPTY, anchorOf, anchorWord, full}
 use Rattle.words.proofs.Anchors.{anchor-below}
 use Rattle.words.proofs.Marks.{set-below}
 use Rattle.classes.specs.Classes.{perRegion}
-use Rattle.classes.specs.Places.{unitOf, regionOf, isFirst}
+use Rattle.classes.specs.Geometry.{unitOf, regionOf, isFirst}
 use Rattle.classes.proofs.Tables.{perRegion-high}
-use Rattle.classes.proofs.Places.{block-at, unit-below}
+use Rattle.classes.proofs.BlockUnits.{block-at, unit-below}
 use Rattle.control.specs.Layout.{Anchor, Marks, CacheTop, CacheCount, DescriptorRegion}
 use Rattle.control.specs.Layout.{TaskIndex, TaskLeft, TaskAnchor, TaskDescriptor, TaskRegion}
 use Rattle.stepped.specs.Ranges.{oneTo, isBlock, isTop, isAnchor, hasChain}

@@ -16,7 +16,7 @@ use Rattle.fields.proofs.Numbers.{getLE-lt}
 use Rattle.words.specs.Anchor.{EMPTY, anchorOf}
 use Rattle.words.specs.Mark.{isSet}
 use Rattle.words.proofs.Marks.{clear-below}
-use Rattle.classes.specs.Places.{regionOf, isFirst}
+use Rattle.classes.specs.Geometry.{regionOf, isFirst}
 use Rattle.classes.proofs.Sizes.{is-class}
 use Rattle.control.specs.Layout.{layout, seen, changed, Anchor, Marks, Map, Regions, DescriptorRegion}
 use Rattle.control.specs.Layout.{DescriptorClass, TaskPlace}

@@ -13,7 +13,7 @@ use Rattle.fields.specs.Columns.{View, _:=_, Sound}
 use Rattle.words.specs.Anchor.{FULL, isState, anchorOf, anchorWord, returned}
 use Rattle.words.proofs.Anchors.{anchor-below, returned-fits}
 use Rattle.classes.specs.Classes.{units, perRegion}
-use Rattle.classes.specs.Places.{regionOf, indexOf}
+use Rattle.classes.specs.Geometry.{regionOf, indexOf}
 use Rattle.classes.proofs.Tables.{perRegion-high}
 use Rattle.control.specs.Layout.{layout, Anchor, CacheTop, CacheCount, Map}
 use Rattle.control.specs.Layout.{TaskUnit, TaskAnchor, TaskDescriptor, TaskRegion, TaskState, GroupFirst, GroupLast}

@@ -21,7 +21,7 @@ use Rattle.plain.specs.Calls.{rising, startMem}
 use Rattle.control.specs.Layout.{CACHES, field, Head, Tasks, Regions, DescriptorNext, RegionNext, Top, TaskState}
 use Rattle.control.specs.Layout
 use Rattle.stepped.specs.Start.{fill, nextUp, startWrites}
-use Rattle.agreement.specs.Memory.{memoryOf}
+use Rattle.agreement.specs.Contents.{contentsOf}
 use Rattle.agreement.specs.Relation.{Related, r-idle}
 use Rattle.agreement.proofs.Images.{assigned-append, filled, other-fill}
 
@@ -150,7 +150,7 @@ module _ (tasks regions : ℕ) (few : 1 ≤ regions) where
   -- the relation between the control memory that a start leaves, with any area of the length, and the plain pool after
   -- a start
   pub start-related : (area : List ℕ) → length area ≡ REGION-BYTES * regions → regions ≤ REGIONS
-      → Related regions (memoryOf v area) (startMem regions)
+      → Related regions (contentsOf v area) (startMem regions)
   unfolding startMem
   start-related area e h = record {
     core = record {

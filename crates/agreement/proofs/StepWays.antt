@@ -10,7 +10,7 @@ use Rattle.limits.specs.Limits.{CLASSES, DESCRIPTORS}
 use Rattle.fields.specs.Columns.{View, _:=_}
 use Rattle.words.specs.Anchor.{EMPTY, anchorOf, anchorWord, returned}
 use Rattle.classes.specs.Classes.{perRegion}
-use Rattle.classes.specs.Places.{regionOf, unitOf}
+use Rattle.classes.specs.Geometry.{regionOf, unitOf}
 use Rattle.plain.specs.Moves.{gave}
 use Rattle.control.specs.Layout.{Anchor, TaskAnchor, CacheTop, CacheCount, TaskUnit, TaskIndex, TaskLeft, GroupFirst}
 use Rattle.control.specs.Layout.{GroupLast, GroupCount}

@@ -17,7 +17,7 @@ use Rattle.control.specs.Places.{IDLE}
 use Rattle.control.specs.declared.moves.Pop.the-variants.{Partial, Spare, Region}
 use Rattle.control.specs.declared.moves.Push.the-variants.{Retire, Back, Release, Offer}
 use Rattle.stepped.specs.Steps as Stepped
-use Rattle.agreement.specs.Memory.{slotOf, memoryOf}
+use Rattle.agreement.specs.Contents.{slotOf, contentsOf}
 use Rattle.agreement.specs.Relation.{PlaceRelated, r-idle, r-a1, r-partial, r-spare, r-region, r-retire, r-back}
 use Rattle.agreement.specs.Relation.{r-release, r-offer, r-a3-read, r-a3-exchange, r-a4, r-a7, r-a8, r-f1, r-f2}
 use Rattle.agreement.specs.Relation.{r-f2-more, r-f3-read, r-f3-link, r-f3-exchange, r-f4-clear, Related}
@@ -40,7 +40,7 @@ use Rattle.agreement.proofs.Clearing.{f4-clear-both}
 use Rattle.agreement.proofs.WorkPlaces.{work-place}
 
 module _ {regions : ℕ} {v : View} {area : List ℕ} {m : Mem} {t : ℕ} {k : ℕ → List ℕ} where
-  work-both : {p : Work} → At regions v area m t (working p) k → WorkRelated regions (memoryOf v area) m (slotOf v t) p
+  work-both : {p : Work} → At regions v area m t (working p) k → WorkRelated regions (contentsOf v area) m (slotOf v t) p
       → Events.Near (m .won) (notedAt p)
       → Both regions v area m (Stepped.stepAt v (link area) regions t (v (TaskClass t)) (v (TaskPlace t)))
       (Steps.stepAt t k p m)
@@ -68,7 +68,7 @@ module _ {regions : ℕ} {v : View} {area : List ℕ} {m : Mem} {t : ℕ} {k : �
 
   -- one step: test 7, the class, and the step at the place
   place-both : {p : Place} → At regions v area m t p k → v (TaskClass t) < CLASSES
-      → PlaceRelated regions (memoryOf v area) m (slotOf v t) p → Events.Near (m .won) (noted p)
+      → PlaceRelated regions (contentsOf v area) m (slotOf v t) p → Events.Near (m .won) (noted p)
       → Both regions v area m (Stepped.step v (link area) regions t) (Steps.whenWorking p (λ q. Steps.stepAt t k q m) m)
   unfolding Stepped.step
   place-both w l (r-idle e) n =
@@ -80,7 +80,7 @@ module _ {regions : ℕ} {v : View} {area : List ℕ} {m : Mem} {t : ℕ} {k : �
       (λ h. absurd (omega (arith, ltb-false IDLE (v (TaskPlace t)) h, work-place W)))
 
 pub step-both : {regions : ℕ} {v : View} {area : List ℕ} {m : Mem} (t : ℕ) → t < TASKS → regions ≤ REGIONS → Fitting v
-    → Related regions (memoryOf v area) m → Invariant regions m → Events.Near (m .won) (noted (m .task t .place))
+    → Related regions (contentsOf v area) m → Invariant regions m → Events.Near (m .won) (noted (m .task t .place))
     → Both regions v area m (Stepped.step v (link area) regions t) (Steps.stepOf t m)
 unfolding Steps.stepOf
 step-both {regions} {v} {area} {m} t l small F R I near =

@@ -25,11 +25,11 @@ use Rattle.plain.proofs.Places.{taskOf, lengths}
 use Rattle.control.specs.Layout.{TaskPlace, TaskClass, CacheTop, CacheCount, Marks}
 use Rattle.control.specs.Places.{IDLE, POP-PARTIAL}
 use Rattle.control.specs.declared.answer.Answer.the-variants.{Allocated}
-use Rattle.stepped.specs.Outcome.{close}
+use Rattle.stepped.specs.Outcome.{over}
 use Rattle.stepped.specs.Ranges
 use Rattle.stepped.specs.Ranges.{isTop}
 use Rattle.stepped.specs.Allocate as Allocate
-use Rattle.agreement.specs.Memory.{Memory, slotOf, memoryOf}
+use Rattle.agreement.specs.Contents.{Contents, slotOf, contentsOf}
 use Rattle.agreement.specs.Relation.{PopRelated, Related, r-idle, r-partial, r-working}
 use Rattle.agreement.proofs.Slots.{toPlace, toCache}
 use Rattle.agreement.proofs.Sets.{setMark}
@@ -72,16 +72,16 @@ module _ {regions : ℕ} {v : View} {area : List ℕ} {m : Mem} {t : ℕ} {k : �
       pass (Ranges.isBlock regions c u && isTop regions c (n - 1) b)
       (both-true (cached-unit (w .pair) c u in-cache) (rw n′ (below-tested (w .pair) c b q sub below)))
       (subst (λ (z : ℕ). Both regions v area m
-      (close (Allocated u) nothing
+      (over (Allocated u) nothing
       (TaskPlace t := IDLE ∷ CacheTop t c := b ∷ CacheCount t c := (n - 1) ∷ Marks (u / 64) := withSet word (u % 64)
       ∷ []) [])
       (Steps.a1Step t k c (z ∷ q) m)) i
       (record {
         says = refl;
         keeps = (refl, refl);
-        rel = subst (λ (z : Memory). Related regions z (Steps.cached t k c q idle (setHands u 1 m)))
+        rel = subst (λ (z : Contents). Related regions z (Steps.cached t k c q idle (setHands u 1 m)))
             (sym (cache-becomes v (assigned (TaskPlace t := IDLE ∷ Marks (u / 64) := withSet word (u % 64) ∷ []) v)
-            area t c b (n - 1) (toPlace IDLE (slotOf v t)) (setMark u 1 (memoryOf v area)) l
+            area t c b (n - 1) (toPlace IDLE (slotOf v t)) (setMark u 1 (contentsOf v area)) l
             (mark-set-written v (slotOf (assigned (TaskPlace t := IDLE ∷ []) v)) area u) refl
             (rw (eq-eqb t t refl)) (λ j d. rw (ne-eqb t j d))))
             (marking (w .pair) u 1 (toCache c b (n - 1) (toPlace IDLE (slotOf v t))) (taskOf idle (update k c q))

@@ -11,8 +11,8 @@ use Rattle.fields.specs.Columns.{View}
 use Rattle.words.specs.Anchor.{FULL, anchorOf}
 use Rattle.words.specs.declared.anchor.Anchor.{Anchor}
 use Rattle.classes.specs.Classes.{perRegion}
-use Rattle.classes.specs.Places.{Block, unitOf}
-use Rattle.classes.proofs.Places.{block-at, index-below, region-is}
+use Rattle.classes.specs.Geometry.{Block, unitOf}
+use Rattle.classes.proofs.BlockUnits.{block-at, index-below, region-is}
 use Rattle.plain.specs.State.{State, numberOf, Place, Note, Mem, region, Work, working}
 use Rattle.plain.specs.Held.{owed, classAt, underWay, holdsDescriptor, holdsRegion}
 use Rattle.plain.specs.Blocks.{blocksFrom}
@@ -25,7 +25,7 @@ use Rattle.control.specs.Layout.{TaskDescriptor, TaskRegion, TaskUnit, TaskStat
 use Rattle.control.specs.Places.{POP-PARTIAL, PUSH-OFFER, A3-READ, F3-LINK, F3-EXCHANGE}
 use Rattle.control.specs.declared.moves.Pop.the-variants.{Partial, Spare, Region}
 use Rattle.control.specs.declared.moves.Push.the-variants.{Retire, Back, Release, Offer}
-use Rattle.agreement.specs.Memory.{Slot, slotOf, memoryOf}
+use Rattle.agreement.specs.Contents.{Slot, slotOf, contentsOf}
 use Rattle.agreement.specs.Relation.{NoteRelated, GroupRelated, PlaceRelated, r-idle, r-a1, r-partial, r-spare}
 use Rattle.agreement.specs.Relation.{r-region, r-retire, r-back, r-release, r-offer, r-a3-read, r-a3-exchange}
 use Rattle.agreement.specs.Relation.{r-a4, r-a7, r-a8, r-f1, r-f2, r-f2-more, r-f3-read, r-f3-link, r-f3-exchange}
@@ -73,7 +73,7 @@ module _ (regions : ℕ) (v : View) (area : List ℕ) (m : Mem) (t : ℕ) (k : �
   Numbers = TaskHands regions v t × TaskChains v t
 
   abbrev Turning : Place → Type 0
-  Turning p = Pair regions (memoryOf v area) m t p k
+  Turning p = Pair regions (contentsOf v area) m t p k
 
   -- the descriptor and the region in hand
   descriptor-held : {p : Place} → Turning p → one d d ≤ holdsDescriptor d p → d < DESCRIPTORS
@@ -93,7 +93,7 @@ module _ (regions : ℕ) (v : View) (area : List ℕ) (m : Mem) (t : ℕ) (k : �
     last : v (GroupLast t) < perRegion c
     region : r < regions
 
-  grouped : {p : Place} {y : ℕ} {g : List ℕ} → Turning p → GroupRelated (memoryOf v area) s y g
+  grouped : {p : Place} {y : ℕ} {g : List ℕ} → Turning p → GroupRelated (contentsOf v area) s y g
       → ((x : ℕ) → count x (y ∷ g) ≤ count x (underWay p)) → classAt p ≡ c → Together y g → Grouped
   grouped w G sub class together = record {
     some = omega (arith, G .counts);
@@ -127,14 +127,14 @@ module _ (regions : ℕ) (v : View) (area : List ℕ) (m : Mem) (t : ℕ) (k : �
   Lists = TaskLists regions v t
 
   -- what is shown at each place: of what was noted of a list, of what is in hand, and of what a free has under way
-  abbrev Shown : Place → Type 0
-  Shown p = Lists × Numbers × Freeing v t p
+  abbrev Ranged : Place → Type 0
+  Ranged p = Lists × Numbers × Freeing v t p
 
   -- no move of a list is under way
   no-move : (POP-PARTIAL ≤ v (TaskPlace t) → v (TaskPlace t) < A3-READ → ⊥) → Lists
   no-move h = none regions v m t h
 
-  numbers-at-work : {p : Work} → Turning (working p) → WorkRelated regions (memoryOf v area) m s p → Shown (working p)
+  numbers-at-work : {p : Work} → Turning (working p) → WorkRelated regions (contentsOf v area) m s p → Ranged (working p)
   numbers-at-work w (r-a1 e) = (no-move (omega arith), (omega arith, omega arith), allocates (omega arith))
   numbers-at-work w (r-partial h) =
       let i = pop-span h in
@@ -224,6 +224,6 @@ module _ (regions : ℕ) (v : View) (area : List ℕ) (m : Mem) (t : ℕ) (k : �
       (no-move (omega arith), (omega arith, omega arith), owing z i (omega arith) refl (omega arith))
 
   -- every place
-  pub numbers-at : {p : Place} → Turning p → PlaceRelated regions (memoryOf v area) m s p → Shown p
+  pub numbers-at : {p : Place} → Turning p → PlaceRelated regions (contentsOf v area) m s p → Ranged p
   numbers-at w (r-idle e) = (no-move (omega arith), (omega arith, omega arith), allocates (omega arith))
   numbers-at w (r-working W) = numbers-at-work w W

@@ -16,7 +16,7 @@ use Rattle.control.specs.declared.moves.Pop.the-variants.{Partial, Spare, Regio
 use Rattle.control.specs.declared.moves.Push.{Push}
 use Rattle.control.specs.declared.moves.Push.the-variants.{Retire, Back, Release, Offer}
 use Rattle.stepped.specs.Lists.{popPlace, popItems, pushPlace, pushItems}
-use Rattle.agreement.specs.Memory.{Slot, slotOf}
+use Rattle.agreement.specs.Contents.{Slot, slotOf}
 use Rattle.agreement.specs.Relation.{PopRelated, PushRelated}
 use Rattle.agreement.specs.InRange.{OneTo, TaskLists}
 use Rattle.agreement.proofs.WorkPlaces.{pop-span, push-span}

@@ -16,7 +16,7 @@ use Rattle.agreement.specs.Reached.{starting, from-unstarted, from-start
 use Rattle.agreement.specs.Agreement.{Agrees, Unchanged, CallUntouched, Untouched, AgreesAt, Agree}
 use Rattle.agreement.proofs.Simulation.{Alike}
 use Rattle.agreement.proofs.Starting.{accepted-start}
-use Rattle.agreement.proofs.OneEvent.{CallShown, Shown, alike}
+use Rattle.agreement.proofs.OneEvent.{CallKeeps, EventKeeps, alike}
 use Rattle.agreement.proofs.Reaching.{reached-tied, along}
 use Rattle.agreement.proofs.Lent.{start-leaves, refused-leaves}
 use Rattle.agreement.proofs.Ends.{effect-leaves}
@@ -27,14 +27,14 @@ never : (e : Event) (s : Pool) → whole e s .1 .code ≢ 14
 never (call k lent) s = never-14 k (lengths lent) s
 never (write at b) s = λ e. absurd (omega arith)
 
-call-untouched : (k : Call) (lent : Lent) (s₁ : Memories) (s : Pool) → CallShown k s₁ s (stepped (call k lent) s₁ .0)
+call-untouched : (k : Call) (lent : Lent) (s₁ : Memories) (s : Pool) → CallKeeps k s₁ s (stepped (call k lent) s₁ .0)
     → CallUntouched k lent s₁ (stepped (call k lent) s₁) s
 call-untouched (start b) lent s₁ s h = start-leaves (lent .area) (b .tasks) (lent .control) (s₁ .control) (s₁ .area)
 call-untouched (allocate t size) lent s₁ s h = h
 call-untouched (free t u) lent s₁ s h = h
 call-untouched (step t) lent s₁ s h = h
 
-untouched : (e : Event) (s₁ : Memories) (s : Pool) → Shown e s₁ s (stepped e s₁ .0) → Untouched e s₁ (stepped e s₁) s
+untouched : (e : Event) (s₁ : Memories) (s : Pool) → EventKeeps e s₁ s (stepped e s₁ .0) → Untouched e s₁ (stepped e s₁) s
 untouched (call k lent) s₁ s h = call-untouched k lent s₁ s h
 untouched (write at b) s₁ s h = tt
 
@@ -43,7 +43,7 @@ unchanged : (e : Event) (s₁ : Memories) → Unchanged s₁ (stepped e s₁)
 unchanged (call k lent) s₁ = refused-leaves (effectIn k lent s₁) s₁ (effect-leaves k lent s₁)
 unchanged (write at b) s₁ = λ h k. absurd (omega arith)
 
-agrees : (e : Event) (s₁ : Memories) (s : Pool) → Alike (Shown e s₁ s) (stepped e s₁) (whole e s)
+agrees : (e : Event) (s₁ : Memories) (s : Pool) → Alike (EventKeeps e s₁ s) (stepped e s₁) (whole e s)
     → Agrees (stepped e s₁) (whole e s)
 agrees e s₁ s A = record {
   says = A .says;

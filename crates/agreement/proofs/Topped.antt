@@ -13,8 +13,8 @@ use Rattle.rows.proofs.Weights.{when-same}
 use Rattle.fields.specs.Columns.{View}
 use Rattle.links.specs.Link.{link}
 use Rattle.classes.specs.Classes.{perRegion}
-use Rattle.classes.specs.Places.{indexOf}
-use Rattle.classes.proofs.Places.{index-below}
+use Rattle.classes.specs.Geometry.{indexOf}
+use Rattle.classes.proofs.BlockUnits.{index-below}
 use Rattle.plain.specs.State.{Mem, Place}
 use Rattle.control.specs.Layout.{CacheTop, CacheCount, TaskClass}
 use Rattle.stepped.specs.Ranges.{isBlock, isTop}

@@ -12,7 +12,7 @@ use Rattle.plain.specs.State.{Place, Mem}
 use Rattle.plain.specs.Steps.{at}
 use Rattle.plain.proofs.Places.{taskOf}
 use Rattle.control.specs.Layout.{CacheTop, CacheCount, TaskClass}
-use Rattle.agreement.specs.Memory.{Slot, Memory, slotOf, memoryOf}
+use Rattle.agreement.specs.Contents.{Slot, Contents, slotOf, contentsOf}
 use Rattle.agreement.specs.Relation.{PlaceRelated, Related}
 use Rattle.agreement.proofs.Sets.{withSlots, setSlot}
 use Rattle.agreement.proofs.Bridge.{becomes}
@@ -22,21 +22,21 @@ use Rattle.agreement.proofs.Both.{Fitting}
 
 -- the turn of the task t, which is at the place p with the caches k, where the view is v
 pub record At (regions : ℕ) (v : View) (area : List ℕ) (m : Mem) (t : ℕ) (p : Place) (k : ℕ → List ℕ) : Type 0 where
-  pub pair : Pair regions (memoryOf v area) m t p k
+  pub pair : Pair regions (contentsOf v area) m t p k
   pub fitting : Fitting v
 
 module _ {regions : ℕ} {v : View} {area : List ℕ} {m : Mem} {t : ℕ} {p : Place} {k : ℕ → List ℕ}
     (w : At regions v area m t p k) where
   -- the writes ws change the task's own part alone, to s, and not its caches: it goes to the place p′
   pub goes : (ws : List Write) (s : Slot) (p′ : Place)
-      → memoryOf (assigned ws v) area ≡ withSlots (slotOf (assigned ws v)) (memoryOf v area)
+      → contentsOf (assigned ws v) area ≡ withSlots (slotOf (assigned ws v)) (contentsOf v area)
       → slotOf (assigned ws v) t ≡ s → ((j : ℕ) → t ≢ j → slotOf (assigned ws v) j ≡ slotOf v j)
       → s .class ≡ slotOf v t .class → s .caches ≡ slotOf v t .caches
-      → PlaceRelated regions (setSlot t s (memoryOf v area)) (at t k p′ m) s p′
-      → Related regions (memoryOf (assigned ws v) area) (at t k p′ m)
+      → PlaceRelated regions (setSlot t s (contentsOf v area)) (at t k p′ m) s p′
+      → Related regions (contentsOf (assigned ws v) area) (at t k p′ m)
   goes ws s p′ e own others f g pl =
-      subst (λ (z : Memory). Related regions z (at t k p′ m))
-      (sym (becomes v (assigned ws v) area t s (memoryOf v area) e refl own others))
+      subst (λ (z : Contents). Related regions z (at t k p′ m))
+      (sym (becomes v (assigned ws v) area t s (contentsOf v area) e refl own others))
       (quiet (w .pair) s (taskOf p′ k) (re-slot (w .pair) _ _ s p′ refl f g pl))
 
   -- the top of the cache of the request's class, and how many it has, as the fields say

@@ -11,7 +11,7 @@ use Rattle.rows.specs.Update.{update}
 use Rattle.rows.proofs.Branch.{if-yes, if-no}
 use Rattle.rows.proofs.Update.{update-same, update-other}
 use Rattle.classes.specs.Classes.{perRegion}
-use Rattle.classes.specs.Places.{unitOf}
+use Rattle.classes.specs.Geometry.{unitOf}
 use Rattle.plain.specs.State.{FULL, read, next, exchange, Pop, partial, spare, region, a1, popping, a7, a8, Task, Mem}
 use Rattle.plain.specs.State.{setTask, setRow, setDescriptor, setMap, working}
 use Rattle.plain.specs.Moves.{Decided, nothing, found-empty, popped, Answer, going, finished}

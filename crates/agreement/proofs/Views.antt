@@ -19,9 +19,9 @@ use Rattle.plain.proofs.Places.{taskOf}
 use Rattle.plain.proofs.Turn.{Turn}
 use Rattle.control.specs.Layout
 use Rattle.control.specs.Layout.{layout, TaskUnit, TaskState}
-use Rattle.agreement.specs.Memory.{Slot, byClass, slotOf, memoryOf}
+use Rattle.agreement.specs.Contents.{Slot, byClass, slotOf, contentsOf}
 use Rattle.agreement.specs.Relation.{DescriptorRelated, SlotRelated, Core, Related}
-use Rattle.agreement.proofs.Frames.{Kept, kept-slot}
+use Rattle.agreement.proofs.Frames.{Framed, kept-slot}
 use Rattle.agreement.proofs.Tops.{listed, listed-region, descriptor-in-hand, region-in-hand}
 
 module _ {v v′ : View} (same : (g : Field) → Has layout g → v′ g ≡ v g) where
@@ -64,7 +64,7 @@ module _ {v v′ : View} (same : (g : Field) → Has layout g → v′ g ≡ v g
   }
 
   module _ {regions : ℕ} {m : Mem} (area : List ℕ) (small : regions ≤ REGIONS) (I : Invariant regions m)
-      (R : Related regions (memoryOf v area) m) where
+      (R : Related regions (contentsOf v area) m) where
     -- a head's word, a descriptor's fields, a region's
     head : (ℓ : ℕ) → ℓ < LISTS → v′ (Layout.Head ℓ) ≡ v (Layout.Head ℓ)
     head ℓ l = same (Layout.Head ℓ) (omega arith)
@@ -81,7 +81,7 @@ module _ {v v′ : View} (same : (g : Field) → Has layout g → v′ g ≡ v g
         )
         (R .core .descriptors .each d l)
 
-    core : Core regions (memoryOf v′ area) m
+    core : Core regions (contentsOf v′ area) m
     core = record {
       lists = record {
         tags = λ ℓ l. rw (head ℓ l) (R .core .lists .tags ℓ l);
@@ -116,7 +116,7 @@ module _ {v v′ : View} (same : (g : Field) → Has layout g → v′ g ≡ v g
     turn t l = record { inv = I; fits = l; is = refl }
 
     -- a task keeps what it reads of others' columns: the nexts of what it has in hand
-    kept : (t : ℕ) → t < TASKS → Kept (memoryOf v area) (memoryOf v′ area) m m (m .task t)
+    kept : (t : ℕ) → t < TASKS → Framed (contentsOf v area) (contentsOf v′ area) m m (m .task t)
     kept t l = record {
       lists = record {
         wins = λ ℓ. omega arith;
@@ -131,10 +131,10 @@ module _ {v v′ : View} (same : (g : Field) → Has layout g → v′ g ≡ v g
     }
 
     -- what is related to one view is related to the other
-    pub views-related : Related regions (memoryOf v′ area) m
+    pub views-related : Related regions (contentsOf v′ area) m
     views-related = record {
       core = core;
       slots =
-          λ t l. subst (λ (s : Slot). SlotRelated regions (memoryOf v′ area) m s (m .task t)) (sym (slots-same t l))
+          λ t l. subst (λ (s : Slot). SlotRelated regions (contentsOf v′ area) m s (m .task t)) (sym (slots-same t l))
           (kept-slot (kept t l) (R .slots t l));
     }

@@ -19,7 +19,7 @@ use Rattle.control.specs.declared.answer.Answer.the-variants.{Accepted, Allocat
 use Rattle.control.specs.declared.answer.Answer.the-variants.{Refused}
 use Rattle.control.specs.declared.moves.Pop.the-variants.{Spare, Region}
 use Rattle.control.specs.declared.moves.Push.the-variants.{Back}
-use Rattle.stepped.specs.Outcome.{Outcome, refuse, bad, accept, close}
+use Rattle.stepped.specs.Outcome.{Outcome, refuse, bad, accept, over}
 use Rattle.stepped.specs.Ranges.{oneTo}
 use Rattle.stepped.specs.Calls as Calls
 use Rattle.stepped.specs.Calls.{Tested}
@@ -113,7 +113,7 @@ pub data Ending (ns : List ℕ) (v : View) (t : ℕ) : Outcome → Type 0 where
       → (InPush Back (assigned ws v (TaskPlace t)) → FindsEmpty Region v t ⊎ InPush Back (v (TaskPlace t)))
       → Ending ns v t (accept e ws ls)
   ended : {a : Answer} {e : Decided} {ws : List Write} {ls : List LinkWrite} → Cause v t a
-      → assigned ws v (TaskPlace t) ≡ IDLE → Ending ns v t (close a e ws ls)
+      → assigned ws v (TaskPlace t) ≡ IDLE → Ending ns v t (over a e ws ls)
 
 -- writes that leave the place of the task t
 abbrev pub Keeps : ℕ → List Write → Type 0
@@ -160,5 +160,5 @@ module _ {v : View} {t : ℕ} where
 
   -- to idle
   pub finish : {a : Answer} {e : Decided} {ws : List Write} {ls : List LinkWrite} → Cause v t a → Keeps t ws
-      → PlaceEnding v t (close a e (TaskPlace t := IDLE ∷ ws) ls)
+      → PlaceEnding v t (over a e (TaskPlace t := IDLE ∷ ws) ls)
   finish {ws = ws} k h = ended k (sent v t IDLE ws h)

@@ -4,7 +4,7 @@ use Prim.Native.Nat.{ℕ, _+_, _≤_, _<_}
 use native.Mathlib.Omega.{arith}
 use Rattle.plain.specs.State.{Phase, Work, Mem}
 use Rattle.control.specs.Places.{PLACES}
-use Rattle.agreement.specs.Memory.{Memory, Slot}
+use Rattle.agreement.specs.Contents.{Contents, Slot}
 use Rattle.agreement.specs.Relation.{PopRelated, PushRelated, WorkRelated, r-a1, r-partial, r-spare, r-region}
 use Rattle.agreement.specs.Relation.{r-retire, r-back, r-release, r-offer, r-a3-read, r-a3-exchange, r-a4, r-a7}
 use Rattle.agreement.specs.Relation.{r-a8, r-f1, r-f2, r-f2-more, r-f3-read, r-f3-link, r-f3-exchange, r-f4-clear}
@@ -23,7 +23,7 @@ push-span (PushRelated.at-next e N i) = omega arith
 push-span (PushRelated.at-exchange e N i j) = omega arith
 
 -- every place of a task at work
-pub work-place : {regions : ℕ} {a : Memory} {m : Mem} {s : Slot} {w : Work} → WorkRelated regions a m s w
+pub work-place : {regions : ℕ} {a : Contents} {m : Mem} {s : Slot} {w : Work} → WorkRelated regions a m s w
     → (1 ≤ s .place) × (s .place < PLACES)
 work-place (r-a1 e) = omega arith
 work-place (r-partial h) = omega (arith, pop-span h)

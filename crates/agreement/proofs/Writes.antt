@@ -13,7 +13,7 @@ use Rattle.plain.specs.State.{Descriptor, Mem, Place, Task, numberOf, setDescri
 use Rattle.plain.specs.States.{IfOpen}
 use Rattle.plain.specs.Weights.{blockWeight}
 use Rattle.plain.proofs.Places.{taskOf}
-use Rattle.agreement.specs.Memory.{Slot, Memory, slotOf, memoryOf}
+use Rattle.agreement.specs.Contents.{Slot, Contents, slotOf, contentsOf}
 use Rattle.agreement.specs.Relation.{ChainRelated, Related, SlotRelated}
 use Rattle.agreement.proofs.Slots.{toCache}
 use Rattle.agreement.proofs.Sets.{withSlots, setSlot, setLink, setAnchor, setMap}
@@ -25,13 +25,13 @@ use Rattle.agreement.proofs.Caching.{withCache, cache-own, cache-others
 
 -- Writes that change the view v to v′: what is shared is as in b, and of the tasks' parts only that of t, now s, has
 -- changed.
-pub record Writes (v v′ : View) (area : List ℕ) (t : ℕ) (s : Slot) (b : Memory) : Type 0 where
-  pub shared : memoryOf v′ area ≡ withSlots (slotOf v′) b
+pub record Writes (v v′ : View) (area : List ℕ) (t : ℕ) (s : Slot) (b : Contents) : Type 0 where
+  pub shared : contentsOf v′ area ≡ withSlots (slotOf v′) b
   pub own : slotOf v′ t ≡ s
   pub others : (j : ℕ) → t ≢ j → slotOf v′ j ≡ slotOf v j
 
 -- so they are with a cache's two fields
-pub with-cache : {v : View} (v′ : View) {area : List ℕ} {t : ℕ} {s : Slot} {b : Memory} (c u n : ℕ) → c < CLASSES
+pub with-cache : {v : View} (v′ : View) {area : List ℕ} {t : ℕ} {s : Slot} {b : Contents} (c u n : ℕ) → c < CLASSES
     → Writes v v′ area t s b → Writes v (withCache t c u n v′) area t (toCache c u n s) b
 with-cache v′ {t = t} c u n l h = record {
   shared = ap (withSlots (slotOf (withCache t c u n v′))) (h .shared);
@@ -42,38 +42,38 @@ with-cache v′ {t = t} c u n l h = record {
 module _ {regions : ℕ} {v : View} {area : List ℕ} {m : Mem} {t : ℕ} {p : Place} {k : ℕ → List ℕ}
     (w : At regions v area m t p k) (v′ : View) (s : Slot) (T : Task) where
   -- the task's own part changes alone
-  pub own-written : Writes v v′ area t s (memoryOf v area)
-      → SlotRelated regions (setSlot t s (memoryOf v area)) (setTask t T m) s T
-      → Related regions (memoryOf v′ area) (setTask t T m)
+  pub own-written : Writes v v′ area t s (contentsOf v area)
+      → SlotRelated regions (setSlot t s (contentsOf v area)) (setTask t T m) s T
+      → Related regions (contentsOf v′ area) (setTask t T m)
   own-written c h =
-      rw (becomes v v′ area t s (memoryOf v area) (c .shared) refl (c .own) (c .others)) (quiet (w .pair) s T h)
+      rw (becomes v v′ area t s (contentsOf v area) (c .shared) refl (c .own) (c .others)) (quiet (w .pair) s T h)
 
   -- and the link of a block of the task
-  pub link-written : (u x : ℕ) → Writes v v′ (withLink area u x) t s (setLink u x (memoryOf v area))
+  pub link-written : (u x : ℕ) → Writes v v′ (withLink area u x) t s (setLink u x (contentsOf v area))
       → 1 ≤ blockWeight u t (taskOf p k)
-      → SlotRelated regions (setSlot t s (setLink u x (memoryOf v area))) (setTask t T m) s T
-      → Related regions (memoryOf v′ (withLink area u x)) (setTask t T m)
+      → SlotRelated regions (setSlot t s (setLink u x (contentsOf v area))) (setTask t T m) s T
+      → Related regions (contentsOf v′ (withLink area u x)) (setTask t T m)
   link-written u x c o h =
-      rw (becomes v v′ (withLink area u x) t s (setLink u x (memoryOf v area)) (c .shared) refl (c .own) (c .others))
+      rw (becomes v v′ (withLink area u x) t s (setLink u x (contentsOf v area)) (c .shared) refl (c .own) (c .others))
       (linking (w .pair) u x s T o h)
 
   -- and an anchor
   pub anchor-exchanged : (d word : ℕ) (E : Descriptor)
-      → Writes v v′ area t s (setAnchor d (anchorOf word) (memoryOf v area))
+      → Writes v v′ area t s (setAnchor d (anchorOf word) (contentsOf v area))
       → d < DESCRIPTORS → anchorOf word .state ≡ numberOf (E .state) → E .region ≡ m .descriptor d .region
       → E .class ≡ m .descriptor d .class → IfOpen (E .state) (ChainRelated (link area) (anchorOf word) E)
       → anchorOf word .avail ≤ MOST-BLOCKS → anchorOf word .count ≤ MOST-BLOCKS
-      → SlotRelated regions (setSlot t s (setAnchor d (anchorOf word) (memoryOf v area)))
+      → SlotRelated regions (setSlot t s (setAnchor d (anchorOf word) (contentsOf v area)))
       (setTask t T (setDescriptor d E m)) s T
-      → Related regions (memoryOf v′ area) (setTask t T (setDescriptor d E m))
+      → Related regions (contentsOf v′ area) (setTask t T (setDescriptor d E m))
   anchor-exchanged d word E c l e f g i a n h =
-      rw (becomes v v′ area t s (setAnchor d (anchorOf word) (memoryOf v area)) (c .shared) refl (c .own) (c .others))
+      rw (becomes v v′ area t s (setAnchor d (anchorOf word) (contentsOf v area)) (c .shared) refl (c .own) (c .others))
       (anchoring (w .pair) d (anchorOf word) E s T l e f g i a n h)
 
   -- and a map entry
-  pub entry-cleared : (r : ℕ) → Writes v v′ area t s (setMap r 0 (memoryOf v area))
-      → SlotRelated regions (setSlot t s (setMap r 0 (memoryOf v area))) (setTask t T (State.setMap r 0 m)) s T
-      → Related regions (memoryOf v′ area) (setTask t T (State.setMap r 0 m))
+  pub entry-cleared : (r : ℕ) → Writes v v′ area t s (setMap r 0 (contentsOf v area))
+      → SlotRelated regions (setSlot t s (setMap r 0 (contentsOf v area))) (setTask t T (State.setMap r 0 m)) s T
+      → Related regions (contentsOf v′ area) (setTask t T (State.setMap r 0 m))
   entry-cleared r c h =
-      rw (becomes v v′ area t s (setMap r 0 (memoryOf v area)) (c .shared) refl (c .own) (c .others))
+      rw (becomes v v′ area t s (setMap r 0 (contentsOf v area)) (c .shared) refl (c .own) (c .others))
       (clearing (w .pair) r 0 s T h)

@@ -14,8 +14,8 @@ use Rattle.fields.specs.Columns.{View}
 use Rattle.links.specs.Link.{link, withLink, LinkWrite, _⇒_, linked}
 use Rattle.links.proofs.Links.{link-byte, byte-other}
 use Rattle.classes.specs.Classes.{block}
-use Rattle.classes.specs.Places.{regionOf, Block}
-use Rattle.classes.proofs.Places.{inside, apart, region-is}
+use Rattle.classes.specs.Geometry.{regionOf, Block}
+use Rattle.classes.proofs.BlockUnits.{inside, apart, region-is}
 use Rattle.classes.proofs.Tables.{units-low}
 use Rattle.plain.specs.State.{State, EMPTY, PARTIAL, FULL, Mem}
 use Rattle.plain.specs.States.{IsOpen, IfOpen}
@@ -23,7 +23,7 @@ use Rattle.plain.specs.Weights.{insideWeight, chainWeight, blockWeight}
 use Rattle.plain.specs.Invariant.{Invariant}
 use Rattle.plain.proofs.States.{open-holds}
 use Rattle.plain.proofs.Homes.{inside-open}
-use Rattle.agreement.specs.Memory.{memoryOf}
+use Rattle.agreement.specs.Contents.{contentsOf}
 use Rattle.agreement.specs.Relation.{Related}
 use Rattle.agreement.proofs.Frames.{kept-slot, lists-kept}
 use Rattle.agreement.proofs.Parts.{links-related}
@@ -91,8 +91,8 @@ module _ {regions : ℕ} {m : Mem} (I : Invariant regions m) (u at : ℕ) (held 
   link-kept area b v h = link-byte area at b v (far v (omega (arith, I .blocks v)) (other v h))
 
   -- a write to a block in hands leaves the relation
-  pub write-related : (v : View) (area : List ℕ) (b : ℕ) → Related regions (memoryOf v area) m
-      → Related regions (memoryOf v (set area at b)) m
+  pub write-related : (v : View) (area : List ℕ) (b : ℕ) → Related regions (contentsOf v area) m
+      → Related regions (contentsOf v (set area at b)) m
   write-related v area b R =
       let C = R .core in
       record {
@@ -107,7 +107,7 @@ module _ {regions : ℕ} {m : Mem} (I : Invariant regions m) (u at : ℕ) (held 
           entries = C .entries;
           length = length-set area at b ∙ C .length;
         };
-        slots = λ t l. kept-slot {a = memoryOf v area} {m = m} (record {
+        slots = λ t l. kept-slot {a = contentsOf v area} {m = m} (record {
           lists = lists-kept;
           links = λ x h. link-kept area b x (omega (arith, total-one TASKS (blockWeight x) (m .task) t l));
           regions = λ x h. refl;

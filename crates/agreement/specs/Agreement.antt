@@ -8,16 +8,16 @@ use Rattle.limits.specs.Limits.{CONTROL-BYTES, REGION-BYTES}
 use Rattle.plain.specs.Moves.{Answer}
 use Rattle.plain.specs.Calls.{Pool, Call, start, allocate, free, step}
 use Rattle.control.specs.Layout.{Tasks, Regions, seen}
-use Rattle.agreement.specs.Memory.{Memory, memoryOf}
+use Rattle.agreement.specs.Contents.{Contents, contentsOf}
 use Rattle.stepped.specs.Outcome.{Memories}
 use Rattle.stepped.specs.Calls.{Lent}
 use Rattle.agreement.specs.Events.{Event, call, write, stepped, whole, InHands}
 use Rattle.agreement.specs.Reached.{Along}
-use Rattle.agreement.specs.Observe.{Same}
+use Rattle.agreement.specs.Observe.{SameObserved}
 
 -- the two memories, column by column
-abbrev pub read : Memories → Memory
-read s = memoryOf (seen (s .control)) (s .area)
+abbrev pub contents : Memories → Contents
+contents s = contentsOf (seen (s .control)) (s .area)
 
 -- One event of the two runs, which "decide the same moves at the same calls, give the same code and value, never 14,
 -- and have after every call the same lists, chains and holders; each block of an open region is in exactly one place"
@@ -32,19 +32,19 @@ pub record Agrees (x : Memories × Answer) (y : Pool × Answer) : Type 0 where
   -- the lengths of the two memories, so that a call that is lent these is lent the pool's
   pub control-length : length (x .0 .control) ≡ CONTROL-BYTES
   pub area-length : 1 ≤ y .0 .tasks → length (x .0 .area) ≡ REGION-BYTES * y .0 .regions
-  pub same : 1 ≤ y .0 .tasks → Same (y .0 .regions) (read (x .0)) (y .0 .mem)
+  pub same : 1 ≤ y .0 .tasks → SameObserved (y .0 .regions) (contents (x .0)) (y .0 .mem)
 
 -- Each byte of a block that is in a user's hands before is as it was.
-abbrev pub Kept : Memories → Pool → Memories → Type 0
-Kept s₁ s after = (at : ℕ) → InHands at s → getD (after .area) at 0 ≡ getD (s₁ .area) at 0
+abbrev pub HandsKept : Memories → Pool → Memories → Type 0
+HandsKept s₁ s after = (at : ℕ) → InHands at s → getD (after .area) at 0 ≡ getD (s₁ .area) at 0
 
 -- "No call changes a byte of a block in a user's hands" (the demands). An accepted start begins anew: "It leaves the
 -- area as it is" (the paper), which is the area that it is lent. A user's own write is no call.
 abbrev pub CallUntouched : Call → Lent → Memories → Memories × Answer → Pool → Type 0
 CallUntouched (start b) lent s₁ x s = x .1 .code ≡ 0 → x .0 .area ≡ lent .area
-CallUntouched (allocate t size) lent s₁ x s = Kept s₁ s (x .0)
-CallUntouched (free t u) lent s₁ x s = Kept s₁ s (x .0)
-CallUntouched (step t) lent s₁ x s = Kept s₁ s (x .0)
+CallUntouched (allocate t size) lent s₁ x s = HandsKept s₁ s (x .0)
+CallUntouched (free t u) lent s₁ x s = HandsKept s₁ s (x .0)
+CallUntouched (step t) lent s₁ x s = HandsKept s₁ s (x .0)
 
 abbrev pub Untouched : Event → Memories → Memories × Answer → Pool → Type 0
 Untouched (call k lent) s₁ x s = CallUntouched k lent s₁ x s

@@ -6,7 +6,7 @@ use Rattle.fields.specs.Little.{Bytes}
 use Prim.Native.Nat.{ℕ, pred, _+_, _*_, _≤_, _<_}
 use lib.ListN.{length, set}
 use Rattle.classes.specs.Classes.{block}
-use Rattle.classes.specs.Places.{regionOf}
+use Rattle.classes.specs.Geometry.{regionOf}
 use Rattle.plain.specs.State.{Phase, read, next, exchange}
 use Rattle.plain.specs.Moves.{Answer, going, nothing}
 use Rattle.plain.specs.Steps.{popList, pushList}

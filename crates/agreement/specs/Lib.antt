@@ -1,6 +1,6 @@
 -- The agreement of the stepped pool with the plain pool: what is compared, the events and premises, the relation, the
 -- claims.
-pub mod Memory
+pub mod Contents
 pub mod Relation
 pub mod Tied
 pub mod Events

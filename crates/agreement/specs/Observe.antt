@@ -13,7 +13,7 @@ use Rattle.rows.specs.Counting.{count}
 use Rattle.rows.specs.Totals.{total}
 use Rattle.rows.specs.Linked.{walk}
 use Rattle.classes.specs.Classes.{perRegion}
-use Rattle.classes.specs.Places.{unitOf, Block}
+use Rattle.classes.specs.Geometry.{unitOf, Block}
 use Rattle.links.specs.Link.{link}
 use Rattle.plain.specs.State.{Mem}
 use Rattle.plain.specs.Calls.{opens?}
@@ -21,7 +21,7 @@ use Rattle.plain.specs.Blocks.{blocksFrom}
 use Rattle.plain.specs.Weights.{blockWeight}
 use Rattle.plain.specs.OnePlace.{OpenBlock}
 use Rattle.control.specs.Places.{A4, A8, F1, F2, F3-EXCHANGE, F4-CLEAR, PUSH-RELEASE, PUSH-OFFER}
-use Rattle.agreement.specs.Memory.{Slot, Memory}
+use Rattle.agreement.specs.Contents.{Slot, Contents}
 
 -- ---- lists
 
@@ -33,23 +33,23 @@ listFrom next (suc n) (suc x) = x ∷ listFrom next n (next x)
 
 -- The list ℓ of descriptors, and that of the spare regions: one item more is read than there are descriptors or
 -- regions, so that a list that does not end is not taken for one that does.
-abbrev pub listOf : Memory → ℕ → List ℕ
+abbrev pub listOf : Contents → ℕ → List ℕ
 listOf a ℓ = listFrom (a .lists .descriptorNext) (suc DESCRIPTORS) (a .lists .head ℓ .item)
 
-abbrev pub spareRegions : Memory → ℕ → List ℕ
+abbrev pub spareRegions : Contents → ℕ → List ℕ
 spareRegions a regions = listFrom (a .lists .regionNext) (suc regions) (a .lists .head SPARE-REGIONS .item)
 
 -- ---- open regions: "a region is open while that descriptor names it back and its anchor is not EMPTY"
 
 -- the class in which the region r is open, plus one, 0 where it is not; by its map entry
-abbrev pub classBy : ℕ → ℕ → Memory → ℕ
+abbrev pub classBy : ℕ → ℕ → Contents → ℕ
 classBy zero r a = 0
 classBy (suc d) r a =
     if (both (ℕ-discrete (a .descriptors .region d) r) (decLe 1 (a .descriptors .anchor d .state)))
     (suc (a .descriptors .class d)) 0
 
 -- its chain: as many blocks as the anchor counts, from avail on
-abbrev pub chainBy : ℕ → ℕ → Memory → List ℕ
+abbrev pub chainBy : ℕ → ℕ → Contents → List ℕ
 chainBy zero r a = []
 chainBy (suc d) r a =
     if (both (ℕ-discrete (a .descriptors .region d) r) (decLe 1 (a .descriptors .anchor d .state)))
@@ -74,7 +74,7 @@ plainChain m r = plainChainBy (m .map r) r m
 -- ---- tasks
 
 -- a task's group: as many blocks as it counts, from its first on
-abbrev groupOf : Slot → Memory → List ℕ
+abbrev groupOf : Slot → Contents → List ℕ
 groupOf s a = walk (link (a .area)) (unitOf (s .hand .region) (s .class)) (s .group .first) (s .group .count)
 
 -- the blocks that a table has for a place: each line gives the first and the last of its places; elsewhere there are
@@ -85,7 +85,7 @@ blocksAt (line ∷ table) place = cond (leb (line .0) place && leb place (line .
 
 -- "In comparing holders, a chain or group under way, a block being freed and blocks still to be carved count with their
 -- task's cache": what a task has under way, by its place
-abbrev pub underWays : Slot → Memory → List (ℕ × ℕ × List ℕ)
+abbrev pub underWays : Slot → Contents → List (ℕ × ℕ × List ℕ)
 underWays s a =
     let freed = s .unit ∷ [] in
     -- the rest of the chain that was taken
@@ -102,11 +102,11 @@ underWays s a =
     ∷ []
 
 -- how often a cache of n blocks with the top u has the block v
-abbrev pub inCache : Memory → ℕ → ℕ → ℕ → ℕ
+abbrev pub inCache : Contents → ℕ → ℕ → ℕ → ℕ
 inCache a v u n = count v (walk (link (a .area)) (λ x. x) u n)
 
 -- how often a task has the block v, in its caches or under way
-abbrev pub withTask : Memory → ℕ → ℕ → ℕ
+abbrev pub withTask : Contents → ℕ → ℕ → ℕ
 withTask a t v =
     let s = a .slot t in
     total CLASSES (λ c n. inCache a v (s .caches .top c) n) (s .caches .count) + count v
@@ -129,7 +129,7 @@ holderOf (suc n) has inChain t = if (decLe 1 (has t)) (task t) (holderOf n has i
 abbrev pub holder : ℕ → (ℕ → ℕ) → ℕ → Holder
 holder mark has inChain = if (decLe 1 mark) hands (holderOf TASKS has inChain 0)
 
-abbrev pub holderIn : Memory → ℕ → ℕ → Holder
+abbrev pub holderIn : Contents → ℕ → ℕ → Holder
 holderIn a r v = holder (a .entries .mark v) (λ t. withTask a t v) (count v (chainBy (a .entries .map r) r a))
 
 abbrev pub plainHolder : Mem → ℕ → ℕ → Holder
@@ -137,7 +137,7 @@ plainHolder m r v = holder (m .hands v) (λ t. blockWeight v t (m .task t)) (cou
 
 -- ---- the comparison, in an area of so many regions
 
-pub record Same (regions : ℕ) (a : Memory) (m : Mem) : Type 0 where
+pub record SameObserved (regions : ℕ) (a : Contents) (m : Mem) : Type 0 where
   pub lists : (ℓ : ℕ) → ℓ < SPARE-REGIONS → listOf a ℓ ≡ m .row ℓ
   pub spares : spareRegions a regions ≡ m .row SPARE-REGIONS
   pub classes : (r : ℕ) → r < regions → classBy (a .entries .map r) r a ≡ plainClass m r

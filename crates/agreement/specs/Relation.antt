@@ -8,7 +8,7 @@ use Rattle.limits.specs.Limits.{SPARE-REGIONS, LISTS}
 use Rattle.rows.specs.Counting.{count}
 use Rattle.rows.specs.Linked.{Linked}
 use Rattle.classes.specs.Classes.{perRegion}
-use Rattle.classes.specs.Places.{indexOf, regionOf, Block}
+use Rattle.classes.specs.Geometry.{indexOf, regionOf, Block}
 use Rattle.words.specs.declared.head.Head.{Head}
 use Rattle.words.specs.declared.anchor.Anchor.{Anchor}
 use Rattle.links.specs.Link.{link}
@@ -22,7 +22,7 @@ use Rattle.plain.specs.Blocks.{isBlock}
 use Rattle.control.specs.Places.{IDLE, A1, POP-PARTIAL, POP-SPARE, POP-REGION, PUSH-RETIRE, PUSH-BACK, PUSH-RELEASE}
 use Rattle.control.specs.Places.{PUSH-OFFER, A3-READ, A3-EXCHANGE, A4, A7, A8, F1, F2, F3-READ, F3-LINK, F3-EXCHANGE}
 use Rattle.control.specs.Places.{F4-CLEAR}
-use Rattle.agreement.specs.Memory.{TaskCaches, Slot, Lists, Descriptors, Entries, Memory}
+use Rattle.agreement.specs.Contents.{TaskCaches, Slot, Lists, Descriptors, Entries, Contents}
 
 -- the tag of a number of won exchanges
 abbrev pub wrap : ℕ → ℕ
@@ -81,7 +81,7 @@ pub record NoteRelated (m : Mem) (c d : ℕ) (n : Note) (a : Anchor) : Type 0 wh
   pub none : n .first ≡ 0 → n .length ≡ 0
 
 -- A group: the blocks before its last are linked up to it.
-pub record GroupRelated (a : Memory) (s : Slot) (y : ℕ) (g : List ℕ) : Type 0 where
+pub record GroupRelated (a : Contents) (s : Slot) (y : ℕ) (g : List ℕ) : Type 0 where
   pub front : List ℕ
   pub last : ℕ
   pub is : y ∷ g ≡ front ++ (last ∷ [])
@@ -93,7 +93,7 @@ pub record GroupRelated (a : Memory) (s : Slot) (y : ℕ) (g : List ℕ) : Type 
 -- ---- a task
 
 -- A place of a task at work, with what is under way; the plain place is built from the task's fields.
-pub data WorkRelated (regions : ℕ) (a : Memory) (m : Mem) (s : Slot) : Work → Type 0 where
+pub data WorkRelated (regions : ℕ) (a : Contents) (m : Mem) (s : Slot) : Work → Type 0 where
   r-a1 : s .place ≡ A1 → WorkRelated regions a m s (a1 (s .class))
   r-partial : {φ : Phase} → PopRelated m s POP-PARTIAL (s .class) DESCRIPTORS φ
       → WorkRelated regions a m s (popping (partial (s .class)) φ)
@@ -145,7 +145,7 @@ pub data WorkRelated (regions : ℕ) (a : Memory) (m : Mem) (s : Slot) : Work �
       → WorkRelated regions a m s (f4-clear (s .class) (s .unit) (s .hand .descriptor) w (s .hand .region))
 
 -- Any place: a task is idle, or at work.
-pub data PlaceRelated (regions : ℕ) (a : Memory) (m : Mem) (s : Slot) : Place → Type 0 where
+pub data PlaceRelated (regions : ℕ) (a : Contents) (m : Mem) (s : Slot) : Place → Type 0 where
   r-idle : s .place ≡ IDLE → PlaceRelated regions a m s idle
   r-working : {w : Work} → WorkRelated regions a m s w → PlaceRelated regions a m s (working w)
 
@@ -155,7 +155,7 @@ pub record CachesRelated (nx : ℕ → ℕ) (k : TaskCaches) (cache : ℕ → Li
   pub counts : (c : ℕ) → c < CLASSES → k .count c ≡ length (cache c)
 
 -- A task: its class is one of the classes, its place, and its caches.
-pub record SlotRelated (regions : ℕ) (a : Memory) (m : Mem) (s : Slot) (T : Task) : Type 0 where
+pub record SlotRelated (regions : ℕ) (a : Contents) (m : Mem) (s : Slot) (T : Task) : Type 0 where
   pub fits : s .class < CLASSES
   pub place : PlaceRelated regions a m s (T .place)
   pub caches : CachesRelated (link (a .area)) (s .caches) (T .cache)
@@ -200,12 +200,12 @@ pub record EntriesRelated (regions : ℕ) (e : Entries) (map hands : ℕ → ℕ
   pub marks : (u : ℕ) → u < UNITS → e .mark u ≡ hands u
 
 -- all but the tasks; the area has the started length
-pub record Core (regions : ℕ) (a : Memory) (m : Mem) : Type 0 where
+pub record Core (regions : ℕ) (a : Contents) (m : Mem) : Type 0 where
   pub lists : ListsRelated regions (a .lists) (m .won) (m .row)
   pub descriptors : DescriptorsRelated regions (link (a .area)) (a .descriptors) (m .descriptor)
   pub entries : EntriesRelated regions (a .entries) (m .map) (m .hands)
   pub length : lib.ListN.length (a .area) ≡ REGION-BYTES * regions
 
-pub record Related (regions : ℕ) (a : Memory) (m : Mem) : Type 0 where
+pub record Related (regions : ℕ) (a : Contents) (m : Mem) : Type 0 where
   pub core : Core regions a m
   pub slots : (t : ℕ) → t < TASKS → SlotRelated regions a m (a .slot t) (m .task t)

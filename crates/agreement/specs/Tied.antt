@@ -7,7 +7,7 @@ use Rattle.plain.specs.Calls.{Pool}
 use Rattle.plain.specs.Invariant.{Good}
 use Rattle.control.specs.Layout.{Control, Tasks, Regions, seen}
 use Rattle.stepped.specs.Outcome.{Memories}
-use Rattle.agreement.specs.Memory.{memoryOf}
+use Rattle.agreement.specs.Contents.{contentsOf}
 use Rattle.agreement.specs.Relation.{Related}
 
 -- The control memory has its length and holds bytes; the started numbers of tasks and regions are the plain pool's; the
@@ -21,4 +21,4 @@ pub record Tied (s₁ : Memories) (s : Pool) : Type 0 where
   -- once it is started: it has a region, as many as the plain pool, and the relation
   pub some : 1 ≤ s .tasks → 1 ≤ s .regions
   pub regions : 1 ≤ s .tasks → seen (s₁ .control) Regions ≡ s .regions
-  pub related : 1 ≤ s .tasks → Related (s .regions) (memoryOf (seen (s₁ .control)) (s₁ .area)) (s .mem)
+  pub related : 1 ≤ s .tasks → Related (s .regions) (contentsOf (seen (s₁ .control)) (s₁ .area)) (s .mem)

@@ -10,7 +10,7 @@ use Rattle.limits.specs.Limits.{CLASSES, DESCRIPTORS}
 use Rattle.fields.specs.Columns.{View, _:=_}
 use Rattle.words.specs.Anchor.{EMPTY, anchorOf}
 use Rattle.words.specs.Mark.{isSet, withClear}
-use Rattle.classes.specs.Places.{regionOf, isFirst}
+use Rattle.classes.specs.Geometry.{regionOf, isFirst}
 use Rattle.plain.specs.Moves.{nothing}
 use Rattle.control.specs.Layout.{changed, Anchor, Marks, TaskUnit, TaskPlace, TaskClass, DescriptorRegion}
 use Rattle.control.specs.Layout.{DescriptorClass, Map}

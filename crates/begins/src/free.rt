@@ -1,6 +1,6 @@
 // The beginning of a free. Each function makes the tests of one read, in the order of the reads: the map entry, the
 // descriptor's region and anchor, its class, the mark.
-use classes::place;
+use classes::geometry;
 use control::answer::Answer;
 use control::places;
 use words::anchor;
@@ -41,7 +41,7 @@ fn open(control: &mut [u8], task: usize, unit: usize, descriptor: usize) -> Answ
     if limits::CLASSES <= (class as usize) {
         return Answer::Refused(14);
     }
-    if !place::is_first(class as usize, unit) {
+    if !geometry::is_first(class as usize, unit) {
         return Answer::Refused(10);
     }
     marked(control, task, unit, class)
@@ -57,7 +57,7 @@ fn by(control: &mut [u8], regions: usize, task: usize, unit: usize, descriptor: 
     if regions <= region {
         return Answer::Refused(14);
     }
-    if region != place::region_of(unit) {
+    if region != geometry::region_of(unit) {
         return Answer::Refused(10);
     }
     let word = control::regions::anchor(control, descriptor);
@@ -105,7 +105,7 @@ pub fn begin(control: &mut [u8], regions: usize, task: usize, unit: u64) -> Answ
         return Answer::Refused(10);
     }
     let first = unit as usize;
-    let region = place::region_of(first);
+    let region = geometry::region_of(first);
     if regions <= region {
         return Answer::Refused(10);
     }

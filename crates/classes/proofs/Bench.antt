@@ -4,28 +4,28 @@ use mathlib.Core.Path.{_≡_, refl}
 use mathlib.Core.List.{List, [], _∷_, map}
 use Prim.Native.Nat.{ℕ}
 use Rattle.classes.specs.Classes.{units, block, perRegion}
-use Rattle.classes.specs.Places.{isFirst}
+use Rattle.classes.specs.Geometry.{isFirst}
 use Rattle.classes.specs.Sizes.{classOf, choice}
 use Rattle.classes.specs.declared.size.Choice.{Choice}
 use Rattle.classes.specs.declared.size.Choice.the-variants.{Class, Refused}
 
 -- what a row shows for a size: the bytes of the block that serves it, or the number that refuses it
-pub data Shown : Type 0 where
-  bytes : ℕ → Shown
-  number : ℕ → Shown
+pub data Served : Type 0 where
+  bytes : ℕ → Served
+  number : ℕ → Served
 
-abbrev pub shown : Choice → Shown
-shown (Class c) = bytes (block c)
-shown (Refused n) = number n
+abbrev pub served : Choice → Served
+served (Class c) = bytes (block c)
+served (Refused n) = number n
 
--- the rows: a size, and what is shown for it
-abbrev pub sizes : List (ℕ × Shown)
+-- the rows: a size, and what is served for it
+abbrev pub sizes : List (ℕ × Served)
 sizes =
     (0, number 8) ∷ (1, bytes 8) ∷ (9, bytes 16) ∷ (17, bytes 24) ∷
     (65, bytes 80) ∷ (256, bytes 256) ∷ (257, number 9) ∷ []
 
 -- each row is what the choice shows
-pub sizes-hold : map (λ r. shown (choice (r .0))) sizes ≡ map (λ r. r .1) sizes
+pub sizes-hold : map (λ r. served (choice (r .0))) sizes ≡ map (λ r. r .1) sizes
 unfolding units classOf choice
 sizes-hold = refl
 

@@ -6,7 +6,7 @@ use native.Mathlib.Omega.{arith}
 use native.Mathlib.Nat.{mul-le-mul-left}
 use lib.Dec.{T, ltb, ltb→lt}
 use Rattle.limits.specs.Limits.{REGION-UNITS}
-use Rattle.classes.specs.Places.{isFirst}
+use Rattle.classes.specs.Geometry.{isFirst}
 use Rattle.classes.specs.Factors.{PRODUCTS, FIRSTS, Factor}
 use Rattle.classes.proofs.Below.{all, at}
 

@@ -3,5 +3,5 @@ pub mod Tables
 pub mod Series
 pub mod Sizes
 pub mod Bench
-pub mod Places
+pub mod BlockUnits
 pub mod Factors

@@ -3,7 +3,7 @@ use mathlib.Core.Path.{_≡_}
 use Prim.Native.Nat.{ℕ, _*_, _%_, _<_}
 use lib.Dec.{ltb}
 use Rattle.limits.specs.Limits.{REGION-UNITS}
-use Rattle.classes.specs.Places.{isFirst}
+use Rattle.classes.specs.Geometry.{isFirst}
 
 -- a product is taken modulo 2^32, and that of a first unit is below 2^16
 abbrev pub PRODUCTS : ℕ

@@ -1,4 +1,4 @@
 pub mod Classes
 pub mod Sizes
-pub mod Places
+pub mod Geometry
 pub mod Factors

@@ -8,7 +8,7 @@ use lib.ListN.{length}
 use Rattle.fields.specs.Columns.{View}
 use Rattle.words.specs.Anchor.{EMPTY, anchorOf}
 use Rattle.words.specs.Mark.{isSet}
-use Rattle.classes.specs.Places.{regionOf, isFirst}
+use Rattle.classes.specs.Geometry.{regionOf, isFirst}
 use Rattle.control.specs.Layout.{Anchor, Marks, TaskPlace, TaskClass, DescriptorRegion, DescriptorClass, Map, Tasks, Regions}
 use Rattle.control.specs.Answers.{numberOf}
 use Rattle.stepped.specs.Outcome.{Outcome, Effect}

@@ -103,8 +103,8 @@ OtherLeft (other k lent left number) = Refusal number → left ≡ lent
 OtherLeft (write at b) = Unit {0}
 
 -- the memories after an act, and beside them the answer and the decided move by the definitions: the move is no byte
-abbrev pub shown : Act → Memories → Memories × Answer
-shown a s = (after a s, stepped (event a s) s .1)
+abbrev pub leftBy : Act → Memories → Memories × Answer
+leftBy a s = (after a s, stepped (event a s) s .1)
 
 -- What demand 3, and demand 1's last sentence, say of one act: the plain pool p gives the same code and value and decides the same
 -- move, never 14; afterwards both have the same lists, chains and holders, each block of an open region in exactly one place; a
@@ -112,10 +112,10 @@ shown a s = (after a s, stepped (event a s) s .1)
 -- user's hands.
 pub record Tells (a : Act) (s : Memories) (p : Pool) : Type 0 where
   pub answered : Answered a (whole (event a s) p .1)
-  pub agrees : Agrees (shown a s) (whole (event a s) p)
-  pub unchanged : Unchanged s (shown a s)
+  pub agrees : Agrees (leftBy a s) (whole (event a s) p)
+  pub unchanged : Unchanged s (leftBy a s)
   pub other-left : OtherLeft a
-  pub untouched : Untouched (event a s) s (shown a s) p
+  pub untouched : Untouched (event a s) s (leftBy a s) p
 
 -- P of each act of a run, in its order, with the memories and the plain pool before it
 abbrev pub AlongActs : (Act → Memories → Pool → Type 0) → List Act → Memories → Pool → Type 0

@@ -5,14 +5,14 @@ use Prim.Native.Nat.{ℕ, _*_, _/_, _<_}
 use native.Mathlib.Omega.{arith}
 use native.Mathlib.Decide.{ℕ-discrete, decLt}
 use Rattle.limits.specs.Limits.{CONTROL-BYTES, REGION-BYTES, TASKS}
-use Rattle.classes.specs.Places.{regionOf}
+use Rattle.classes.specs.Geometry.{regionOf}
 use Rattle.plain.specs.State.{Place, idle, Mem, working}
 use Rattle.plain.specs.Moves.{Answer}
 use Rattle.plain.specs.Steps.{Result, stepOf, stepOf}
 use Rattle.plain.specs.Calls.{Pool, Call, start, allocate, free, area?, tasks?, beginAllocate, beginFree}
 use Rattle.plain.specs.Calls.{whenIdle, tested, call, Lengths, step}
 use Rattle.plain.specs.Invariant.{Invariant, Good, run}
-use Rattle.plain.proofs.Tests.{either, Kept}
+use Rattle.plain.proofs.Tests.{either, KeepsInvariant}
 use Rattle.plain.proofs.Steps.{step-inv}
 use Rattle.plain.proofs.Starts.{start-inv}
 use Rattle.plain.proofs.Begins.{allocate-inv, free-by-inv}
@@ -20,8 +20,8 @@ use Rattle.plain.proofs.Begins.{allocate-inv, free-by-inv}
 -- ---- a request's beginning
 
 -- A beginning at a place that is not idle is refused.
-idle-kept : (area : ℕ) (m : Mem) (x : Result) (p : Place) → Invariant area m → (p ≡ idle → Kept area x)
-    → Kept area (whenIdle p x m)
+idle-kept : (area : ℕ) (m : Mem) (x : Result) (p : Place) → Invariant area m → (p ≡ idle → KeepsInvariant area x)
+    → KeepsInvariant area (whenIdle p x m)
 idle-kept area m x idle I h = h refl
 idle-kept area m x (working w) I h = I
 
@@ -33,7 +33,7 @@ GoodAfter x = Good (x .0)
 
 -- A call that is no start, if its tests pass.
 tested-good : (t : ℕ) (lent : Lengths) (s : Pool) (x : Result) → Good s
-    → (t < TASKS → Invariant (s .regions) (s .mem) → Kept (s .regions) x) → Good (tested t lent s x .0)
+    → (t < TASKS → Invariant (s .regions) (s .mem) → KeepsInvariant (s .regions) x) → Good (tested t lent s x .0)
 tested-good t lent s x g h =
     either GoodAfter (ℕ-discrete (lent .control) CONTROL-BYTES) _ _
     (λ a. either GoodAfter (ℕ-discrete (s .tasks) 0) _ _ (λ b. g)
@@ -68,7 +68,7 @@ call-good (free t u) lent s g =
     let m = s .mem in
     tested-good t lent s _ g (λ l I.
     idle-kept (s .regions) m (beginFree t u (s .regions) m) (m .task t .place) I (λ e.
-    either (Kept (s .regions)) (decLt (regionOf u) (s .regions)) _ _
+    either (KeepsInvariant (s .regions)) (decLt (regionOf u) (s .regions)) _ _
     (λ a. free-by-inv t l I e u (m .map (regionOf u)) (I .entries (regionOf u)))
     (λ a. I)))
 call-good (step t) lent s g = tested-good t lent s (stepOf t (s .mem)) g (λ l I. step-inv t l I)

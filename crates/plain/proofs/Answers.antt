@@ -10,7 +10,7 @@ use Rattle.limits.specs.Limits.{CONTROL-BYTES, REGION-BYTES, MOST-BYTES, SPARE-
 use Rattle.rows.specs.Branch.{both}
 use Rattle.rows.proofs.Branch.{if-yes, if-no}
 use Rattle.rows.proofs.Update.{update-same}
-use Rattle.classes.specs.Places.{regionOf}
+use Rattle.classes.specs.Geometry.{regionOf}
 use Rattle.plain.specs.State.{read, spare, region, back, Place, idle, pushing, Task, Mem, working}
 use Rattle.plain.specs.Moves.{found-empty, pushed, Answer, ended, refused}
 use Rattle.plain.specs.Steps.{Result, popRead, pushPut, stepAt, stepOf, stepOf, whenWorking}

@@ -5,14 +5,14 @@ use Prim.Native.Nat.{ℕ, zero, suc, _+_, _≤_, _<_}
 use native.Mathlib.Omega.{arith}
 use native.Mathlib.Decide.{ℕ-discrete, decLt}
 use Rattle.limits.specs.Limits.{TASKS, CLASSES, DESCRIPTORS, MOST-BYTES}
-use Rattle.rows.specs.Tests.{Same, same, other, same?}
+use Rattle.rows.specs.Tests.{Equality, same, other, same?}
 use Rattle.rows.specs.Branch.{both}
 use Rattle.rows.specs.Weights.{when, one}
 use Rattle.rows.specs.Counting.{count}
 use Rattle.rows.specs.Totals.{total}
 use Rattle.rows.proofs.Weights.{when-same, when-other, when-max, when-zero, weight-update}
 use Rattle.rows.proofs.Totals.{total-le, total-one}
-use Rattle.classes.specs.Places.{regionOf, Block}
+use Rattle.classes.specs.Geometry.{regionOf, Block}
 use Rattle.classes.proofs.Sizes.{is-class}
 use Rattle.plain.specs.State.{idle, f1, Task, Mem, working}
 use Rattle.plain.specs.Calls.{beginAllocate, Opens, opens?, First, first?, freeIn, freeBy}
@@ -22,7 +22,7 @@ use Rattle.plain.specs.Held.{classAt, underWay}
 use Rattle.plain.specs.Weights.{rowWeight, insideClassWeight, chainWeight, chainClassWeight, blockWeight}
 use Rattle.plain.specs.Weights.{blockClassWeight}
 use Rattle.plain.specs.Invariant.{OpenDescriptor, Invariant}
-use Rattle.plain.proofs.Tests.{either, Kept}
+use Rattle.plain.proofs.Tests.{either, KeepsInvariant}
 use Rattle.plain.proofs.Blocks.{block-counts, first-is-block}
 use Rattle.plain.proofs.States.{open-le, open-is, open-holds}
 use Rattle.plain.proofs.Homes.{inside-open}
@@ -83,7 +83,7 @@ module _ {area : ℕ} {m : Mem} (I : Invariant area m) (d u : ℕ) (l : d < DESC
       )
 
   -- One more block of the class may be under way.
-  one-under-way : m .hands u ≢ 0 → (f v : ℕ) → Same v u → Same f (m .descriptor d .class)
+  one-under-way : m .hands u ≢ 0 → (f v : ℕ) → Equality v u → Equality f (m .descriptor d .class)
       → total TASKS (blockClassWeight f v) (m .task) + when f (m .descriptor d .class) (one v u + 0)
       + total DESCRIPTORS (chainClassWeight f v) (m .descriptor)
       ≤ total DESCRIPTORS (insideClassWeight f v) (m .descriptor)
@@ -103,18 +103,18 @@ module _ {area : ℕ} {m : Mem} (t : ℕ) (l : t < TASKS) (I : Invariant area m)
   turn = turnAt I l e
 
   -- The beginning of an allocate.
-  pub allocate-inv : (size : ℕ) → Kept area (beginAllocate t size m)
+  pub allocate-inv : (size : ℕ) → KeepsInvariant area (beginAllocate t size m)
   allocate-inv size =
-      either (Kept area) (ℕ-discrete size 0) _ _ (λ a. I)
-      (λ a. either (Kept area) (decLt MOST-BYTES size) _ _ (λ b. I)
+      either (KeepsInvariant area) (ℕ-discrete size 0) _ _ (λ a. I)
+      (λ a. either (KeepsInvariant area) (decLt MOST-BYTES size) _ _ (λ b. I)
       (λ b. placed-empty turn _ refl refl (is-class size (omega arith)) tt))
 
   -- The beginning of a free: the block leaves the user's hands and is under way.
-  pub free-inv : (d u : ℕ) → d < DESCRIPTORS → Kept area (freeIn (m .descriptor d) t u m)
+  pub free-inv : (d u : ℕ) → d < DESCRIPTORS → KeepsInvariant area (freeIn (m .descriptor d) t u m)
   free-inv d u h =
       let D = m .descriptor d in
-      either (Kept area) (both (opens? D (regionOf u)) (first? (D .class) u)) _ _
-      (λ b. either (Kept area) (ℕ-discrete (m .hands u) 0) _ _ (λ n. I)
+      either (KeepsInvariant area) (both (opens? D (regionOf u)) (first? (D .class) u)) _ _
+      (λ b. either (KeepsInvariant area) (ℕ-discrete (m .hands u) 0) _ _ (λ n. I)
       (λ n. turn-inv turn _ (taskOf (working (f1 (D .class) u)) (m .task t .cache)) refl (record {
         descriptors = λ x. omega arith;
         regions = λ r. omega arith;
@@ -140,6 +140,6 @@ module _ {area : ℕ} {m : Mem} (t : ℕ) (l : t < TASKS) (I : Invariant area m)
       (λ b. I)
 
   -- The same by the map's entry of the unit's region.
-  pub free-by-inv : (u z : ℕ) → z ≤ DESCRIPTORS → Kept area (freeBy z t u m)
+  pub free-by-inv : (u z : ℕ) → z ≤ DESCRIPTORS → KeepsInvariant area (freeBy z t u m)
   free-by-inv u zero h = I
   free-by-inv u (suc d) h = free-inv d u h

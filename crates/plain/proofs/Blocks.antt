@@ -11,9 +11,9 @@ use Rattle.rows.specs.Weights.{one}
 use Rattle.rows.specs.Counting.{count}
 use Rattle.rows.proofs.Weights.{when-same, when-other}
 use Rattle.classes.specs.Classes.{units, perRegion}
-use Rattle.classes.specs.Places.{unitOf, regionOf, indexOf, Block}
+use Rattle.classes.specs.Geometry.{unitOf, regionOf, indexOf, Block}
 use Rattle.classes.proofs.Tables.{units-low}
-use Rattle.classes.proofs.Places.{region-is, index-below, unit-again}
+use Rattle.classes.proofs.BlockUnits.{region-is, index-below, unit-again}
 use Rattle.plain.specs.Calls.{First}
 use Rattle.plain.specs.Blocks.{blocksFrom, isBlock}
 

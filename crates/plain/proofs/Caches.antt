@@ -17,7 +17,7 @@ use Rattle.rows.proofs.Weights.{when-same, when-other, when-add, when-le, when-
 use Rattle.rows.proofs.Counting.{count-append}
 use Rattle.rows.proofs.Totals.{total-one, total-update}
 use Rattle.classes.specs.Classes.{perRegion}
-use Rattle.classes.specs.Places.{unitOf, regionOf}
+use Rattle.classes.specs.Geometry.{unitOf, regionOf}
 use Rattle.classes.proofs.Tables.{perRegion-low}
 use Rattle.plain.specs.State.{Place, idle, a1, a4, a8, f1, f2, Task, Mem, working}
 use Rattle.plain.specs.Steps.{cached, a1Step, a8Step, f1Step, f2Step, stepAt}
@@ -27,7 +27,7 @@ use Rattle.plain.specs.Held.{unmappedIn, underWay}
 use Rattle.plain.specs.Weights.{rowWeight, blockWeight}
 use Rattle.plain.specs.Places.{Together, NoteHolds, Holds}
 use Rattle.plain.specs.Invariant.{Invariant}
-use Rattle.plain.proofs.Tests.{either, Kept}
+use Rattle.plain.proofs.Tests.{either, KeepsInvariant}
 use Rattle.plain.proofs.Homes.{inside-open}
 use Rattle.plain.proofs.Notes.{as-before}
 use Rattle.plain.proofs.Turn.{Turn, fewer, as-mapped, turn-inv, within}
@@ -94,7 +94,7 @@ module _ {area : ℕ} {m : Mem} {t : ℕ} {k : ℕ → List ℕ} where
   -- ---- allocate
 
   -- Step 1: the top of the cache goes to a user's hands, or the cache is empty.
-  pub a1-inv : (c : ℕ) (q : List ℕ) → k c ≡ q → Turn area m t (taskOf (working (a1 c)) k) → Kept area (a1Step t k c q m)
+  pub a1-inv : (c : ℕ) (q : List ℕ) → k c ≡ q → Turn area m t (taskOf (working (a1 c)) k) → KeepsInvariant area (a1Step t k c q m)
   a1-inv c [] e w = placed w _ refl (placeHolds w, ap length e) tt
   a1-inv c (x ∷ q) e w = turn-inv w _ (taskOf idle (update k c q)) refl (record {
     descriptors = λ y. omega arith;
@@ -135,7 +135,7 @@ module _ {area : ℕ} {m : Mem} {t : ℕ} {k : ℕ → List ℕ} where
 
   -- Step 4: a block of the taken chain goes to the cache.
   pub a4-inv : (c x : ℕ) (q : List ℕ) → Turn area m t (taskOf (working (a4 c x q)) k)
-      → Kept area (stepAt t k (a4 c x q) m)
+      → KeepsInvariant area (stepAt t k (a4 c x q) m)
   a4-inv c x [] w =
       let o = placeHolds w in
       recached w _ c _ refl refl (o .0) (λ v. omega arith) (omega arith) (o .0) tt
@@ -161,14 +161,14 @@ module _ {area : ℕ} {m : Mem} {t : ℕ} {k : ℕ → List ℕ} where
       (o .0, omega (arith, length-update k c q), omega arith) tt
 
   -- The step itself.
-  pub a8-inv : (c r i : ℕ) → Turn area m t (taskOf (working (a8 c r i)) k) → Kept area (a8Step t k c r i m)
+  pub a8-inv : (c r i : ℕ) → Turn area m t (taskOf (working (a8 c r i)) k) → KeepsInvariant area (a8Step t k c r i m)
   a8-inv c r i w = carve-inv c r i _ (λ v. omega arith) (omega arith) w (ℕ-discrete (suc i) (perRegion c))
 
   -- ---- free
 
   -- Step 1: the block goes to the cache, or the cache is full.
-  pub f1-inv : (c u : ℕ) → Turn area m t (taskOf (working (f1 c u)) k) → Kept area (f1Step t k c u m)
-  f1-inv c u w = either (Kept area) (decLt (length (k c)) (perRegion c)) _ _
+  pub f1-inv : (c u : ℕ) → Turn area m t (taskOf (working (f1 c u)) k) → KeepsInvariant area (f1Step t k c u m)
+  f1-inv c u w = either (KeepsInvariant area) (decLt (length (k c)) (perRegion c)) _ _
       (λ e. within w _ (record {
         blocks = λ v. omega (arith, total-update CLASSES (rowWeight v) k c (u ∷ k c) (placeHolds w));
         blockClasses = λ f v. omega (
@@ -189,7 +189,7 @@ module _ {area : ℕ} {m : Mem} {t : ℕ} {k : ℕ → List ℕ} where
 
   -- Step 2: the top of the cache joins the group, or the group is closed.
   pub f2-inv : (c u : ℕ) (q g : List ℕ) → k c ≡ q → Turn area m t (taskOf (working (f2 c u g)) k)
-      → Kept area (f2Step t k c u q g m)
+      → KeepsInvariant area (f2Step t k c u q g m)
   f2-inv c u [] [] e w = absurd (omega (arith, placeHolds w .1, ap length e))
   f2-inv c u [] (y ∷ g) e w =
       let o = placeHolds w in
@@ -201,7 +201,7 @@ module _ {area : ℕ} {m : Mem} {t : ℕ} {k : ℕ → List ℕ} where
       (o .0, omega arith, omega (arith, length-update k c q, ap length e), λ v h. absurd (omega arith)) tt
   f2-inv c u (x ∷ q) (y ∷ g) e w =
       let o = placeHolds w in
-      either (Kept area) (ℕ-discrete (regionOf x) (regionOf y)) _ _
+      either (KeepsInvariant area) (ℕ-discrete (regionOf x) (regionOf y)) _ _
       (λ f. recached w _ c _ refl refl (o .0) (λ v. omega (arith, ap (count v) e, count-append v g (x ∷ [])))
       (omega (arith, ap length e, lengths w c))
       (o .0, omega arith, longer, grown f) tt)

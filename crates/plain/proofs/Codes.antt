@@ -11,7 +11,7 @@ use Rattle.rows.specs.Branch.{if}
 use Rattle.rows.specs.Update.{update}
 use Rattle.rows.proofs.Update.{update-same, update-all}
 use Rattle.classes.specs.Classes.{perRegion}
-use Rattle.classes.specs.Places.{unitOf, regionOf}
+use Rattle.classes.specs.Geometry.{unitOf, regionOf}
 use Rattle.plain.specs.State.{State, EMPTY, PARTIAL, FULL, Phase, read, next, exchange, Pop, partial, spare}
 use Rattle.plain.specs.State.{region, Push, retire, back, release, offer, Place, idle, a1, popping, pushing}
 use Rattle.plain.specs.State.{a3-read, a3-exchange, a4, a7, a8, f1, f2, f3-read, f3-link, f3-exchange, f4-clear}

@@ -13,7 +13,7 @@ use Rattle.rows.proofs.Counting.{count-append}
 use Rattle.rows.proofs.Totals.{total-one}
 use Rattle.rows.proofs.Pigeonhole.{pigeonhole, pigeonhole-full}
 use Rattle.classes.specs.Classes.{perRegion}
-use Rattle.classes.specs.Places.{regionOf}
+use Rattle.classes.specs.Geometry.{regionOf}
 use Rattle.plain.specs.State.{Place, Mem}
 use Rattle.plain.specs.Blocks.{blocksFrom, isBlock}
 use Rattle.plain.specs.Held.{classAt, underWay}

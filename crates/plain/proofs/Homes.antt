@@ -8,8 +8,8 @@ use Rattle.rows.specs.Counting.{count}
 use Rattle.rows.specs.Totals.{total}
 use Rattle.rows.proofs.Weights.{when-same, when-max, when-is, below-max}
 use Rattle.rows.proofs.Totals.{total-le, total-one, total-found}
-use Rattle.classes.specs.Places.{regionOf, Block}
-use Rattle.classes.proofs.Places.{region-is}
+use Rattle.classes.specs.Geometry.{regionOf, Block}
+use Rattle.classes.proofs.BlockUnits.{region-is}
 use Rattle.plain.specs.State.{Mem}
 use Rattle.plain.specs.Blocks.{isBlock}
 use Rattle.plain.specs.States.{IsOpen}

@@ -12,7 +12,7 @@ use Rattle.rows.proofs.Weights.{when-same, when-other, when-add, when-zero}
 use Rattle.plain.specs.State.{Phase, read, next, exchange, Pop, partial, spare, region, Push, retire, back}
 use Rattle.plain.specs.State.{release, offer, popping, pushing, Mem, working}
 use Rattle.plain.specs.Steps.{popList, pushList, popRead, popLost, popTake, popStep, pushPut, pushStep}
-use Rattle.plain.proofs.Tests.{either, Kept}
+use Rattle.plain.proofs.Tests.{either, KeepsInvariant}
 use Rattle.plain.proofs.Turn.{Turn}
 use Rattle.plain.proofs.Places.{taskOf, placeHolds, noteHolds, placed, placed-empty}
 use Rattle.plain.proofs.Exchanged.{relisted, released}
@@ -23,19 +23,19 @@ module _ {area : ℕ} {m : Mem} {t : ℕ} {k : ℕ → List ℕ} where
 
   -- A pop that finds its list empty.
   empty-inv : (p : Pop) → Turn area m t (taskOf (working (popping p read)) k)
-      → Kept area (popRead t k p [] m)
+      → KeepsInvariant area (popRead t k p [] m)
   empty-inv (partial c) w = placed w _ refl (placeHolds w) tt
   empty-inv (spare c) w = placed-empty w _ refl refl tt tt
   empty-inv (region c d) w = placed w _ refl (placeHolds w) tt
 
   -- A lost exchange, and an exchange of an empty row, go back to the read.
-  lost-inv : (p : Pop) (φ : Phase) → Turn area m t (taskOf (working (popping p φ)) k) → Kept area (popLost t k p m)
+  lost-inv : (p : Pop) (φ : Phase) → Turn area m t (taskOf (working (popping p φ)) k) → KeepsInvariant area (popLost t k p m)
   lost-inv p φ w = placed w _ refl (placeHolds w) tt
 
   -- A won exchange takes the top item.
   take-inv : (p : Pop) (φ : Phase) (q : List ℕ) → m .row (popList p) ≡ q
       → Turn area m t (taskOf (working (popping p φ)) k)
-      → Kept area (popTake t k p q m)
+      → KeepsInvariant area (popTake t k p q m)
   take-inv p φ [] e w = lost-inv p φ w
   take-inv (partial c) φ (y ∷ q) e w =
       relisted w _ _ _ refl (omega (arith, placeHolds w)) (rw e (record {
@@ -70,21 +70,21 @@ module _ {area : ℕ} {m : Mem} {t : ℕ} {k : ℕ → List ℕ} where
       })) (placeHolds w) tt
 
   -- The three steps of a pop.
-  pub pop-inv : (p : Pop) (φ : Phase) → Turn area m t (taskOf (working (popping p φ)) k) → Kept area (popStep t k p φ m)
+  pub pop-inv : (p : Pop) (φ : Phase) → Turn area m t (taskOf (working (popping p φ)) k) → KeepsInvariant area (popStep t k p φ m)
   pop-inv p read w = by (m .row (popList p)) refl
     where
-      by : (q : List ℕ) → m .row (popList p) ≡ q → Kept area (popRead t k p q m)
+      by : (q : List ℕ) → m .row (popList p) ≡ q → KeepsInvariant area (popRead t k p q m)
       by [] e = empty-inv p w
       by (x ∷ q) e =
           placed w _ refl (placeHolds w) (omega arith, λ f. omega (arith, ap length e))
   pop-inv p (next n) w = placed w _ refl (placeHolds w) (noteHolds w)
-  pop-inv p (exchange n) w = either (Kept area) (ℕ-discrete (m .won (popList p)) n) _ _
+  pop-inv p (exchange n) w = either (KeepsInvariant area) (ℕ-discrete (m .won (popList p)) n) _ _
       (λ e. take-inv p (exchange n) (m .row (popList p)) refl w) (λ e. lost-inv p (exchange n) w)
 
   -- ---- pushes
 
   -- A won exchange puts the item on top.
-  put-inv : (p : Push) (φ : Phase) → Turn area m t (taskOf (working (pushing p φ)) k) → Kept area (pushPut t k p m)
+  put-inv : (p : Push) (φ : Phase) → Turn area m t (taskOf (working (pushing p φ)) k) → KeepsInvariant area (pushPut t k p m)
   put-inv (retire c d) φ w =
       let q = m .row SPARE-DESCRIPTORS in
       relisted w _ _ _ refl (omega arith) (record {
@@ -136,8 +136,8 @@ module _ {area : ℕ} {m : Mem} {t : ℕ} {k : ℕ → List ℕ} where
 
   -- The three steps of a push.
   pub push-inv : (p : Push) (φ : Phase) → Turn area m t (taskOf (working (pushing p φ)) k)
-      → Kept area (pushStep t k p φ m)
+      → KeepsInvariant area (pushStep t k p φ m)
   push-inv p read w = placed w _ refl (placeHolds w) (omega arith)
   push-inv p (next n) w = placed w _ refl (placeHolds w) (noteHolds w)
-  push-inv p (exchange n) w = either (Kept area) (ℕ-discrete (m .won (pushList p)) n) _ _
+  push-inv p (exchange n) w = either (KeepsInvariant area) (ℕ-discrete (m .won (pushList p)) n) _ _
       (λ e. put-inv p (exchange n) w) (λ e. placed w _ refl (placeHolds w) tt)

@@ -4,7 +4,7 @@ use mathlib.Core.List.{List}
 use Prim.Native.Nat.{ℕ, _≤_, _<_}
 use native.Mathlib.Omega.{arith}
 use lib.ListN.{length}
-use Rattle.classes.specs.Places.{regionOf}
+use Rattle.classes.specs.Geometry.{regionOf}
 use Rattle.plain.specs.State.{Phase, read, next, exchange, Mem}
 use Rattle.plain.specs.Steps.{popList, pushList}
 use Rattle.plain.specs.Places.{PopNote, PushNote, NotedHolds}

@@ -7,7 +7,7 @@ use Rattle.limits.specs.Limits.{TASKS, DESCRIPTORS}
 use Rattle.rows.specs.Counting.{count}
 use Rattle.rows.proofs.Weights.{when-same}
 use Rattle.rows.proofs.Totals.{total-one}
-use Rattle.classes.specs.Places.{regionOf}
+use Rattle.classes.specs.Geometry.{regionOf}
 use Rattle.plain.specs.State.{Place, Mem}
 use Rattle.plain.specs.States.{IsOpen}
 use Rattle.plain.specs.Held.{classAt, underWay}

@@ -24,7 +24,7 @@ use Rattle.plain.specs.States.{ifOpen, IsOpen, IfOpen, IfEmpty, isFull, 
 use Rattle.plain.specs.Weights.{insideWeight, insideClassWeight, chainWeight, chainClassWeight, openWeight}
 use Rattle.plain.specs.Weights.{fullWeight, descriptorClassWeight, regionWeight}
 use Rattle.plain.specs.Invariant.{OpenDescriptor, ClosedDescriptor, Invariant}
-use Rattle.plain.proofs.Tests.{Kept}
+use Rattle.plain.proofs.Tests.{KeepsInvariant}
 use Rattle.plain.proofs.Blocks.{isBlock-row}
 use Rattle.plain.proofs.States.{open-map}
 use Rattle.plain.proofs.Notes.{as-before}
@@ -74,7 +74,7 @@ entries-kept m r z h x g =
 module _ {area : ℕ} {m : Mem} {t : ℕ} {k : ℕ → List ℕ} where
   -- Step 4 of a free clears the entry.
   pub clear-inv : (c u d : ℕ) (s : State) (r : ℕ) → Turn area m t (taskOf (working (f4-clear c u d s r)) k)
-      → Kept area (stepAt t k (f4-clear c u d s r) m)
+      → KeepsInvariant area (stepAt t k (f4-clear c u d s r) m)
   clear-inv c u d s r w =
       let z = no-open w r (omega (arith, when-same r 1)) in
       turn-inv w _ (taskOf (working (pushing (release c u d s r) read)) k) refl (record {
@@ -99,7 +99,7 @@ module _ {area : ℕ} {m : Mem} {t : ℕ} {k : ℕ → List ℕ} where
 
   -- Step 7 of an allocate: the descriptor, which is EMPTY, opens the region for the class, and all its blocks are
   -- to be carved.
-  pub open-inv : (c d r : ℕ) → Turn area m t (taskOf (working (a7 c d r)) k) → Kept area (a7Step t k c d r m)
+  pub open-inv : (c d r : ℕ) → Turn area m t (taskOf (working (a7 c d r)) k) → KeepsInvariant area (a7Step t k c d r m)
   open-inv c d r w =
       let D = m .descriptor d in
       let F = m .descriptor in

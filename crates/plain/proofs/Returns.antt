@@ -15,7 +15,7 @@ use Rattle.plain.specs.Blocks.{isBlock}
 use Rattle.plain.specs.States.{isFull}
 use Rattle.plain.specs.Held.{owed}
 use Rattle.plain.specs.Invariant.{all-returned}
-use Rattle.plain.proofs.Tests.{either, Kept}
+use Rattle.plain.proofs.Tests.{either, KeepsInvariant}
 use Rattle.plain.proofs.Turn.{Turn}
 use Rattle.plain.proofs.Places.{taskOf, placeHolds, placed, noteHolds}
 use Rattle.plain.proofs.Owners.{Owner}
@@ -88,7 +88,7 @@ module _ {area : ℕ} {m : Mem} {t c u y d : ℕ} {g : List ℕ} {n : Note} {k :
 
   -- Fewer than n blocks: PARTIAL.
   to-partial : AsNoted (m .descriptor d) n → (h : ¬ (length joined ≡ perRegion c))
-      → Kept area (returned t k (no h) c u y g d (n .state) m)
+      → KeepsInvariant area (returned t k (no h) c u y g d (n .state) m)
   to-partial s no-end =
       let o = own .counts in
       anchored w _ d _ (f5-held (n .state) c u d (k c)) (record {
@@ -122,7 +122,7 @@ module _ {area : ℕ} {m : Mem} {t c u y d : ℕ} {g : List ℕ} {n : Note} {k :
 
   -- n blocks: EMPTY, and the region is no longer open, but held by the task.
   to-empty : AsNoted (m .descriptor d) n → (h : length joined ≡ perRegion c)
-      → Kept area (returned t k (yes h) c u y g d (n .state) m)
+      → KeepsInvariant area (returned t k (yes h) c u y g d (n .state) m)
   to-empty s end =
       let o = own .counts in
       anchored w _ d _ refl (record {
@@ -158,13 +158,13 @@ module _ {area : ℕ} {m : Mem} {t c u y d : ℕ} {g : List ℕ} {n : Note} {k :
       (placeHolds w .0, omega (arith, placeHolds w .1)) tt
 
   -- The exchange, won or lost.
-  pub f3-exchange-inv : Kept area (f3Exchange t k c u y g d n m)
-  f3-exchange-inv = either (Kept area) (asNoted? (m .descriptor d) n) _ _
+  pub f3-exchange-inv : KeepsInvariant area (f3Exchange t k c u y g d n m)
+  f3-exchange-inv = either (KeepsInvariant area) (asNoted? (m .descriptor d) n) _ _
       (λ s. by (ℕ-discrete (length joined) (perRegion c)) (to-empty s) (to-partial s))
       (λ s. placed w _ refl (placeHolds w .0, placeHolds w .1, placeHolds w .2) tt)
     where
-      by : {P : Type 0} (e : Dec P) → ((h : P) → Kept area (returned t k (yes h) c u y g d (n .state) m))
-          → ((h : ¬ P) → Kept area (returned t k (no h) c u y g d (n .state) m))
-          → Kept area (returned t k e c u y g d (n .state) m)
+      by : {P : Type 0} (e : Dec P) → ((h : P) → KeepsInvariant area (returned t k (yes h) c u y g d (n .state) m))
+          → ((h : ¬ P) → KeepsInvariant area (returned t k (no h) c u y g d (n .state) m))
+          → KeepsInvariant area (returned t k e c u y g d (n .state) m)
       by (yes h) a b = a h
       by (no h) a b = b h

@@ -6,12 +6,12 @@ use native.Mathlib.Omega.{arith}
 use lib.ListN.{length-append}
 use Rattle.rows.proofs.Weights.{when-same}
 use Rattle.limits.specs.Limits.{TASKS}
-use Rattle.classes.specs.Places.{regionOf}
+use Rattle.classes.specs.Geometry.{regionOf}
 use Rattle.plain.specs.State.{Place, idle, a1, popping, pushing, a3-read, a3-exchange, a4, a7, a8, f1, f2}
 use Rattle.plain.specs.State.{f3-read, f3-link, f3-exchange, f4-clear, Mem, Work, working}
 use Rattle.plain.specs.Steps.{f3Read, stepAt, stepOf, whenWorking}
 use Rattle.plain.specs.Invariant.{Invariant}
-use Rattle.plain.proofs.Tests.{Kept}
+use Rattle.plain.proofs.Tests.{KeepsInvariant}
 use Rattle.plain.proofs.Turn.{Turn}
 use Rattle.plain.proofs.Places.{taskOf, turnAt, placeHolds, placed, noteHolds}
 use Rattle.plain.proofs.Caches.{a1-inv, a4-inv, a8-inv, f1-inv, f2-inv}
@@ -24,7 +24,7 @@ use Rattle.plain.proofs.Returns.{f3-exchange-inv}
 module _ {area : ℕ} {m : Mem} {t : ℕ} (k : ℕ → List ℕ) where
   -- The anchor read of a free; where the map names no descriptor nothing happens.
   read-step : (c u y : ℕ) (g : List ℕ) (z : ℕ) → m .map (regionOf y) ≡ z
-      → Turn area m t (taskOf (working (f3-read c u y g)) k) → Kept area (f3Read t k z c u y g m)
+      → Turn area m t (taskOf (working (f3-read c u y g)) k) → KeepsInvariant area (f3Read t k z c u y g m)
   read-step c u y g zero e w = w .inv
   read-step c u y g (suc d) e w =
       let o = placeHolds w in
@@ -35,7 +35,7 @@ module _ {area : ℕ} {m : Mem} {t : ℕ} (k : ℕ → List ℕ) where
       (omega (arith, when-same y 1), e)
 
   -- The step list.
-  step-at : (p : Work) → Turn area m t (taskOf (working p) k) → Kept area (stepAt t k p m)
+  step-at : (p : Work) → Turn area m t (taskOf (working p) k) → KeepsInvariant area (stepAt t k p m)
   step-at (a1 c) w = a1-inv c (k c) refl w
   step-at (popping p φ) w = pop-inv p φ w
   step-at (pushing p φ) w = push-inv p φ w
@@ -52,10 +52,10 @@ module _ {area : ℕ} {m : Mem} {t : ℕ} (k : ℕ → List ℕ) where
   step-at (f4-clear c u d s r) w = clear-inv c u d s r w
 
   -- Every step of one of the tasks, if it has a request.
-  step-of : (p : Place) → Turn area m t (taskOf p k) → Kept area (whenWorking p (λ q. stepAt t k q m) m)
+  step-of : (p : Place) → Turn area m t (taskOf p k) → KeepsInvariant area (whenWorking p (λ q. stepAt t k q m) m)
   step-of idle w = w .inv
   step-of (working q) w = step-at q w
 
-pub step-inv : {area : ℕ} {m : Mem} (t : ℕ) → t < TASKS → Invariant area m → Kept area (stepOf t m)
+pub step-inv : {area : ℕ} {m : Mem} (t : ℕ) → t < TASKS → Invariant area m → KeepsInvariant area (stepOf t m)
 unfolding stepOf
 step-inv {m = m} t l I = step-of (m .task t .cache) (m .task t .place) (turnAt I l refl)

@@ -16,7 +16,7 @@ use Rattle.plain.specs.Steps.{moving, AsNoted, asNoted?, chained, at, a3
 use Rattle.plain.specs.Blocks.{isBlock}
 use Rattle.plain.specs.States.{ifOpen, IsOpen, isFull, isEmpty}
 use Rattle.plain.specs.Invariant.{ChainLength, OpenDescriptor, Invariant}
-use Rattle.plain.proofs.Tests.{either, Kept}
+use Rattle.plain.proofs.Tests.{either, KeepsInvariant}
 use Rattle.plain.proofs.States.{open-holds, IsState, is-empty, is-partial, is-full, state?}
 use Rattle.plain.proofs.Notes.{as-before}
 use Rattle.plain.proofs.Turn.{Turn, fewer, enough, as-mapped, turn-inv}
@@ -64,7 +64,7 @@ module _ {area : ℕ} {m : Mem} {t : ℕ} {k : ℕ → List ℕ} where
   -- The anchor read: an EMPTY descriptor is held as spare from now on, any other is exchanged next.
   pub a3-read-inv : (c d : ℕ) (s : State) → m .descriptor d .state ≡ s
       → Turn area m t (taskOf (working (a3-read c d)) k)
-      → Kept area (a3Read t k c d s m)
+      → KeepsInvariant area (a3Read t k c d s m)
   a3-read-inv c d EMPTY e w = turn-inv w _ (taskOf (working (pushing (retire c d) read)) k) refl (record {
     descriptors = λ x. omega arith;
     regions = λ r. omega arith;
@@ -128,7 +128,7 @@ module _ {area : ℕ} {m : Mem} {t : ℕ} {k : ℕ → List ℕ} where
 
   -- The exchange, won or lost.
   pub a3-exchange-inv : (c d : ℕ) (n : Note) → Turn area m t (taskOf (working (a3-exchange c d n)) k)
-      → Kept area (a3Exchange t k c d n m)
-  a3-exchange-inv c d n w = either (Kept area) (asNoted? (m .descriptor d) n) _ _
+      → KeepsInvariant area (a3Exchange t k c d n m)
+  a3-exchange-inv c d n w = either (KeepsInvariant area) (asNoted? (m .descriptor d) n) _ _
       (λ s. take-inv c d n (m .descriptor d .chain) refl w s)
       (λ s. placed w _ refl (placeHolds w .0, placeHolds w .1) tt)

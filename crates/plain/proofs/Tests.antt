@@ -10,5 +10,5 @@ either Q (yes p) x y a b = a p
 either Q (no n) x y a b = b n
 
 -- the memory after a step or a beginning has the invariant
-abbrev pub Kept : ℕ → Result → Type 0
-Kept area x = Invariant area (x .0)
+abbrev pub KeepsInvariant : ℕ → Result → Type 0
+KeepsInvariant area x = Invariant area (x .0)

@@ -11,7 +11,7 @@ use Rattle.rows.specs.Totals.{total}
 use Rattle.rows.proofs.Update.{update-all}
 use Rattle.rows.proofs.Weights.{below-max}
 use Rattle.rows.proofs.Totals.{total-le, total-one, total-update}
-use Rattle.classes.specs.Places.{regionOf}
+use Rattle.classes.specs.Geometry.{regionOf}
 use Rattle.plain.specs.State.{Task, Mem, setTask}
 use Rattle.plain.specs.Steps.{at}
 use Rattle.plain.specs.States.{IfOpen, IfEmpty, isEmpty}
@@ -46,7 +46,7 @@ pub data Unmapped (n n′ z z′ o′ : ℕ) : Type 0 where
   opens : 1 ≤ o′ → Unmapped n n′ z z′ o′
 
 -- what a step has to show, after which the memory is m′, and the task T′
-pub record Shown (m : Mem) (t : ℕ) (T : Task) (m′ : Mem) (T′ : Task) : Type 0 where
+pub record Balanced (m : Mem) (t : ℕ) (T : Task) (m′ : Mem) (T′ : Task) : Type 0 where
   pub descriptors : (x : ℕ)
       → total SPARE-REGIONS (rowWeight x) (m′ .row) + descriptorWeight x t T′
       + total DESCRIPTORS (fullWeight x) (m′ .descriptor)
@@ -104,7 +104,7 @@ module _ {area : ℕ} {m : Mem} {t : ℕ} {T : Task} (w : Turn area m t T) where
       omega (arith, underWay-class (w .inv) j y l, class-inside (w .inv) c y, inside-open (w .inv) y)
 
   -- A step that shows what it has to show keeps the invariant.
-  pub turn-inv : (m′ : Mem) (T′ : Task) → m′ .task ≡ update (m .task) t T′ → Shown m t T m′ T′ → Invariant area m′
+  pub turn-inv : (m′ : Mem) (T′ : Task) → m′ .task ≡ update (m .task) t T′ → Balanced m t T m′ T′ → Invariant area m′
   turn-inv m′ T′ e s = record {
     descriptors = λ x. omega (arith, w .inv .descriptors x, retask (descriptorWeight x), s .descriptors x);
     regions = λ r. omega (arith, w .inv .regions r, retask (regionWeight r), s .regions r);

@@ -3,7 +3,7 @@ use mathlib.Core.List.{List, _∷_, []}
 use Prim.Native.Nat.{ℕ, zero, suc}
 use Rattle.rows.specs.Counting.{count}
 use Rattle.classes.specs.Classes.{perRegion}
-use Rattle.classes.specs.Places.{unitOf}
+use Rattle.classes.specs.Geometry.{unitOf}
 
 -- k blocks of the region r, whose blocks are of class c, from block i on
 abbrev pub blocksFrom : ℕ → ℕ → ℕ → ℕ → List ℕ

@@ -9,7 +9,7 @@ use Rattle.limits.specs.Limits.{SPARE-DESCRIPTORS, SPARE-REGIONS}
 use Rattle.rows.specs.Branch.{if, both}
 use Rattle.classes.specs.Classes.{units, perRegion}
 use Rattle.classes.specs.Sizes.{classOf}
-use Rattle.classes.specs.Places.{regionOf, indexOf}
+use Rattle.classes.specs.Geometry.{regionOf, indexOf}
 use Rattle.plain.specs.State.{State, EMPTY, PARTIAL, FULL, Descriptor, Task, Mem, setTask, setHands, Place, idle}
 use Rattle.plain.specs.State.{a1, f1, working}
 use Rattle.plain.specs.Moves.{Answer, going, nothing, refused}

@@ -6,7 +6,7 @@ use Prim.Native.Nat.{ℕ, suc, _+_, _≤_, _<_}
 use lib.ListN.{length}
 use Rattle.limits.specs.Limits.{DESCRIPTORS}
 use Rattle.classes.specs.Classes.{perRegion}
-use Rattle.classes.specs.Places.{regionOf}
+use Rattle.classes.specs.Geometry.{regionOf}
 use Rattle.plain.specs.State.{PARTIAL, FULL, Note, exchange, Pop, popping, a3-read, a3-exchange, f2, f3-read}
 use Rattle.plain.specs.State.{f3-link, f3-exchange, Mem, working}
 use Rattle.plain.specs.Steps.{popList, item, AsNoted}

@@ -5,7 +5,7 @@ use Prim.Native.Nat.{ℕ, suc, _+_, _≤_, _<_}
 use Rattle.limits.specs.Limits.{TASKS, DESCRIPTORS, SPARE-REGIONS}
 use Rattle.rows.specs.Counting.{count}
 use Rattle.rows.specs.Totals.{total}
-use Rattle.classes.specs.Places.{regionOf}
+use Rattle.classes.specs.Geometry.{regionOf}
 use Rattle.plain.specs.State.{Mem}
 use Rattle.plain.specs.Calls.{Opens, First}
 use Rattle.plain.specs.Weights.{rowWeight, chainWeight, blockWeight, blockClassWeight}

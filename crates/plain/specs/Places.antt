@@ -6,7 +6,7 @@ use lib.ListN.{length}
 use Rattle.limits.specs.Limits.{CLASSES}
 use Rattle.rows.specs.Counting.{count}
 use Rattle.classes.specs.Classes.{perRegion}
-use Rattle.classes.specs.Places.{regionOf}
+use Rattle.classes.specs.Geometry.{regionOf}
 use Rattle.plain.specs.State.{numberOf, Phase, read, next, exchange, retire, back, release, offer, Place, idle}
 use Rattle.plain.specs.State.{a1, popping, pushing, a3-read, a3-exchange, a4, a7, a8, f1, f2, f3-read, f3-link}
 use Rattle.plain.specs.State.{f3-exchange, f4-clear, Task, Mem, Work, working, Push}

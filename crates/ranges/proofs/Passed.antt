@@ -9,7 +9,7 @@ use borrow.Author.Tests.{ltb-true, leb-true, eqb-true, not-true, not-false}
 use lib.Dec.{ltb, leb, eqb}
 use Rattle.limits.specs.Limits.{REGION-UNITS, UNITS, MOST-BLOCKS}
 use Rattle.words.specs.Anchor.{PARTIAL, FULL, isState, anchorOf}
-use Rattle.classes.specs.Places.{regionOf, isFirst}
+use Rattle.classes.specs.Geometry.{regionOf, isFirst}
 use Rattle.stepped.specs.Ranges.{oneTo, isBlock, isTop, isAnchor, hasChain, hasFirst, hasRoom}
 use Rattle.stepped.proofs.Conjunction.{both}
 use Rattle.ranges.proofs.Ranges.{top-of-none, top-of-some}

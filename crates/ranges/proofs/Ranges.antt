@@ -7,7 +7,7 @@ use lib.Dec.{ltb, leb, eqb}
 use Rattle.limits.specs.Limits.{UNITS, MOST-BLOCKS}
 use Rattle.words.specs.Anchor.{PARTIAL, FULL, anchorOf}
 use Rattle.words.specs.declared.anchor.Anchor.{Anchor}
-use Rattle.classes.specs.Places.{regionOf, isFirst}
+use Rattle.classes.specs.Geometry.{regionOf, isFirst}
 use Rattle.stepped.specs.Ranges.{isBlock, isTop, isAnchor, hasChain, hasFirst, hasRoom}
 
 module _ (regions c u : ℕ) where

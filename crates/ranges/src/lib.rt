@@ -1,5 +1,5 @@
 // The tests whose failure is 14, on values that have been read. Nothing here reads or writes memory.
-use classes::place;
+use classes::geometry;
 use words::anchor;
 use words::anchor::Anchor;
 ghost use mathlib.Core.Path.{_≡_};
@@ -13,10 +13,10 @@ pub fn is_block(regions: usize, class: usize, unit: usize) -> bool
     requires { ⌜ class < CLASSES ⌝ }
     ensures { λ r. ⌜ r ≡ isBlock regions class unit ⌝ }
 {
-    if regions <= place::region_of(unit) {
+    if regions <= geometry::region_of(unit) {
         return false;
     }
-    place::is_first(class, unit)
+    geometry::is_first(class, unit)
 }
 
 // Whether a unit is the top of `count` cached blocks: 8,192 where there is none. Callers have the class of the request:

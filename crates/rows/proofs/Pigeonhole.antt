@@ -4,7 +4,7 @@ use mathlib.Core.List.{List, [], _∷_, _++_}
 use Prim.Native.Nat.{ℕ, _≤_, _<_}
 use native.Mathlib.Omega.{arith}
 use lib.ListN.{length}
-use Rattle.rows.specs.Tests.{Same, same, other, same?, before, after, order?}
+use Rattle.rows.specs.Tests.{Equality, same, other, same?, before, after, order?}
 use Rattle.rows.specs.Counting.{count, Split}
 use Rattle.rows.proofs.Weights.{when-same, when-other}
 use Rattle.rows.proofs.Counting.{count-first, count-split, count-remove, length-remove}
@@ -28,6 +28,6 @@ pigeonhole-full r s h e v = elim (order? (count v r) (count v s)) [
   | after g ↦ omega (arith, h v)
 ]
   where
-    one-more : count v r < count v s → (u : ℕ) → Same u v → count u (v ∷ r) ≤ count u s
+    one-more : count v r < count v s → (u : ℕ) → Equality u v → count u (v ∷ r) ≤ count u s
     one-more l u (same d) = rw d (omega (arith, when-same v 1))
     one-more l u (other d) = omega (arith, h u, when-other u v 1 d)

@@ -17,12 +17,12 @@ seen true = holds refl
 seen false = fails refl
 
 -- Two numbers are the same, or the first is another one.
-pub data Same (u v : ℕ) : Type 0 where
-  same : u ≡ v → Same u v
-  other : u ≢ v → Same u v
+pub data Equality (u v : ℕ) : Type 0 where
+  same : u ≡ v → Equality u v
+  other : u ≢ v → Equality u v
 
 -- Whether two numbers are the same.
-pub same? : (u v : ℕ) → Same u v
+pub same? : (u v : ℕ) → Equality u v
 same? u v = elim (ℕ-discrete u v) [ yes e ↦ same e | no d ↦ other d ]
 
 -- The first number is below the second, or it is not.

@@ -20,7 +20,7 @@ abbrev pub zeros : Memories
 zeros = record { control = replicate 8192 0; area = replicate 16384 0 }
 
 -- the two memories are the stand's
-pub record Kept (control area : List ℕ) : Type 0 where
+pub record StandMemories (control area : List ℕ) : Type 0 where
   pub control-is : length control ≡ 8192
   pub area-is : length area ≡ 16384
 

@@ -7,7 +7,7 @@ use crate::treat::Line;
 ghost use mathlib.Core.Path.{_≡_};
 ghost use Rattle.schedule.specs.Tally.{counted};
 ghost use Rattle.schedule.specs.Stand.{shown};
-ghost use Rattle.schedule.specs.Bytes.{onBytes, Does, Kept};
+ghost use Rattle.schedule.specs.Bytes.{onBytes, Does, StandMemories};
 
 // The tally that is lent counts one more record of this code.
 pub fn count_in(tally: &mut Tally, code: u64)
@@ -19,7 +19,7 @@ pub fn count_in(tally: &mut Tally, code: u64)
 // The treatment of a record, which is handed the tally and counts the record in it by its code: its line, the two memories
 // and the tally afterwards.
 pub fn treat_counted(control: &mut [u8], area: &mut [u8], entry: Entry, tally: &mut Tally) -> Line
-    requires { ⌜ Kept (now control) (now area) ⌝ }
+    requires { ⌜ StandMemories (now control) (now area) ⌝ }
     ensures { λ r. ⌜ Does (shown onBytes entry) (now (control .entry)) (now (area .entry)) (now (control .exit)) (now (area .exit)) r × (now (tally .exit) ≡ counted (now (tally .entry)) (r .code)) ⌝ }
 {
     let line = treat::show(control, area, entry);
@@ -35,7 +35,7 @@ pub struct Treated {
 
 // The treatment of a record with a tally by value: a copy of it is lent to the treatment, and returned.
 pub fn treat_with(control: &mut [u8], area: &mut [u8], entry: Entry, tally: Tally) -> Treated
-    requires { ⌜ Kept (now control) (now area) ⌝ }
+    requires { ⌜ StandMemories (now control) (now area) ⌝ }
     ensures { λ r. ⌜ Does (shown onBytes entry) (now (control .entry)) (now (area .entry)) (now (control .exit)) (now (area .exit)) (r .line) × (r .tally ≡ counted tally (r .line .code)) ⌝ }
 {
     let mut lent = tally;

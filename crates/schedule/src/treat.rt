@@ -3,7 +3,7 @@ use crate::lend;
 use crate::record::Entry;
 use crate::record::Record;
 ghost use Rattle.schedule.specs.Stand.{runs, treated, shown};
-ghost use Rattle.schedule.specs.Bytes.{onBytes, Does, Kept};
+ghost use Rattle.schedule.specs.Bytes.{onBytes, Does, StandMemories};
 
 // A line of the table: "record from 0, kind byte, code, value".
 pub struct Line {
@@ -15,7 +15,7 @@ pub struct Line {
 
 // "5 run .. stops at a finish, an end or a refusal (most 0: code 0, no call made)". It answers as the last call.
 fn run(control: &mut [u8], area: &mut [u8], task: u8, most: u16) -> u64
-    requires { ⌜ Kept (now control) (now area) ⌝ }
+    requires { ⌜ StandMemories (now control) (now area) ⌝ }
     ensures { λ r. ⌜ Does (runs onBytes 0 task most) (now (control .entry)) (now (area .entry)) (now (control .exit)) (now (area .exit)) r ⌝ }
 {
     let mut left = most;
@@ -33,7 +33,7 @@ fn run(control: &mut [u8], area: &mut [u8], task: u8, most: u16) -> u64
 
 // What a record does to the two memories, and what it answers: the code, and 256 times the value.
 pub fn treat(control: &mut [u8], area: &mut [u8], body: Record) -> u64
-    requires { ⌜ Kept (now control) (now area) ⌝ }
+    requires { ⌜ StandMemories (now control) (now area) ⌝ }
     ensures { λ r. ⌜ Does (treated onBytes body) (now (control .entry)) (now (area .entry)) (now (control .exit)) (now (area .exit)) r ⌝ }
 {
     match body {
@@ -48,7 +48,7 @@ pub fn treat(control: &mut [u8], area: &mut [u8], body: Record) -> u64
 
 // What a record does to the two memories, and its line.
 pub fn show(control: &mut [u8], area: &mut [u8], entry: Entry) -> Line
-    requires { ⌜ Kept (now control) (now area) ⌝ }
+    requires { ⌜ StandMemories (now control) (now area) ⌝ }
     ensures { λ r. ⌜ Does (shown onBytes entry) (now (control .entry)) (now (area .entry)) (now (control .exit)) (now (area .exit)) r ⌝ }
 {
     let body = entry.body;

@@ -61,7 +61,7 @@ pub sum : {n : ℕ} {y : Answer} → Number n y → n ≡ numberIn y
 sum N = omega (arith, N .code, N .value)
 
 -- the same answer, and beside each other again
-pub record Same (n : ℕ) (x : Memories × ℕ) (y : Pool × ℕ) : Type 0 where
+pub record SameAnswer (n : ℕ) (x : Memories × ℕ) (y : Pool × ℕ) : Type 0 where
   pub number : x .1 ≡ y .1
   pub beside : Beside n (x .0) (y .0)
 
@@ -95,7 +95,7 @@ module _ {n : ℕ} {s : Memories} {p : Pool} (B : Beside n s p) (small : n < 429
     abbrev left : Memories
     left = record { control = e .control; area = e .area }
 
-    same-call : Same (suc n) (lending q (4096 * regions) s) (feeding c p)
+    same-call : SameAnswer (suc n) (lending q (4096 * regions) s) (feeding c p)
     same-call =
         let S = shows (own q left (numberOf (e .answer))) lent (record { number = refl; control-is = refl; area-is = refl }) in
         let H = happened (eventOf q lent) lent p ∷ B .history in
@@ -129,25 +129,25 @@ module _ {n : ℕ} {s : Memories} {p : Pool} (B : Beside n s p) (small : n < 429
       ∙ ap (λ (k : ℕ). Calls.call (f 8192 k) p) part-is
 
   -- the call is lent so many regions as the stand's definition says
-  lends : (q : Call) (y : Pool × ℕ) → Same (suc n) (lending q (4096 * regions) s) y
-      → Same (suc n) (lending q (4096 * lentRegions (seen (s .control))) s) y
-  lends q y h = subst (λ (k : ℕ). Same (suc n) (lending q (4096 * k) s) y) (sym lent-same) h
+  lends : (q : Call) (y : Pool × ℕ) → SameAnswer (suc n) (lending q (4096 * regions) s) y
+      → SameAnswer (suc n) (lending q (4096 * lentRegions (seen (s .control))) s) y
+  lends q y h = subst (λ (k : ℕ). SameAnswer (suc n) (lending q (4096 * k) s) y) (sym lent-same) h
 
-  pub same-allocate : (t size : ℕ) → Same (suc n) (onBytes (allocate t size) s) (onPlain (allocate t size) p)
+  pub same-allocate : (t size : ℕ) → SameAnswer (suc n) (onBytes (allocate t size) s) (onPlain (allocate t size) p)
   unfolding Stepped.allocate
   same-allocate t size =
       lends (Call.allocate t size) _
       (same-call (Call.allocate t size) (Calls.allocate 8192 (4096 * regions) t size)
       (as-fed (λ k l. Calls.allocate k l t size)) tt (length-linked (Stepped.allocateOutcome (length (lent .control)) (length (lent .area)) (seen (lent .control)) t size .links) (lent .area)) (allocate-keeps 8192 (4096 * regions) t p size))
 
-  pub same-free : (t u : ℕ) → Same (suc n) (onBytes (free t u) s) (onPlain (free t u) p)
+  pub same-free : (t u : ℕ) → SameAnswer (suc n) (onBytes (free t u) s) (onPlain (free t u) p)
   unfolding Stepped.free
   same-free t u =
       lends (Call.free t u) _
       (same-call (Call.free t u) (Calls.free 8192 (4096 * regions) t u)
       (as-fed (λ k l. Calls.free k l t u)) tt (length-linked (Stepped.freeOutcome (length (lent .control)) (length (lent .area)) (seen (lent .control)) t u .links) (lent .area)) (free-keeps 8192 (4096 * regions) t p u))
 
-  pub same-step : (t : ℕ) → Same (suc n) (onBytes (step t) s) (onPlain (step t) p)
+  pub same-step : (t : ℕ) → SameAnswer (suc n) (onBytes (step t) s) (onPlain (step t) p)
   unfolding Stepped.go
   same-step t =
       lends (Call.step t) _

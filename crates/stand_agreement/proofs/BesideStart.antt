@@ -34,7 +34,7 @@ use Rattle.schedule.specs.Bytes.{lending, onBytes}
 use Rattle.schedule.specs.Plain.{numberIn, feeding, startedRegions, onPlain}
 use Rattle.stand_agreement.proofs.Parts.{part-length, part-back, back-length}
 use Rattle.stand_agreement.proofs.Fed.{StartIs, accepted, refused, start-is}
-use Rattle.stand_agreement.proofs.Beside.{partOf, Beside, tied, later, sum, Same}
+use Rattle.stand_agreement.proofs.Beside.{partOf, Beside, tied, later, sum, SameAnswer}
 
 -- a number that is 0 has the code 0, and the code of a beginning tells its number
 code-zero : (y : Answer) → numberIn y ≡ 0 → y .code ≡ 0
@@ -137,14 +137,14 @@ module _ {n : ℕ} {s : Memories} {p : Pool} (B : Beside n s p) (tasks regions :
   by (accepted z k g) = accepted-beside (number-same ∙ z) k g
   by (refused z k) = refused-beside (λ h. z (code-zero (Calls.call c p .1) (sym number-same ∙ h))) k
 
-  pub same-lent : Same (suc n) (lending (Call.start tasks) (4096 * regions) s) (feeding c p)
+  pub same-lent : SameAnswer (suc n) (lending (Call.start tasks) (4096 * regions) s) (feeding c p)
   same-lent = record { number = number-same; beside = by (start-is tasks regions p) }
 
 -- "more than 4 regions is 2", in both
 pub same-start : {n : ℕ} {s : Memories} {p : Pool} → Beside n s p → (tasks regions : ℕ)
-    → Same (suc n) (onBytes (start tasks regions) s) (onPlain (start tasks regions) p)
+    → SameAnswer (suc n) (onBytes (start tasks regions) s) (onPlain (start tasks regions) p)
 same-start {n} {s} {p} B tasks regions = by-regions (decLt 4 regions)
   where
-    by-regions : Dec (4 < regions) → Same (suc n) (onBytes (start tasks regions) s) (onPlain (start tasks regions) p)
+    by-regions : Dec (4 < regions) → SameAnswer (suc n) (onBytes (start tasks regions) s) (onPlain (start tasks regions) p)
     by-regions (yes h) = rw (lt-ltb 4 regions h) (record { number = refl; beside = later (omega arith) B })
     by-regions (no h) = rw (le-ltb 4 regions (omega arith)) (same-lent B tasks regions (omega arith))

@@ -26,7 +26,7 @@ use Rattle.schedule.specs.Tally.{none, counted}
 use Rattle.schedule.specs.Stand.{Request, start, allocate, free, step, lineOf, runs, treated, table}
 use Rattle.schedule.specs.Bytes.{zeros, onBytes}
 use Rattle.schedule.specs.Plain.{onPlain}
-use Rattle.stand_agreement.proofs.Beside.{partOf, Beside, later, Same, same-allocate, same-free, same-step}
+use Rattle.stand_agreement.proofs.Beside.{partOf, Beside, later, SameAnswer, same-allocate, same-free, same-step}
 use Rattle.stand_agreement.proofs.BesideStart.{same-start}
 
 -- ---- records
@@ -76,14 +76,14 @@ record-fits input at b l =
 -- ---- requests, runs and records
 
 same-request : {n : ℕ} {s : Memories} {p : Pool} (q : Request) → Beside n s p → n < 4294967296
-    → Same (suc n) (onBytes q s) (onPlain q p)
+    → SameAnswer (suc n) (onBytes q s) (onPlain q p)
 same-request (start tasks regions) B l = same-start B tasks regions
 same-request (allocate t size) B l = same-allocate B l t size
 same-request (free t u) B l = same-free B l t u
 same-request (step t) B l = same-step B l t
 
 same-runs : (m n a t : ℕ) (s : Memories) (p : Pool) → Beside n s p → n + m < 4294967296
-    → Same (n + m) (runs onBytes a t m s) (runs onPlain a t m p)
+    → SameAnswer (n + m) (runs onBytes a t m s) (runs onPlain a t m p)
 unfolding runs
 same-runs zero n a t s p B l = record { number = refl; beside = later (omega arith) B }
 same-runs (suc m) n a t s p B l =
@@ -91,9 +91,9 @@ same-runs (suc m) n a t s p B l =
     by one (same-runs m (suc n) 0 t (onBytes (step t) s .0) (onPlain (step t) p .0) (one .beside) (omega arith))
     (ℕ-discrete (onPlain (step t) p .1) 0)
   where
-    by : Same (suc n) (onBytes (step t) s) (onPlain (step t) p)
-        → Same (suc n + m) (runs onBytes 0 t m (onBytes (step t) s .0)) (runs onPlain 0 t m (onPlain (step t) p .0))
-        → Dec (onPlain (step t) p .1 ≡ 0) → Same (n + suc m) (runs onBytes a t (suc m) s) (runs onPlain a t (suc m) p)
+    by : SameAnswer (suc n) (onBytes (step t) s) (onPlain (step t) p)
+        → SameAnswer (suc n + m) (runs onBytes 0 t m (onBytes (step t) s .0)) (runs onPlain 0 t m (onPlain (step t) p .0))
+        → Dec (onPlain (step t) p .1 ≡ 0) → SameAnswer (n + suc m) (runs onBytes a t (suc m) s) (runs onPlain a t (suc m) p)
     by one rest (yes e) =
         rw (eq-eqb (onBytes (step t) s .1) 0 (one .number ∙ e), eq-eqb (onPlain (step t) p .1) 0 e)
         (record { number = rest .number; beside = later (omega arith) (rest .beside) })
@@ -101,11 +101,11 @@ same-runs (suc m) n a t s p B l =
         rw (ne-eqb (onBytes (step t) s .1) 0 (λ e. k (sym (one .number) ∙ e)), ne-eqb (onPlain (step t) p .1) 0 k)
         (record { number = one .number; beside = later (omega arith) (one .beside) })
 
-after : {n : ℕ} {x : Memories × ℕ} {y : Pool × ℕ} → Same (suc n) x y → Same (n + 65535) x y
+after : {n : ℕ} {x : Memories × ℕ} {y : Pool × ℕ} → SameAnswer (suc n) x y → SameAnswer (n + 65535) x y
 after S = record { number = S .number; beside = later (omega arith) (S .beside) }
 
 same-treated : {n : ℕ} {s : Memories} {p : Pool} (r : Record) → mostOf r ≤ 65535 → Beside n s p → n + 65535 < 4294967296
-    → Same (n + 65535) (treated onBytes r s) (treated onPlain r p)
+    → SameAnswer (n + 65535) (treated onBytes r s) (treated onPlain r p)
 same-treated (Start tasks regions) m B l = after (same-request (start tasks regions) B (omega arith))
 same-treated (Allocate t size) m B l = after (same-request (allocate t size) B (omega arith))
 same-treated (Free t u) m B l = after (same-request (free t u) B (omega arith))

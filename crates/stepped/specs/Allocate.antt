@@ -9,7 +9,7 @@ use Rattle.links.specs.Link.{_⇒_}
 use Rattle.words.specs.Anchor.{EMPTY, anchorOf, anchorWord, full}
 use Rattle.words.specs.Mark.{withSet}
 use Rattle.classes.specs.Classes.{perRegion}
-use Rattle.classes.specs.Places.{unitOf}
+use Rattle.classes.specs.Geometry.{unitOf}
 use Rattle.plain.specs.Moves.{nothing, anchor-empty, took, anchor-lost}
 use Rattle.control.specs.Layout.{Anchor, Marks, TaskAnchor, CacheTop, CacheCount, TaskIndex, TaskLeft, TaskPlace}
 use Rattle.control.specs.Layout.{TaskDescriptor, TaskRegion, DescriptorRegion, DescriptorClass, Map}
@@ -17,7 +17,7 @@ use Rattle.control.specs.Places.{IDLE, A1, A3-READ, A3-EXCHANGE, A4, A8}
 use Rattle.control.specs.declared.answer.Answer.the-variants.{Allocated}
 use Rattle.control.specs.declared.moves.Pop.the-variants.{Partial}
 use Rattle.control.specs.declared.moves.Push.the-variants.{Retire}
-use Rattle.stepped.specs.Outcome.{Outcome, bad, accept, close}
+use Rattle.stepped.specs.Outcome.{Outcome, bad, accept, over}
 use Rattle.stepped.specs.Ranges.{oneTo, isTop, isBlock, isAnchor, hasChain}
 use Rattle.stepped.specs.Lists.{popPlace, pushPlace}
 
@@ -32,7 +32,7 @@ module _ (v : View) (link : ℕ → ℕ) (regions t c : ℕ) where
   unfoldable pub a1Take : ℕ → ℕ → Outcome
   a1Take k u =
       cond (isBlock regions c u && isTop regions c (k - 1) (link u))
-      (close (Allocated u) nothing
+      (over (Allocated u) nothing
       (TaskPlace t := IDLE
       ∷ CacheTop t c := link u
       ∷ CacheCount t c := (k - 1)

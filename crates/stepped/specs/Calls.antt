@@ -13,7 +13,7 @@ use Rattle.links.specs.Link
 use Rattle.words.specs.Anchor.{EMPTY, anchorOf}
 use Rattle.words.specs.Mark.{isSet, withClear}
 use Rattle.classes.specs.Sizes.{classOf}
-use Rattle.classes.specs.Places.{regionOf, isFirst}
+use Rattle.classes.specs.Geometry.{regionOf, isFirst}
 use Rattle.plain.specs.Moves.{nothing}
 use Rattle.plain.specs.Calls.{Call, start, allocate, free, step, Lengths}
 use Rattle.control.specs.Layout.{Anchor, Marks, TaskUnit, TaskPlace, TaskClass, DescriptorRegion, DescriptorClass}

@@ -8,14 +8,14 @@ use Rattle.fields.specs.Columns.{View, _:=_}
 use Rattle.links.specs.Link.{_⇒_}
 use Rattle.words.specs.Anchor.{anchorOf, anchorWord, returned}
 use Rattle.classes.specs.Classes.{perRegion}
-use Rattle.classes.specs.Places.{unitOf, regionOf, indexOf}
+use Rattle.classes.specs.Geometry.{unitOf, regionOf, indexOf}
 use Rattle.plain.specs.Moves.{nothing, gave, anchor-lost}
 use Rattle.control.specs.Layout.{Anchor, TaskAnchor, CacheTop, CacheCount, TaskUnit, GroupFirst, GroupLast}
 use Rattle.control.specs.Layout.{GroupCount, TaskPlace, TaskDescriptor, TaskRegion, TaskState, Map}
 use Rattle.control.specs.Places.{IDLE, F2, F3-READ, F3-LINK, F3-EXCHANGE, F4-CLEAR}
 use Rattle.control.specs.declared.answer.Answer.the-variants.{Freed}
 use Rattle.control.specs.declared.moves.Push.the-variants.{Release}
-use Rattle.stepped.specs.Outcome.{Outcome, bad, accept, close}
+use Rattle.stepped.specs.Outcome.{Outcome, bad, accept, over}
 use Rattle.stepped.specs.Ranges.{oneTo, isTop, isBlock, isAnchor, hasFirst, hasRoom}
 use Rattle.stepped.specs.Lists.{pushPlace, f5}
 
@@ -30,7 +30,7 @@ module _ (v : View) (link : ℕ → ℕ) (regions t c : ℕ) where
   unfoldable pub f1Put : ℕ → ℕ → ℕ → Outcome
   f1Put u k top =
       cond (isBlock regions c u && isTop regions c k top)
-      (close Freed nothing (TaskPlace t := IDLE ∷ CacheTop t c := u ∷ CacheCount t c := (k + 1) ∷ []) (u ⇒ top ∷ []))
+      (over Freed nothing (TaskPlace t := IDLE ∷ CacheTop t c := u ∷ CacheCount t c := (k + 1) ∷ []) (u ⇒ top ∷ []))
       bad
 
   unfoldable pub f1 : Outcome

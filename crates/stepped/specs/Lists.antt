@@ -20,7 +20,7 @@ use Rattle.control.specs.declared.moves.Pop.{Pop}
 use Rattle.control.specs.declared.moves.Pop.the-variants.{Partial, Spare, Region}
 use Rattle.control.specs.declared.moves.Push.{Push}
 use Rattle.control.specs.declared.moves.Push.the-variants.{Retire, Back, Release, Offer}
-use Rattle.stepped.specs.Outcome.{Outcome, bad, accept, close}
+use Rattle.stepped.specs.Outcome.{Outcome, bad, accept, over}
 use Rattle.stepped.specs.Ranges.{oneTo}
 
 -- ---- the places of the moves: each has three in a row, from its first
@@ -99,7 +99,7 @@ module _ (v : View) (regions t c : ℕ) where
   -- step 2 "Empty: go to 5", step 5 "Empty: end with 12", step 6 "Empty: push the descriptor back"
   abbrev pub whenEmpty : Pop → Decided → Outcome
   whenEmpty Partial e = accept e (TaskPlace t := popPlace Spare ∷ []) []
-  whenEmpty Spare e = close NoDescriptor e (TaskPlace t := IDLE ∷ []) []
+  whenEmpty Spare e = over NoDescriptor e (TaskPlace t := IDLE ∷ []) []
   whenEmpty Region e = accept e (TaskPlace t := pushPlace Back ∷ []) []
 
   -- "read head (this finds an empty list)"
@@ -168,7 +168,7 @@ module _ (v : View) (regions t c : ℕ) where
   -- where a won push leads: step 3 "then 2", step 6 "the request ends with 13 at that won exchange", free's 4 and 5
   abbrev pub whenPushed : Push → Decided → List Write → Outcome
   whenPushed Retire e ws = accept e (TaskPlace t := popPlace Partial ∷ ws) []
-  whenPushed Back e ws = close NoRegion e (TaskPlace t := IDLE ∷ ws) []
+  whenPushed Back e ws = over NoRegion e (TaskPlace t := IDLE ∷ ws) []
   whenPushed Release e ws = cond (isState (v (TaskState t))) (f5 (v (TaskState t)) e ws) bad
   whenPushed Offer e ws = f6 e ws
 

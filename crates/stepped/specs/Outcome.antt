@@ -29,8 +29,8 @@ abbrev pub accept : Decided → List Write → List LinkWrite → Outcome
 accept e ws ls = record { answer = Accepted; decided = e; writes = ws; links = ls }
 
 -- the request is over, with this answer
-abbrev pub close : Answer → Decided → List Write → List LinkWrite → Outcome
-close a e ws ls = record { answer = a; decided = e; writes = ws; links = ls }
+abbrev pub over : Answer → Decided → List Write → List LinkWrite → Outcome
+over a e ws ls = record { answer = a; decided = e; writes = ws; links = ls }
 
 -- the two memories that a call is lent, as bytes
 pub record Memories : Type 0 where

@@ -6,7 +6,7 @@ use mathlib.Core.Bool.{Bool, cond, _&&_, _||_}
 use lib.Dec.{ltb, leb, eqb}
 use Rattle.limits.specs.Limits.{UNITS, MOST-BLOCKS}
 use Rattle.words.specs.Anchor.{PARTIAL, isState, anchorOf}
-use Rattle.classes.specs.Places.{regionOf, isFirst}
+use Rattle.classes.specs.Geometry.{regionOf, isFirst}
 
 -- 1 to most
 abbrev pub oneTo : ℕ → ℕ → Bool

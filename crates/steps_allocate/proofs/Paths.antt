@@ -17,7 +17,7 @@ use Rattle.control.specs.declared.answer.Answer.{Answer}
 use Rattle.control.specs.Places.{IDLE, POP-PARTIAL, PUSH-RETIRE, A3-READ, A3-EXCHANGE, A4}
 use Rattle.stepped.specs.Done.{Done, DoneIn}
 use Rattle.stepped.proofs.Doing.{does, does-in}
-use Rattle.stepped.specs.Outcome.{Outcome, bad, accept, close}
+use Rattle.stepped.specs.Outcome.{Outcome, bad, accept, over}
 use Rattle.stepped.specs.Ranges.{isTop, isBlock, isAnchor, hasChain}
 use Rattle.steps_allocate.specs.Anchors.{isEmpty, fullWord}
 use Rattle.stepped.specs.Allocate.{a1, a1Take, a3Read, a3ReadOf, a3Exchange, a3ExchangeOf}
@@ -45,7 +45,7 @@ module _ (v : View) (link : ℕ → ℕ) (regions t c : ℕ) where
 
       pub a1Take-taken : isTop regions c (k - 1) x ≡ true
           → a1Take v link regions t c k u
-          ≡ close (Allocated u) nothing
+          ≡ over (Allocated u) nothing
           (TaskPlace t := IDLE
           ∷ CacheTop t c := x
           ∷ CacheCount t c := (k - 1)

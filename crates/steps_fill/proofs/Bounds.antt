@@ -4,9 +4,9 @@ use Prim.Native.Nat.{ℕ, _+_, _*_, _≤_, _<_}
 use native.Mathlib.Omega.{arith}
 use Rattle.limits.specs.Limits.{REGION-UNITS}
 use Rattle.classes.specs.Classes.{perRegion}
-use Rattle.classes.specs.Places.{unitOf}
+use Rattle.classes.specs.Geometry.{unitOf}
 use Rattle.classes.proofs.Tables.{units-low}
-use Rattle.classes.proofs.Places.{block-at, inside}
+use Rattle.classes.proofs.BlockUnits.{block-at, inside}
 
 -- a block's first unit and its link stay in the block's region
 pub unit-inside : (r c i : ℕ) → i < perRegion c → unitOf r c i + 1 ≤ REGION-UNITS * r + REGION-UNITS

@@ -8,7 +8,7 @@ use Rattle.limits.specs.Limits.{REGION-UNITS, DESCRIPTORS}
 use Rattle.fields.specs.Columns.{View, _:=_}
 use Rattle.links.specs.Link.{_⇒_}
 use Rattle.classes.specs.Classes.{units, perRegion}
-use Rattle.classes.specs.Places.{unitOf}
+use Rattle.classes.specs.Geometry.{unitOf}
 use Rattle.plain.specs.Moves.{nothing}
 use Rattle.control.specs.Layout.{Anchor, CacheTop, CacheCount, TaskIndex, TaskLeft, TaskPlace, TaskDescriptor}
 use Rattle.control.specs.Layout.{TaskRegion}

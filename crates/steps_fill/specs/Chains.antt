@@ -3,7 +3,7 @@ use Prim.Native.Nat.{ℕ, _≤_, _<_}
 use mathlib.Core.Path.{_≡_}
 use Rattle.fields.specs.Columns.{View}
 use Rattle.classes.specs.Classes.{perRegion}
-use Rattle.classes.specs.Places.{unitOf}
+use Rattle.classes.specs.Geometry.{unitOf}
 use Rattle.control.specs.Layout.{TaskIndex, TaskLeft, TaskRegion}
 
 -- u is the block's unit, by the task's region and index; `left` blocks of the chain are left, with this one; all are in

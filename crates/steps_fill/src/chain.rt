@@ -1,6 +1,6 @@
 // Step 4: "Move the taken chain to the cache, one block a step in chain order; after the last, 1."
 use crate::cache;
-use crate::place;
+use crate::units;
 use control::answer::Answer;
 use control::caches;
 use control::notes;
@@ -90,7 +90,7 @@ fn move_block(
         return Answer::Accepted;
     }
     let next = links::read(area, at);
-    if place::blocks(class) as u32 <= next {
+    if units::blocks(class) as u32 <= next {
         return Answer::Refused(14);
     }
     move_on(
@@ -124,7 +124,7 @@ fn move_at(
         (now (control .entry)) (now (area .entry)) (now (control .exit)) (now (area .exit)) r ⌝ }
 {
     let count = caches::cache_count(control, task, class);
-    if place::blocks(class) <= count {
+    if units::blocks(class) <= count {
         return Answer::Refused(14);
     }
     let top = caches::cache_top(control, task, class);
@@ -146,7 +146,7 @@ pub fn step(
     ensures { λ r. ⌜ DoneIn (a4 (seen (now (control .entry))) (link (now (area .entry))) regions task class)
         (now (control .entry)) (now (area .entry)) (now (control .exit)) (now (area .exit)) r ⌝ }
 {
-    let n = place::blocks(class);
+    let n = units::blocks(class);
     let region = tasks::task_region(control, task) as usize;
     if regions <= region {
         return Answer::Refused(14);
@@ -162,6 +162,6 @@ pub fn step(
     if n < left {
         return Answer::Refused(14);
     }
-    let unit = place::unit(region, class, index);
+    let unit = units::unit(region, class, index);
     move_at(control, area, regions, task, class, unit, left)
 }

@@ -2,5 +2,5 @@
 // function is one step, or the rest of one from where the values that it needs are known.
 pub mod cache;
 pub mod chain;
-mod place;
 pub mod region;
+mod units;

@@ -1,7 +1,7 @@
 // Steps 7 and 8, by which a region is opened for the class: "One step writes the descriptor (FULL, n, 0) and the map.
 // Put blocks 0 to n − 1 on the cache, one a step; then 1."
 use crate::cache;
-use crate::place;
+use crate::units;
 use control::answer::Answer;
 use control::caches;
 use control::notes;
@@ -104,7 +104,7 @@ fn put(
 {
     let unit = (limits::REGION_UNITS * region + offset) as u16;
     let next = index + 1;
-    if next == place::blocks(class) {
+    if next == units::blocks(class) {
         cache::push_last(control, task, class, unit, count);
         links::write_in_region(area, region, offset, top as u32);
         return Answer::Accepted;
@@ -126,7 +126,7 @@ pub fn carve(
     ensures { λ r. ⌜ DoneIn (a8 (seen (now (control .entry))) (link (now (area .entry))) regions task class)
         (now (control .entry)) (now (area .entry)) (now (control .exit)) (now (area .exit)) r ⌝ }
 {
-    let n = place::blocks(class);
+    let n = units::blocks(class);
     let region = tasks::task_region(control, task) as usize;
     if regions <= region {
         return Answer::Refused(14);
@@ -143,7 +143,7 @@ pub fn carve(
     if !ranges::is_top(regions, class, count as usize, top as usize) {
         return Answer::Refused(14);
     }
-    let offset = place::offset(class, index);
+    let offset = units::offset(class, index);
     put(
         control,
         area,

@@ -7,9 +7,9 @@ use native.Mathlib.Omega.{arith}
 use native.Mathlib.Nat.{div-le-self}
 use Rattle.limits.specs.Limits.{REGION-BYTES, UNIT-BYTES, REGION-UNITS, REGIONS}
 use Rattle.classes.specs.Classes.{units, perRegion}
-use Rattle.classes.specs.Places.{unitOf, indexOf}
+use Rattle.classes.specs.Geometry.{unitOf, indexOf}
 use Rattle.classes.proofs.Tables.{units-low}
-use Rattle.classes.proofs.Places.{block-at, in-area}
+use Rattle.classes.proofs.BlockUnits.{block-at, in-area}
 use Rattle.stepped.specs.Ranges.{isTop}
 use Rattle.ranges.proofs.Passed.{top-passed}
 

@@ -7,7 +7,7 @@ use borrow.Author.Tests.{lt-ltb, le-ltb, lt-leb, le-leb, eq-eqb, ne-eqb}
 use Rattle.fields.specs.Columns.{View, _:=_}
 use Rattle.links.specs.Link.{_⇒_}
 use Rattle.classes.specs.Classes.{perRegion}
-use Rattle.classes.specs.Places.{unitOf, regionOf, indexOf}
+use Rattle.classes.specs.Geometry.{unitOf, regionOf, indexOf}
 use Rattle.plain.specs.Moves.{nothing}
 use Rattle.control.specs.Layout.{CacheTop, CacheCount, GroupFirst, GroupLast, GroupCount, TaskRegion}
 use Rattle.stepped.specs.Outcome.{bad, accept}

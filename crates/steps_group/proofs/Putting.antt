@@ -12,7 +12,7 @@ use Rattle.plain.specs.Moves.{nothing}
 use Rattle.control.specs.Layout.{CacheTop, CacheCount, TaskUnit, GroupCount, TaskPlace}
 use Rattle.control.specs.declared.answer.Answer.the-variants.{Freed}
 use Rattle.control.specs.Places.{IDLE, F2}
-use Rattle.stepped.specs.Outcome.{bad, accept, close}
+use Rattle.stepped.specs.Outcome.{bad, accept, over}
 use Rattle.stepped.specs.Ranges.{isBlock, isTop}
 use Rattle.stepped.specs.Free.{f1, f1Put}
 
@@ -47,6 +47,6 @@ module _ (v : View) (link : ℕ → ℕ) (regions t c : ℕ) where
 
     pub is-put : isBlock regions c u ≡ true → isTop regions c k top ≡ true
         → f1Put v link regions t c u k top
-        ≡ close Freed nothing (TaskPlace t := IDLE ∷ CacheTop t c := u ∷ CacheCount t c := (k + 1) ∷ []) (u ⇒ top ∷ [])
+        ≡ over Freed nothing (TaskPlace t := IDLE ∷ CacheTop t c := u ∷ CacheCount t c := (k + 1) ∷ []) (u ⇒ top ∷ [])
     unfolding f1Put
     is-put h l = rw (h, l)

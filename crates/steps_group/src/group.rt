@@ -66,8 +66,8 @@ fn take_first(
     if !ranges::is_top(regions, class, (count - 1) as usize, below as usize) {
         return Answer::Refused(14);
     }
-    let region = classes::place::region_of(unit as usize) as u8;
-    let index = classes::place::index_of(class, unit as usize) as u16;
+    let region = classes::geometry::region_of(unit as usize) as u8;
+    let index = classes::geometry::index_of(class, unit as usize) as u16;
     start_with(control, task, region, index);
     cache::set(control, task, class, below as u16, count - 1);
     Answer::Accepted
@@ -104,8 +104,8 @@ fn take_more(
     if !ranges::is_top(regions, class, (count - 1) as usize, below as usize) {
         return Answer::Refused(14);
     }
-    let index = classes::place::index_of(class, unit as usize) as u16;
-    let end = classes::place::first_unit(region, class, last);
+    let index = classes::geometry::index_of(class, unit as usize) as u16;
+    let end = classes::geometry::first_unit(region, class, last);
     links::write(area, end, index as u32);
     extend(control, task, index, group + 1);
     cache::set(control, task, class, below as u16, count - 1);
@@ -139,7 +139,7 @@ fn take_top(
     if regions <= region {
         return Answer::Refused(14);
     }
-    if classes::place::region_of(unit as usize) != region {
+    if classes::geometry::region_of(unit as usize) != region {
         control::tasks::set_task_place(control, task, places::F3_READ);
         return Answer::Accepted;
     }

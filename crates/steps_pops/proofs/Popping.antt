@@ -12,7 +12,7 @@ use Rattle.control.specs.declared.answer.Answer.{Answer}
 use Rattle.control.specs.declared.answer.Answer.the-variants.{Accepted}
 use Rattle.control.specs.declared.moves.Pop.{Pop}
 use Rattle.control.specs.declared.moves.Pop.the-variants.{Partial, Spare, Region}
-use Rattle.stepped.specs.Outcome.{bad, accept, close}
+use Rattle.stepped.specs.Outcome.{bad, accept, over}
 use Rattle.stepped.specs.Lists.{popPlace, popList, popItems, popNextField, whenEmpty, whenPopped, popRead, popNextOf}
 use Rattle.stepped.specs.Lists.{popNext, popExchange}
 use Rattle.stepped.specs.Done.{Done}
@@ -23,7 +23,7 @@ module _ (v : View) (regions t c : ℕ) where
   -- ---- where the reason leads
 
   empty-by : (p : Pop) (e : Decided)
-      → whenEmpty v regions t c p e ≡ close (emptyAnswer p) e (TaskPlace t := emptyPlace p ∷ []) []
+      → whenEmpty v regions t c p e ≡ over (emptyAnswer p) e (TaskPlace t := emptyPlace p ∷ []) []
   empty-by Partial e = refl
   empty-by Spare e = refl
   empty-by Region e = refl
@@ -39,7 +39,7 @@ module _ (v : View) (regions t c : ℕ) where
 
     -- a is the place that the code goes on to
     pub read-empty : {a : ℕ} → a ≡ emptyPlace p → itemOf (v (Head (popList p c))) ≡ 0 → popRead v regions t c p
-        ≡ close (emptyAnswer p) (found-empty (popList p c)) (TaskPlace t := a ∷ []) []
+        ≡ over (emptyAnswer p) (found-empty (popList p c)) (TaskPlace t := a ∷ []) []
     unfolding popRead
     read-empty d h = rw (d, eq-eqb _ _ h) (empty-by p _)
 

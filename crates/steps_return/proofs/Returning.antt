@@ -12,7 +12,7 @@ use Rattle.words.specs.declared.anchor.Anchor as Word
 use Rattle.words.specs.Anchor.{anchorOf, anchorWord, returned, Fields, Room}
 use Rattle.words.proofs.Anchors.{returned-fits}
 use Rattle.classes.specs.Classes.{perRegion}
-use Rattle.classes.specs.Places.{unitOf}
+use Rattle.classes.specs.Geometry.{unitOf}
 use Rattle.classes.proofs.Tables.{perRegion-high}
 use Rattle.plain.specs.Moves.{nothing, gave, anchor-lost}
 use Rattle.control.specs.Layout.{Anchor, TaskAnchor, GroupFirst, GroupLast, GroupCount, TaskPlace, TaskDescriptor}

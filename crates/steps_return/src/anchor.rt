@@ -107,7 +107,7 @@ pub fn write_last(
     if !ranges::has_first(n, word) {
         return Answer::Refused(14);
     }
-    let unit = classes::place::first_unit(region, class, last);
+    let unit = classes::geometry::first_unit(region, class, last);
     links::write(area, unit, parts::avail_of(word));
     control::tasks::set_task_place(control, task, places::F3_EXCHANGE);
     Answer::Accepted

@@ -4,7 +4,7 @@ use schedule::tallied;
 use schedule::tally;
 ghost use Prim.Native.Nat.{_≤_};
 ghost use lib.ListN.{length};
-ghost use Rattle.schedule.specs.Bytes.{Kept};
+ghost use Rattle.schedule.specs.Bytes.{StandMemories};
 ghost use Rattle.text.specs.Numbers.{Appended};
 ghost use Rattle.table.specs.Output.{output};
 
@@ -12,7 +12,7 @@ ghost use Rattle.table.specs.Output.{output};
 // and its record at least one, so that the lines of 65,536 bytes of records fit into 65,536 * 35 bytes; the first and the
 // last line fit into the rest.
 pub fn write(control: &mut [u8], area: &mut [u8], input: &[u8], out: &mut [u8]) -> usize
-    requires { ⌜ Kept (now control) (now area) × (length (now input) ≤ 65536) × (2293888 ≤ length (now out)) ⌝ }
+    requires { ⌜ StandMemories (now control) (now area) × (length (now input) ≤ 65536) × (2293888 ≤ length (now out)) ⌝ }
     ensures { λ r. ⌜ Appended (now (out .entry)) (now (out .exit)) 0
         (output (now (input .entry)) (record { control = now (control .entry); area = now (area .entry) })) r ⌝ }
 {

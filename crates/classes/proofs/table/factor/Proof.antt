@@ -2,7 +2,7 @@
 use borrow.Author.Needs.{needs}
 use native.Mathlib.Omega.{arith}
 use Rattle.classes.specs.Classes.{units, perRegion}
-use Rattle.classes.specs.Places.{isFirst}
+use Rattle.classes.specs.Geometry.{isFirst}
 use Rattle.classes.proofs.Tables.{last}
 use Rattle.classes.proofs.Factors.{is-factor, factor-at}
 use Rattle.classes.proofs.table.factor.Statement.{statement}

@@ -44,7 +44,7 @@ use Rattle.schedule.specs.declared.tally.Tally.{Tally}
 use Rattle.schedule.specs.declared.treat.Line.{Line}
 use Rattle.schedule.specs.Tally.{counted}
 use Rattle.schedule.specs.Stand.{shown}
-use Rattle.schedule.specs.Bytes.{onBytes, Does, Kept}
+use Rattle.schedule.specs.Bytes.{onBytes, Does, StandMemories}
 use Rattle.schedule.proofs.Values.{IsLine, line-is, is-line, code-fits}
 use Rattle.schedule.proofs.record.Entry as E
 use Rattle.schedule.proofs.record.Entry.Laws as E′
@@ -81,7 +81,7 @@ module _ {M : Type 1} (𝓤 : URA M) (H : Heap 𝓤) (A : Atoms 𝓤) (at-mem : 
 -- the parameters: the slices (b₀, o₀) and (b₁, o₁) with the lists xs and ys, the record e with its number and kind, and the reference (b₂, o₂) with the tally h
 module _ {M : Type 1} (𝓤 : URA M) (H : Heap 𝓤) (A : Atoms 𝓤) (W : Given 𝓤 H A) (at-mem : Memory → SProp 𝓤) (run : Routine → Fun 𝓤) (κ₀ κ₁ κ₂ : Lft) (q₀ q₁ q₂ : Share)
     (b₀ o₀ : ℕ) (γ₀ : GName) (xs : List ℕ) (b₁ o₁ : ℕ) (γ₁ : GName) (ys : List ℕ) (e : Entry) (b₂ o₂ : ℕ) (γ₂ : GName) (h : Tally)
-    (room₀ : Room u8 (length xs)) (room₁ : Room u8 (length ys)) (is-e : Is E.the-row e (LL.vals E.the-type E′.the-laws e)) (kept : Kept xs ys) where
+    (room₀ : Room u8 (length xs)) (room₁ : Room u8 (length ys)) (is-e : Is E.the-row e (LL.vals E.the-type E′.the-laws e)) (kept : StandMemories xs ys) where
   abbrev x₀ : Slice
   x₀ = record { ptr = (b₀, o₀); name = γ₀; now = xs }
 
@@ -185,7 +185,7 @@ module _ {M : Type 1} (𝓤 : URA M) (H : Heap 𝓤) (A : Atoms 𝓤) (W : Given
       → Walks 𝓤 H A treat-counted.ended stayed (WpFn 𝓤 H C Λ code.function) (treat-counted.clauses 𝓤 H A at-mem run)
   treat-counted-walks C Λ fm known-show known-count-in = walked 𝓤 H A treat-counted.ended stayed (treat-counted.clauses 𝓤 H A at-mem run) (WpFn 𝓤 H C Λ code.function)
       (λ κs. (slice-vals, (slice-vals, (LL.vals E.the-type E′.the-laws, (ptr-vals, tt))))) (λ κs. (mut-slice-tells (named 0) (κs .0) u8, (mut-slice-tells (named 1) (κs .1 .0) u8, (LL.tells E.the-type E′.the-laws, (mut-tells (named 2) (κs .1 .1 .0) T.the-row, tt)))))
-      (λ κs qs bounds a g are. needs 𝓤 (Kept (a .0 .now) (a .1 .0 .now)) _ (λ kept.
+      (λ κs qs bounds a g are. needs 𝓤 (StandMemories (a .0 .now) (a .1 .0 .now)) _ (λ kept.
       walk 𝓤 H A W at-mem run (κs .0) (κs .1 .0) (κs .1 .1 .0) (qs .0) (qs .1 .0) (qs .1 .1 .0) (a .0 .ptr .0) (a .0 .ptr .1) (a .0 .name) (a .0 .now) (a .1 .0 .ptr .0) (a .1 .0 .ptr .1) (a .1 .0 .name) (a .1 .0 .now) (a .1 .1 .0)
       (a .1 .1 .1 .0 .ptr .0) (a .1 .1 .1 .0 .ptr .1) (a .1 .1 .1 .0 .name) (a .1 .1 .1 .0 .now) (are .0 .0 .1) (are .1 .0 .0 .1) (are .1 .1 .0) kept C Λ fm known-show known-count-in))
 

@@ -47,7 +47,7 @@ use Rattle.schedule.specs.declared.tally.Tally.{Tally}
 use Rattle.schedule.specs.declared.treat.Line.{Line}
 use Rattle.schedule.specs.Tally.{counted}
 use Rattle.schedule.specs.Stand.{shown}
-use Rattle.schedule.specs.Bytes.{onBytes, Does, Kept}
+use Rattle.schedule.specs.Bytes.{onBytes, Does, StandMemories}
 use Rattle.schedule.proofs.Values.{IsTally, IsLine, line-is, is-line}
 use Rattle.schedule.proofs.record.Entry as E
 use Rattle.schedule.proofs.record.Entry.Laws as E′
@@ -102,7 +102,7 @@ module _ {M : Type 1} (𝓤 : URA M) (H : Heap 𝓤) (A : Atoms 𝓤) (W : Given
 -- the parameters: the slices (b₀, o₀) and (b₁, o₁) with the lists xs and ys, the record e with its number and kind, and the tally h
 module _ {M : Type 1} (𝓤 : URA M) (H : Heap 𝓤) (A : Atoms 𝓤) (W : Given 𝓤 H A) (at-mem : Memory → SProp 𝓤) (run : Routine → Fun 𝓤) (κ₀ κ₁ : Lft) (q₀ q₁ : Share)
     (b₀ o₀ : ℕ) (γ₀ : GName) (xs : List ℕ) (b₁ o₁ : ℕ) (γ₁ : GName) (ys : List ℕ) (e : Entry) (h : Tally)
-    (room₀ : Room u8 (length xs)) (room₁ : Room u8 (length ys)) (is-e : Is E.the-row e (LL.vals E.the-type E′.the-laws e)) (is-h : IsTally h) (kept : Kept xs ys) where
+    (room₀ : Room u8 (length xs)) (room₁ : Room u8 (length ys)) (is-e : Is E.the-row e (LL.vals E.the-type E′.the-laws e)) (is-h : IsTally h) (kept : StandMemories xs ys) where
   abbrev x₀ : Slice
   x₀ = record { ptr = (b₀, o₀); name = γ₀; now = xs }
 
@@ -202,7 +202,7 @@ module _ {M : Type 1} (𝓤 : URA M) (H : Heap 𝓤) (A : Atoms 𝓤) (W : Given
   treat-with-walks : (C : Calls 𝓤 H) (Λ : Loops 𝓤 H) → FmC 𝓤 H (W .laws) C → Triple 𝓤 (C #schedule·tallied·treat-counted) (TreatCounted 𝓤 H A at-mem run) → Walks 𝓤 H A treat-with.ended stayed (WpFn 𝓤 H C Λ code.function) (treat-with.clauses 𝓤 H A at-mem run)
   treat-with-walks C Λ fm known = walked 𝓤 H A treat-with.ended stayed (treat-with.clauses 𝓤 H A at-mem run) (WpFn 𝓤 H C Λ code.function)
       (λ κs. (slice-vals, (slice-vals, (LL.vals E.the-type E′.the-laws, (LL.vals T.the-type T′.the-laws, tt))))) (λ κs. (mut-slice-tells (named 0) (κs .0) u8, (mut-slice-tells (named 1) (κs .1 .0) u8, (LL.tells E.the-type E′.the-laws, (LL.tells T.the-type T′.the-laws, tt)))))
-      (λ κs qs bounds a g are. needs 𝓤 (Kept (a .0 .now) (a .1 .0 .now)) _ (λ kept.
+      (λ κs qs bounds a g are. needs 𝓤 (StandMemories (a .0 .now) (a .1 .0 .now)) _ (λ kept.
       walk 𝓤 H A W at-mem run (κs .0) (κs .1 .0) (qs .0) (qs .1 .0) (a .0 .ptr .0) (a .0 .ptr .1) (a .0 .name) (a .0 .now) (a .1 .0 .ptr .0) (a .1 .0 .ptr .1) (a .1 .0 .name) (a .1 .0 .now) (a .1 .1 .0) (a .1 .1 .1 .0)
       (are .0 .0 .1) (are .1 .0 .0 .1) (are .1 .1 .0) (are .1 .1 .1 .0) kept C Λ fm known))
 

@@ -68,7 +68,7 @@ pub record Entries : Type 0 where
   pub map : ℕ → ℕ
   pub mark : ℕ → ℕ
 
-pub record Memory : Type 0 where
+pub record Contents : Type 0 where
   pub lists : Lists
   pub descriptors : Descriptors
   pub entries : Entries
@@ -113,8 +113,8 @@ slotOf v t = record {
 abbrev pub markOf : View → ℕ → ℕ
 markOf v u = bitAt (v (Layout.Marks (u / 64))) (u % 64)
 
-abbrev pub memoryOf : View → List ℕ → Memory
-memoryOf v area = record {
+abbrev pub contentsOf : View → List ℕ → Contents
+contentsOf v area = record {
   lists = record {
     head = λ ℓ. headOf (v (Layout.Head ℓ));
     descriptorNext = λ d. v (Layout.DescriptorNext d);

@@ -1,9 +1,9 @@
--- `classes::place::index_of` meets its contract: a block has at least one unit, so the division is safe.
+-- `classes::geometry::index_of` meets its contract: a block has at least one unit, so the division is safe.
 use borrow.Author.Needs.{needs}
 use native.Mathlib.Omega.{arith}
 use Rattle.classes.proofs.Tables.{units-low}
-use Rattle.classes.proofs.place.index_of.Statement.{statement}
-use Rattle.classes.proofs.place.index_of.Tie as tie
+use Rattle.classes.proofs.geometry.index_of.Statement.{statement}
+use Rattle.classes.proofs.geometry.index_of.Tie as tie
 
 returns : tie.Need-returns
 returns c = rw (c .units .ensures)

@@ -3,7 +3,7 @@ ghost use mathlib.Core.Path.{_≡_};
 ghost use Prim.Native.Nat.{_+_, _*_, _≤_, _<_};
 ghost use Rattle.limits.specs.Limits.{REGION-BYTES, UNIT-BYTES, REGION-UNITS, REGIONS, CLASSES, MOST-BLOCKS};
 ghost use Rattle.classes.specs.Classes.{units, perRegion};
-ghost use Rattle.classes.specs.Places.{unitOf};
+ghost use Rattle.classes.specs.Geometry.{unitOf};
 
 // How many blocks of the class a region has, n. Callers: the steps, whose request is of the class.
 pub fn blocks(class: usize) -> u16
@@ -20,7 +20,7 @@ pub fn unit(region: usize, class: usize, index: u16) -> u16
     ensures { λ r. ⌜ (r ≡ unitOf region class index)
         × (UNIT-BYTES * r + UNIT-BYTES ≤ REGION-BYTES * region + REGION-BYTES) ⌝ }
 {
-    classes::place::first_unit(region, class, index as usize) as u16
+    classes::geometry::first_unit(region, class, index as usize) as u16
 }
 
 // How many units of its region stand before a block. Caller: the step that carves a region, which has tested the index.

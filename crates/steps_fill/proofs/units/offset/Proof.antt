@@ -4,8 +4,8 @@ use native.Mathlib.Omega.{arith}
 use mathlib.Core.Path.{ap}
 use Prim.Native.Nat.{_*_}
 use Rattle.steps_fill.proofs.Bounds.{unit-inside}
-use Rattle.steps_fill.proofs.place.offset.Statement.{statement}
-use Rattle.steps_fill.proofs.place.offset.Tie as tie
+use Rattle.steps_fill.proofs.units.offset.Statement.{statement}
+use Rattle.steps_fill.proofs.units.offset.Tie as tie
 
 mul-result : tie.Need-mul-result
 mul-result c =

@@ -4,7 +4,7 @@ ghost use mathlib.Core.Path.{_≡_};
 ghost use Prim.Native.Nat.{_<_};
 ghost use Rattle.limits.specs.Limits.{REGIONS, CLASSES};
 ghost use Rattle.classes.specs.Classes.{perRegion};
-ghost use Rattle.classes.specs.Places.{unitOf, regionOf, indexOf, isFirst};
+ghost use Rattle.classes.specs.Geometry.{unitOf, regionOf, indexOf, isFirst};
 
 // The first unit of a block. Callers have a region of the area and an index below n of the class: carving,
 // which counts the index up to n, and the links of a chain, which are tested first.

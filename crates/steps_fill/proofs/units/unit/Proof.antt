@@ -2,8 +2,8 @@
 use borrow.Author.Needs.{needs}
 use native.Mathlib.Omega.{arith}
 use Rattle.steps_fill.proofs.Bounds.{unit-inside}
-use Rattle.steps_fill.proofs.place.unit.Statement.{statement}
-use Rattle.steps_fill.proofs.place.unit.Tie as tie
+use Rattle.steps_fill.proofs.units.unit.Statement.{statement}
+use Rattle.steps_fill.proofs.units.unit.Tie as tie
 
 cast-result : tie.Need-cast-result
 cast-result c =

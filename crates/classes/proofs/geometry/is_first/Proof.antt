@@ -1,10 +1,10 @@
--- `classes::place::is_first` meets its contract: the product does not overflow, and the factor tells a first unit by
+-- `classes::geometry::is_first` meets its contract: the product does not overflow, and the factor tells a first unit by
 -- it.
 use borrow.Author.Needs.{needs}
 use native.Mathlib.Omega.{arith}
 use Rattle.classes.proofs.Factors.{told, small}
-use Rattle.classes.proofs.place.is_first.Statement.{statement}
-use Rattle.classes.proofs.place.is_first.Tie as tie
+use Rattle.classes.proofs.geometry.is_first.Statement.{statement}
+use Rattle.classes.proofs.geometry.is_first.Tie as tie
 
 mul-result : tie.Need-mul-result
 mul-result c = omega (arith, small _ _ (c .before .args .unit) (c .factor .ensures))

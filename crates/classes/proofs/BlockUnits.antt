@@ -1,4 +1,4 @@
--- The laws of the places of blocks.
+-- Where the blocks of a class lie: their first units, indexes and regions.
 use mathlib.Core.Path.{_≡_, refl, sym, ap, _∙_}
 use mathlib.Core.Bool.{true, and-eq-true-iff}
 use Prim.Native.Nat.{ℕ, _+_, _*_, _%_, _≤_, _<_}
@@ -9,7 +9,7 @@ use lib.Dec.{ltb, eqb}
 use borrow.Author.Tests.{eq-eqb, lt-ltb, eqb-true, ltb-true}
 use Rattle.limits.specs.Limits.{UNIT-BYTES, REGION-BYTES, REGION-UNITS, REGIONS, UNITS}
 use Rattle.classes.specs.Classes.{units, block, perRegion}
-use Rattle.classes.specs.Places.{unitOf, regionOf, indexOf, isFirst, Block}
+use Rattle.classes.specs.Geometry.{unitOf, regionOf, indexOf, isFirst, Block}
 use Rattle.classes.proofs.Tables.{units-low, fits}
 
 -- block i of region r is a block

@@ -1,13 +1,13 @@
--- `classes::place::first_unit` meets its contract: the block lies in its region, so no number is too large.
+-- `classes::geometry::first_unit` meets its contract: the block lies in its region, so no number is too large.
 use mathlib.Core.Path.{_≡_}
 use Prim.Native.Nat.{ℕ, _+_, _*_, _<_}
 use borrow.Author.Needs.{needs}
 use native.Mathlib.Omega.{arith}
 use Rattle.limits.specs.Limits.{REGION-UNITS, REGIONS, UNITS}
 use Rattle.classes.specs.Classes.{units, perRegion}
-use Rattle.classes.proofs.Places.{block-at, unit-below}
-use Rattle.classes.proofs.place.first_unit.Statement.{statement}
-use Rattle.classes.proofs.place.first_unit.Tie as tie
+use Rattle.classes.proofs.BlockUnits.{block-at, unit-below}
+use Rattle.classes.proofs.geometry.first_unit.Statement.{statement}
+use Rattle.classes.proofs.geometry.first_unit.Tie as tie
 
 returns : tie.Need-returns
 returns c = rw (c .units .ensures)

@@ -2,8 +2,8 @@
 use borrow.Author.Needs.{needs}
 use native.Mathlib.Omega.{arith}
 use Rattle.classes.proofs.Tables.{perRegion-high}
-use Rattle.steps_fill.proofs.place.blocks.Statement.{statement}
-use Rattle.steps_fill.proofs.place.blocks.Tie as tie
+use Rattle.steps_fill.proofs.units.blocks.Statement.{statement}
+use Rattle.steps_fill.proofs.units.blocks.Tie as tie
 
 cast-result : tie.Need-cast-result
 cast-result c = record { fits = omega (arith, perRegion-high (c .before .args .class)) }
