@@ -18,8 +18,8 @@ ghost use Rattle.stepped.specs.Done.{Given, Done};
 ghost use Rattle.stepped.specs.Lists.{f5};
 ghost use Rattle.stepped.specs.Free.{f3ExchangeOf, f3Won, f3Exchange};
 
-// A group that is due to be returned, by the task's notes: the descriptor of its region, the word of its anchor, the index
-// of the group's first block, and how many blocks it has.
+// A group that is due to be returned, by the task's notes: the descriptor of its region, the word of its anchor, the
+// index of the group's first block, and how many blocks it has.
 struct Due {
     pub descriptor: usize,
     pub word: u64,
@@ -27,46 +27,47 @@ struct Due {
     pub group: u16,
 }
 
-// What every won exchange stores: the anchor, and the state in which it was found. Callers: `won` and `go_on`.
-fn store(control: &mut [u8], task: usize, descriptor: usize, anchor: u64, state: u8)
-    requires { ⌜ Control (now control) × (task < TASKS) × (descriptor < DESCRIPTORS) ⌝ }
-    ensures { λ r. ⌜ now (control .exit) ≡ changed (Anchor descriptor := anchor ∷ TaskState task := state ∷ [])
+// What every won exchange stores: the descriptor's anchor, and the state in which it was found.
+struct Stored {
+    pub descriptor: usize,
+    pub anchor: u64,
+    pub state: u8,
+}
+
+// Stores it. Callers: `won` and `go_on`.
+fn store(control: &mut [u8], task: usize, stored: Stored)
+    requires { ⌜ Control (now control) × (task < TASKS) × (stored .descriptor < DESCRIPTORS) ⌝ }
+    ensures { λ r. ⌜ now (control .exit)
+        ≡ changed (Anchor (stored .descriptor) := stored .anchor ∷ TaskState task := stored .state ∷ [])
         (now (control .entry)) ⌝ }
 {
-    control::regions::set_anchor(control, descriptor, anchor);
-    control::tasks::set_task_state(control, task, state);
+    control::regions::set_anchor(control, stored.descriptor, stored.anchor);
+    control::tasks::set_task_state(control, task, stored.state);
 }
 
 // A won exchange after which the region is not EMPTY goes on by the state before: step 5, else 6. Caller: `won`.
-fn go_on(
-    control: &mut [u8],
-    regions: usize,
-    task: usize,
-    class: usize,
-    descriptor: usize,
-    anchor: u64,
-    state: u8,
-) -> Answer
-    requires { ⌜ Given (now control) regions task class × (descriptor < DESCRIPTORS) ⌝ }
-    ensures { λ r. ⌜ Done (f5 (seen (now (control .entry))) regions task class state (gave descriptor)
-        (Anchor descriptor := anchor ∷ TaskState task := state ∷ []))
+fn go_on(control: &mut [u8], regions: usize, task: usize, class: usize, stored: Stored) -> Answer
+    requires { ⌜ Given (now control) regions task class × (stored .descriptor < DESCRIPTORS) ⌝ }
+    ensures { λ r. ⌜ Done
+        (f5 (seen (now (control .entry))) regions task class (stored .state) (gave (stored .descriptor))
+        (Anchor (stored .descriptor) := stored .anchor ∷ TaskState task := stored .state ∷ []))
         (now (control .entry)) (now (control .exit)) r ⌝ }
 {
-    let next = follow::five(control, task, class, state as u32);
+    let next = follow::five(control, task, class, stored.state as u32);
     match next {
         Follow::One => {
             control::tasks::set_task_place(control, task, places::F1);
-            store(control, task, descriptor, anchor, state);
+            store(control, task, stored);
             Answer::Accepted
         }
         Follow::Two => {
             group::begin(control, task);
-            store(control, task, descriptor, anchor, state);
+            store(control, task, stored);
             Answer::Accepted
         }
         Follow::Offer => {
             control::tasks::set_task_place(control, task, places::PUSH_OFFER);
-            store(control, task, descriptor, anchor, state);
+            store(control, task, stored);
             Answer::Accepted
         }
         Follow::Bad => Answer::Refused(14),
@@ -86,12 +87,17 @@ fn won(control: &mut [u8], regions: usize, task: usize, class: usize, due: Due) 
     let n = classes::table::per_region(class) as u32;
     let state = parts::state_of(due.word);
     let next = parts::returned_word(due.word, due.first, due.group, n);
+    let stored = Stored {
+        descriptor: due.descriptor,
+        anchor: next,
+        state: state,
+    };
     if parts::count_of(due.word) + (due.group as u32) == n {
         control::tasks::set_task_place(control, task, places::F4_CLEAR);
-        store(control, task, due.descriptor, next, state);
+        store(control, task, stored);
         return Answer::Accepted;
     }
-    go_on(control, regions, task, class, due.descriptor, next, state)
+    go_on(control, regions, task, class, stored)
 }
 
 // The exchange: won where the anchor is the noted one, else the anchor is read again. Caller: `exchange`, which has

@@ -10,11 +10,14 @@ use Rattle.steps_return.proofs.exchange.won.Tie as tie
 returns : tie.Need-returns
 returns c =
     λ link.
-    let per-region = c .before .before .before .before .before .before .before .before .before .before .before .before .before
+    let per-region = c .before .before .before .before .before .before .before .before .before .before .before .before
+    .before
     .per-region .ensures in
-    let returned-word = c .before .before .before .before .before .before .before .before .before .before .before .returned-word
+    let returned-word = c .before .before .before .before .before .before .before .before .before .before .before
+    .returned-word
     .ensures in
-    let state-of = c .before .before .before .before .before .before .before .before .before .before .before .before .state-of
+    let state-of = c .before .before .before .before .before .before .before .before .before .before .before .before
+    .state-of
     .ensures in
     done
     (won-empty _ link _ _ _ _ _ _ _ per-region returned-word state-of (omega arith))
