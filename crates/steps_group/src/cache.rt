@@ -23,22 +23,31 @@ pub fn set(control: &mut [u8], task: usize, class: usize, top: u16, count: u16)
     control::caches::set_cache_count(control, task, class, count);
 }
 
-// The block goes on top of a cache of `count` blocks. Caller: `put`, which has found the cache not full.
+// A freed block, at `unit`, and the cache that it goes on: how many blocks that has, and the unit of its top.
+struct Freed {
+    pub unit: u16,
+    pub count: u16,
+    pub top: u16,
+}
+
+// The block goes on top of the cache. Caller: `put`, which has found the cache not full.
 fn put_block(
     control: &mut [u8],
     area: &mut [u8],
     regions: usize,
     task: usize,
     class: usize,
-    unit: u16,
-    count: u16,
-    top: u16,
+    freed: Freed,
 ) -> Answer
-    requires { ⌜ Lent (now control) (now area) regions task class × (count < perRegion class) ⌝ }
+    requires { ⌜ Lent (now control) (now area) regions task class × (freed .count < perRegion class) ⌝ }
     ensures { λ r. ⌜ DoneIn
-        (f1Put (seen (now (control .entry))) (link (now (area .entry))) regions task class unit count top)
+        (f1Put (seen (now (control .entry))) (link (now (area .entry))) regions task class
+        (freed .unit) (freed .count) (freed .top))
         (now (control .entry)) (now (area .entry)) (now (control .exit)) (now (area .exit)) r ⌝ }
 {
+    let unit = freed.unit;
+    let count = freed.count;
+    let top = freed.top;
     if !ranges::is_block(regions, class, unit as usize) {
         return Answer::Refused(14);
     }
@@ -68,5 +77,10 @@ pub fn put(control: &mut [u8], area: &mut [u8], regions: usize, task: usize, cla
     }
     let unit = control::notes::task_unit(control, task);
     let top = control::caches::cache_top(control, task, class);
-    put_block(control, area, regions, task, class, unit, count, top)
+    let freed = Freed {
+        unit: unit,
+        count: count,
+        top: top,
+    };
+    put_block(control, area, regions, task, class, freed)
 }

@@ -46,6 +46,22 @@ fn extend(control: &mut [u8], task: usize, index: u16, count: u16)
     control::notes::set_group_count(control, task, count);
 }
 
+// The top of a cache that is taken into a group, or closes it: how many blocks the cache has, the unit of its top, and
+// how many blocks the group has.
+struct Top {
+    pub count: u16,
+    pub unit: u16,
+    pub group: u16,
+}
+
+// The same, and the region of the group.
+struct TopIn {
+    pub count: u16,
+    pub unit: u16,
+    pub group: u16,
+    pub region: usize,
+}
+
 // The first block of a group: the top of a cache of `count` blocks. Caller: `take_top`, which has found it a block of
 // the area.
 fn take_first(
@@ -54,14 +70,16 @@ fn take_first(
     regions: usize,
     task: usize,
     class: usize,
-    count: u16,
-    unit: u16,
+    top: Top,
 ) -> Answer
-    requires { ⌜ Lent (now control) (now area) regions task class × (1 ≤ count) × (unit < REGION-UNITS * regions) ⌝ }
+    requires { ⌜ Lent (now control) (now area) regions task class × (1 ≤ top .count)
+        × (top .unit < REGION-UNITS * regions) ⌝ }
     ensures { λ r. ⌜ Done
-        (f2First (seen (now (control .entry))) (link (now (area .entry))) regions task class count unit)
+        (f2First (seen (now (control .entry))) (link (now (area .entry))) regions task class (top .count) (top .unit))
         (now (control .entry)) (now (control .exit)) r ⌝ }
 {
+    let count = top.count;
+    let unit = top.unit;
     let below = links::read(area, unit as usize);
     if !ranges::is_top(regions, class, (count - 1) as usize, below as usize) {
         return Answer::Refused(14);
@@ -81,17 +99,19 @@ fn take_more(
     regions: usize,
     task: usize,
     class: usize,
-    count: u16,
-    unit: u16,
-    group: u16,
-    region: usize,
+    top: TopIn,
 ) -> Answer
-    requires { ⌜ Lent (now control) (now area) regions task class × (1 ≤ count) × (unit < REGION-UNITS * regions)
-        × (region < regions) ⌝ }
+    requires { ⌜ Lent (now control) (now area) regions task class × (1 ≤ top .count)
+        × (top .unit < REGION-UNITS * regions) × (top .region < regions) ⌝ }
     ensures { λ r. ⌜ DoneIn
-        (f2More (seen (now (control .entry))) (link (now (area .entry))) regions task class count unit group region)
+        (f2More (seen (now (control .entry))) (link (now (area .entry))) regions task class
+        (top .count) (top .unit) (top .group) (top .region))
         (now (control .entry)) (now (area .entry)) (now (control .exit)) (now (area .exit)) r ⌝ }
 {
+    let count = top.count;
+    let unit = top.unit;
+    let group = top.group;
+    let region = top.region;
     let n = classes::table::per_region(class);
     if n <= (group as usize) {
         return Answer::Refused(14);
@@ -120,20 +140,22 @@ fn take_top(
     regions: usize,
     task: usize,
     class: usize,
-    count: u16,
-    unit: u16,
-    group: u16,
+    top: Top,
 ) -> Answer
-    requires { ⌜ Lent (now control) (now area) regions task class × (1 ≤ count) ⌝ }
+    requires { ⌜ Lent (now control) (now area) regions task class × (1 ≤ top .count) ⌝ }
     ensures { λ r. ⌜ DoneIn
-        (f2Top (seen (now (control .entry))) (link (now (area .entry))) regions task class count unit group)
+        (f2Top (seen (now (control .entry))) (link (now (area .entry))) regions task class
+        (top .count) (top .unit) (top .group))
         (now (control .entry)) (now (area .entry)) (now (control .exit)) (now (area .exit)) r ⌝ }
 {
+    let count = top.count;
+    let unit = top.unit;
+    let group = top.group;
     if !ranges::is_block(regions, class, unit as usize) {
         return Answer::Refused(14);
     }
     if group == 0 {
-        return take_first(control, area, regions, task, class, count, unit);
+        return take_first(control, area, regions, task, class, top);
     }
     let region = control::tasks::task_region(control, task) as usize;
     if regions <= region {
@@ -143,17 +165,13 @@ fn take_top(
         control::tasks::set_task_place(control, task, places::F3_READ);
         return Answer::Accepted;
     }
-    take_more(
-        control,
-        area,
-        regions,
-        task,
-        class,
-        count,
-        unit,
-        group,
-        region,
-    )
+    let more = TopIn {
+        count: count,
+        unit: unit,
+        group: group,
+        region: region,
+    };
+    take_more(control, area, regions, task, class, more)
 }
 
 // Step 2: the cache's top is taken into the group, or the group is closed.
@@ -181,6 +199,10 @@ pub fn take(
         control::tasks::set_task_place(control, task, places::F3_READ);
         return Answer::Accepted;
     }
-    let top = control::caches::cache_top(control, task, class);
-    take_top(control, area, regions, task, class, count, top, group)
+    let top = Top {
+        count: count,
+        unit: control::caches::cache_top(control, task, class),
+        group: group,
+    };
+    take_top(control, area, regions, task, class, top)
 }

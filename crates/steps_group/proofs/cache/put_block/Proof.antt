@@ -20,7 +20,7 @@ returns-2 c =
 write-requires : tie.Need-write-requires
 write-requires c κs =
     let a = c .before .before .before .before .before .before .before .args in
-    let h = block-passed (a .regions) (a .class) (a .unit)
+    let h = block-passed (a .regions) (a .class) (a .freed .unit)
     (passed (c .before .before .before .before .is-block .ensures) (c .before .before .before .if1 .left)) in
     omega arith
 
@@ -47,10 +47,15 @@ pub put-block-spec : {M : Type 1} → statement M
 put-block-spec =
     tie.close
     (tie.spec
+    (λ c. search needs)
     (λ c κs. search needs)
     returns
+    (λ c. search needs)
+    (λ c. search needs)
     (λ c κs. search needs)
     returns-2
+    (λ c. search needs)
+    (λ c. search needs)
     write-requires
     (λ c κs. search needs)
     add-set

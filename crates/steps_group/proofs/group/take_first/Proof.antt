@@ -24,7 +24,7 @@ cast-set c =
     let read-result = c .before .before .before .before .before .before .before .before .before .read .result in
     let is-top = c .before .before .before .before .before .before .before .before .is-top .ensures in
     let passed-by = c .before .before .before .before .before .before .before .if1 .left in
-    let h = top-small (a .regions) (a .class) (a .count - 1) read-result (omega arith) (passed is-top passed-by) in
+    let h = top-small (a .regions) (a .class) (a .top .count - 1) read-result (omega arith) (passed is-top passed-by) in
     omega arith
 
 returns-2 : tie.Need-returns-2
@@ -45,13 +45,16 @@ pub take-first-spec : {M : Type 1} → statement M
 take-first-spec =
     tie.close
     (tie.spec
+    (λ c. search needs)
     (λ c κs. search needs)
     (λ c. search needs)
     (λ c. search needs)
     (λ c. search needs)
     (λ c κs. search needs)
     returns
+    (λ c. search needs)
     (λ c κs. search needs)
+    (λ c. search needs)
     (λ c. search needs)
     (λ c κs. search needs)
     cast-index

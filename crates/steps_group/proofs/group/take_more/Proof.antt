@@ -34,7 +34,8 @@ write-requires c κs =
     let a = c .before .before .before .before .before .before .before .before .before .before .before .before .before
     .before .args in
     let group-last-result = c .before .before .before .before .before .before .before .before .group-last .result in
-    link-inside (a .regions) (a .region) (a .class) group-last-result (c .before .first-unit .ensures) (omega arith)
+    link-inside (a .regions) (a .top .region) (a .class) group-last-result (c .before .first-unit .ensures)
+    (omega arith)
     (omega arith) (search needs)
 
 add-extend : tie.Need-add-extend
@@ -53,7 +54,7 @@ cast-set c =
     .is-top .ensures in
     let passed-by = c .before .before .before .before .before .before .before .before .before .before .before .if3
     .left in
-    let h = top-small (a .regions) (a .class) (a .count - 1) read-result (omega arith) (passed is-top passed-by) in
+    let h = top-small (a .regions) (a .class) (a .top .count - 1) read-result (omega arith) (passed is-top passed-by) in
     omega arith
 
 returns-4 : tie.Need-returns-4
@@ -82,11 +83,13 @@ take-more-spec =
     tie.close
     (tie.spec
     (λ c κs. search needs)
+    (λ c. search needs)
     returns
     (λ c κs. search needs)
     (λ c. search needs)
     (λ c. search needs)
     returns-2
+    (λ c. search needs)
     (λ c κs. search needs)
     (λ c. search needs)
     (λ c. search needs)
@@ -95,6 +98,7 @@ take-more-spec =
     (λ c. search needs)
     (λ c. search needs)
     returns-3
+    (λ c. search needs)
     (λ c κs. search needs)
     cast-index
     (λ c κs. search needs)

@@ -15,7 +15,7 @@ take-first-requires : tie.Need-take-first-requires
 take-first-requires c κs =
     let at-is-block = c .before .before .before .before in
     let h = block-passed (at-is-block .before .before .before .args .regions)
-    (at-is-block .before .before .before .args .class) (at-is-block .before .before .before .args .unit)
+    (at-is-block .before .before .before .args .class) (at-is-block .before .before .before .args .top .unit)
     (passed (at-is-block .is-block .ensures) (c .before .before .before .if1 .left)) in
     search needs
 
@@ -53,6 +53,7 @@ pub take-top-spec : {M : Type 1} → statement M
 take-top-spec =
     tie.close
     (tie.spec
+    (λ c. search needs)
     (λ c κs. search needs)
     returns
     take-first-requires
@@ -63,6 +64,7 @@ take-top-spec =
     (λ c. search needs)
     (λ c. search needs)
     returns-3
+    (λ c. search needs)
     (λ c κs. search needs)
     (λ c κs. search needs)
     (λ c. search needs)
