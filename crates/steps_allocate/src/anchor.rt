@@ -96,23 +96,24 @@ fn count_of(word: u64) -> u16
     anchor.count as u16
 }
 
-// Writes what a won exchange leaves: the anchor's new word `full`, and for the task the region of the chain, the index
-// of its first block and how many it has. Caller: `exchange_of`.
-fn hold_chain(
-    control: &mut [u8],
-    task: usize,
-    descriptor: usize,
-    full: u64,
-    region: u8,
-    first: u16,
-    count: u16,
-) -> Answer
+// A chain that is taken: its region, the index of its first block and how many blocks it has.
+struct Chain {
+    pub region: u8,
+    pub first: u16,
+    pub count: u16,
+}
+
+// Writes what a won exchange leaves: the anchor's new word `full`, and for the task the chain. Caller: `exchange_of`.
+fn hold_chain(control: &mut [u8], task: usize, descriptor: usize, full: u64, chain: Chain) -> Answer
     requires { ⌜ Control (now control) × (task < TASKS) × (descriptor < DESCRIPTORS) ⌝ }
     ensures { λ r. ⌜ Done (accept (took descriptor)
-        (TaskPlace task := A4 ∷ AnchorField descriptor := full ∷ TaskRegion task := region ∷ TaskIndex task := first
-        ∷ TaskLeft task := count ∷ []) [])
+        (TaskPlace task := A4 ∷ AnchorField descriptor := full ∷ TaskRegion task := chain .region
+        ∷ TaskIndex task := chain .first ∷ TaskLeft task := chain .count ∷ []) [])
         (now (control .entry)) (now (control .exit)) r ⌝ }
 {
+    let region = chain.region;
+    let first = chain.first;
+    let count = chain.count;
     tasks::set_task_place(control, task, places::A4);
     regions::set_anchor(control, descriptor, full);
     tasks::set_task_region(control, task, region);
@@ -149,15 +150,12 @@ fn exchange_of(
         return Answer::Refused(14);
     }
     let full = full_word(class);
-    hold_chain(
-        control,
-        task,
-        descriptor,
-        full,
-        region,
-        first_of(word),
-        count_of(word),
-    )
+    let chain = Chain {
+        region: region,
+        first: first_of(word),
+        count: count_of(word),
+    };
+    hold_chain(control, task, descriptor, full, chain)
 }
 
 // The step that exchanges the anchor. Caller: the step of a task at that place.

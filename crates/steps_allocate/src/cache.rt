@@ -46,21 +46,28 @@ fn finish(control: &mut [u8], task: usize, class: usize, unit: u16, left: u16, b
     Answer::Allocated(unit)
 }
 
-// Takes the top, at `unit`, of a cache of `count` blocks. Caller: `take`, which has found the cache not empty.
+// The top of a cache, at `unit`, and how many blocks the cache has.
+struct Top {
+    pub count: u16,
+    pub unit: u16,
+}
+
+// Takes the top of a cache. Caller: `take`, which has found the cache not empty.
 fn take_top(
     control: &mut [u8],
     area: &[u8],
     regions: usize,
     task: usize,
     class: usize,
-    count: u16,
-    unit: u16,
+    top: Top,
 ) -> Answer
-    requires { ⌜ Lent (now control) (now area) regions task class × (1 ≤ count) ⌝ }
+    requires { ⌜ Lent (now control) (now area) regions task class × (1 ≤ top .count) ⌝ }
     ensures { λ r. ⌜ Done
-        (a1Take (seen (now (control .entry))) (link (now (area .entry))) regions task class count unit)
+        (a1Take (seen (now (control .entry))) (link (now (area .entry))) regions task class (top .count) (top .unit))
         (now (control .entry)) (now (control .exit)) r ⌝ }
 {
+    let count = top.count;
+    let unit = top.unit;
     let at = unit as usize;
     if !ranges::is_block(regions, class, at) {
         return Answer::Refused(14);
@@ -88,5 +95,9 @@ pub fn take(control: &mut [u8], area: &[u8], regions: usize, task: usize, class:
         return Answer::Refused(14);
     }
     let unit = caches::cache_top(control, task, class);
-    take_top(control, area, regions, task, class, count, unit)
+    let top = Top {
+        count: count,
+        unit: unit,
+    };
+    take_top(control, area, regions, task, class, top)
 }

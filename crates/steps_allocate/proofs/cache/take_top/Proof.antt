@@ -33,6 +33,7 @@ pub take-top-spec : {M : Type 1} → statement M
 take-top-spec =
     tie.close
     (tie.spec
+    (λ c. search needs)
     (λ c κs. search needs)
     returns
     read-requires
