@@ -19,21 +19,35 @@ ghost use Rattle.stepped.specs.Done.{Lent, DoneIn};
 ghost use Rattle.steps_fill.specs.Chains.{Moving};
 ghost use Rattle.stepped.specs.Allocate.{a4, a4Move};
 
-// Puts the block at `unit` on top of a cache of `count` blocks and goes on with the chain: `left` blocks are left to
-// move, the first of them `next`. Caller: `move_on`.
-fn push_next(
-    control: &mut [u8],
-    task: usize,
-    class: usize,
-    unit: u16,
-    next: u16,
-    left: u16,
-    count: u16,
-)
-    requires { ⌜ Control (now control) × (task < TASKS) × (class < CLASSES) × (count < MOST-BLOCKS) ⌝ }
-    ensures { λ r. ⌜ now (control .exit) ≡ changed (TaskIndex task := next ∷ TaskLeft task := left
-        ∷ CacheTop task class := unit ∷ CacheCount task class := (count + 1) ∷ []) (now (control .entry)) ⌝ }
+// A move to the cache after which the chain goes on: the block, at `unit`; the `left` blocks that are left to move, the
+// first of them `next`; the cache of `count` blocks, its top `top`.
+struct On {
+    pub unit: u16,
+    pub next: u16,
+    pub left: u16,
+    pub count: u16,
+    pub top: u16,
+}
+
+// A move to the cache: the block, at `unit`; the `left` blocks of the chain, with this one, that are still to move; the
+// cache of `count` blocks, its top `top`.
+struct Moved {
+    pub unit: u16,
+    pub left: u16,
+    pub count: u16,
+    pub top: u16,
+}
+
+// Puts the block on top of the cache and goes on with the chain. Caller: `move_on`.
+fn push_next(control: &mut [u8], task: usize, class: usize, on: On)
+    requires { ⌜ Control (now control) × (task < TASKS) × (class < CLASSES) × (on .count < MOST-BLOCKS) ⌝ }
+    ensures { λ r. ⌜ now (control .exit) ≡ changed (TaskIndex task := on .next ∷ TaskLeft task := on .left
+        ∷ CacheTop task class := on .unit ∷ CacheCount task class := (on .count + 1) ∷ []) (now (control .entry)) ⌝ }
 {
+    let unit = on.unit;
+    let next = on.next;
+    let left = on.left;
+    let count = on.count;
     notes::set_task_index(control, task, next);
     notes::set_task_left(control, task, left);
     caches::set_cache_top(control, task, class, unit);
@@ -41,48 +55,41 @@ fn push_next(
 }
 
 // The same, and writes the block's link, the cache's top so far. Caller: `move_block`.
-fn move_on(
-    control: &mut [u8],
-    area: &mut [u8],
-    task: usize,
-    class: usize,
-    unit: u16,
-    next: u16,
-    left: u16,
-    count: u16,
-    top: u16,
-) -> Answer
+fn move_on(control: &mut [u8], area: &mut [u8], task: usize, class: usize, on: On) -> Answer
     requires { ⌜ Control (now control) × (task < TASKS) × (class < CLASSES)
-        × (UNIT-BYTES * unit + UNIT-BYTES ≤ length (now area)) × (count < MOST-BLOCKS) ⌝ }
-    ensures { λ r. ⌜ DoneIn (accept nothing (TaskIndex task := next ∷ TaskLeft task := left
-        ∷ CacheTop task class := unit ∷ CacheCount task class := (count + 1) ∷ []) (unit ⇒ top ∷ []))
+        × (UNIT-BYTES * (on .unit) + UNIT-BYTES ≤ length (now area)) × (on .count < MOST-BLOCKS) ⌝ }
+    ensures { λ r. ⌜ DoneIn (accept nothing (TaskIndex task := on .next ∷ TaskLeft task := on .left
+        ∷ CacheTop task class := on .unit ∷ CacheCount task class := (on .count + 1) ∷ []) (on .unit ⇒ on .top ∷ []))
         (now (control .entry)) (now (area .entry)) (now (control .exit)) (now (area .exit)) r ⌝ }
 {
-    push_next(control, task, class, unit, next, left, count);
+    let unit = on.unit;
+    let top = on.top;
+    push_next(control, task, class, on);
     links::write(area, unit as usize, top as u32);
     Answer::Accepted
 }
 
-// Moves the block at `unit` to the top of a cache of `count` blocks whose top is `top`; `left` blocks of the chain,
-// with this one, were still to move. The block's own link, the next index of the chain, is read before it is
+// Moves the block to the top of the cache. The block's own link, the next index of the chain, is read before it is
 // overwritten. Caller: `move_at`, which has tested these numbers.
 fn move_block(
     control: &mut [u8],
     area: &mut [u8],
     task: usize,
     class: usize,
-    unit: u16,
-    left: u16,
-    count: u16,
-    top: u16,
+    moved: Moved,
 ) -> Answer
     requires { ⌜ Control (now control) × (task < TASKS) × (class < CLASSES)
-        × (UNIT-BYTES * unit + UNIT-BYTES ≤ length (now area)) × (1 ≤ left) × (count < MOST-BLOCKS) ⌝ }
+        × (UNIT-BYTES * (moved .unit) + UNIT-BYTES ≤ length (now area)) × (1 ≤ moved .left)
+        × (moved .count < MOST-BLOCKS) ⌝ }
     ensures { λ r. ⌜ ((regions : ℕ)
-        → DoneIn (a4Move (seen (now (control .entry))) (link (now (area .entry))) regions task class unit left count
-        top)
+        → DoneIn (a4Move (seen (now (control .entry))) (link (now (area .entry))) regions task class
+        (moved .unit) (moved .left) (moved .count) (moved .top))
         (now (control .entry)) (now (area .entry)) (now (control .exit)) (now (area .exit)) r) ⌝ }
 {
+    let unit = moved.unit;
+    let left = moved.left;
+    let count = moved.count;
+    let top = moved.top;
     let at = unit as usize;
     if left == 1 {
         cache::push_last(control, task, class, unit, count);
@@ -93,17 +100,14 @@ fn move_block(
     if units::blocks(class) as u32 <= next {
         return Answer::Refused(14);
     }
-    move_on(
-        control,
-        area,
-        task,
-        class,
-        unit,
-        next as u16,
-        left - 1,
-        count,
-        top,
-    )
+    let on = On {
+        unit: unit,
+        next: next as u16,
+        left: left - 1,
+        count: count,
+        top: top,
+    };
+    move_on(control, area, task, class, on)
 }
 
 // Moves the block at `unit`, by the task's region and index, with `left` blocks still to move. Caller: `step`, which
@@ -131,7 +135,13 @@ fn move_at(
     if !ranges::is_top(regions, class, count as usize, top as usize) {
         return Answer::Refused(14);
     }
-    move_block(control, area, task, class, unit, left, count, top)
+    let moved = Moved {
+        unit: unit,
+        left: left,
+        count: count,
+        top: top,
+    };
+    move_block(control, area, task, class, moved)
 }
 
 // The step. Caller: the step of a task at that place.

@@ -80,28 +80,32 @@ fn push_next(control: &mut [u8], task: usize, class: usize, unit: u16, next: u16
     caches::set_cache_count(control, task, class, count + 1);
 }
 
-// Puts the block `index` of a region, `offset` units from the region's first, on top of a cache of `count` blocks whose
-// top is `top`. Its link is written in the region's own part of the area. Caller: `carve`, which has tested these
-// numbers.
-fn put(
-    control: &mut [u8],
-    area: &mut [u8],
-    task: usize,
-    class: usize,
-    region: usize,
-    offset: usize,
-    index: u16,
-    count: u16,
-    top: u16,
-) -> Answer
-    requires { ⌜ Control (now control) × (task < TASKS) × (class < CLASSES) × (region < REGIONS)
-        × (REGION-BYTES * region + REGION-BYTES ≤ length (now area)) × (offset < REGION-UNITS) × (index < MOST-BLOCKS)
-        × (count < MOST-BLOCKS) ⌝ }
+// A block that is carved: that of number `index` in a region, `offset` units from the region's first; and the cache of
+// `count` blocks, its top `top`, that it goes on.
+struct Carved {
+    pub region: usize,
+    pub offset: usize,
+    pub index: u16,
+    pub count: u16,
+    pub top: u16,
+}
+
+// Puts the block on top of the cache. Its link is written in the region's own part of the area. Caller: `carve`, which
+// has tested these numbers.
+fn put(control: &mut [u8], area: &mut [u8], task: usize, class: usize, carved: Carved) -> Answer
+    requires { ⌜ Control (now control) × (task < TASKS) × (class < CLASSES) × (carved .region < REGIONS)
+        × (REGION-BYTES * (carved .region) + REGION-BYTES ≤ length (now area)) × (carved .offset < REGION-UNITS)
+        × (carved .index < MOST-BLOCKS) × (carved .count < MOST-BLOCKS) ⌝ }
     ensures { λ r. ⌜ ((regions : ℕ)
         → DoneIn (a8Put (seen (now (control .entry))) (link (now (area .entry))) regions task class
-        (REGION-UNITS * region + offset) index count top)
+        (REGION-UNITS * (carved .region) + carved .offset) (carved .index) (carved .count) (carved .top))
         (now (control .entry)) (now (area .entry)) (now (control .exit)) (now (area .exit)) r) ⌝ }
 {
+    let region = carved.region;
+    let offset = carved.offset;
+    let index = carved.index;
+    let count = carved.count;
+    let top = carved.top;
     let unit = (limits::REGION_UNITS * region + offset) as u16;
     let next = index + 1;
     if next == units::blocks(class) {
@@ -144,15 +148,12 @@ pub fn carve(
         return Answer::Refused(14);
     }
     let offset = units::offset(class, index);
-    put(
-        control,
-        area,
-        task,
-        class,
-        region,
-        offset,
-        index,
-        count,
-        top,
-    )
+    let carved = Carved {
+        region: region,
+        offset: offset,
+        index: index,
+        count: count,
+        top: top,
+    };
+    put(control, area, task, class, carved)
 }

@@ -25,7 +25,9 @@ pub move-block-spec : {M : Type 1} → statement M
 move-block-spec =
     tie.close
     (tie.spec
+    (λ c. search needs)
     (λ c κs. search needs)
+    (λ c. search needs)
     (λ c κs. search needs)
     (λ c. search needs)
     (λ c. search needs)
