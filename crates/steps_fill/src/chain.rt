@@ -110,23 +110,29 @@ fn move_block(
     move_on(control, area, task, class, on)
 }
 
-// Moves the block at `unit`, by the task's region and index, with `left` blocks still to move. Caller: `step`, which
-// has read and tested them.
+// The next block of the chain, at `unit`, by the task's region and index, with `left` blocks still to move.
+struct Next {
+    pub unit: u16,
+    pub left: u16,
+}
+
+// Moves it. Caller: `step`, which has read and tested the numbers.
 fn move_at(
     control: &mut [u8],
     area: &mut [u8],
     regions: usize,
     task: usize,
     class: usize,
-    unit: u16,
-    left: u16,
+    next: Next,
 ) -> Answer
     requires { ⌜ Lent (now control) (now area) regions task class
-        × Moving (seen (now control)) regions task class unit left
-        × (UNIT-BYTES * unit + UNIT-BYTES ≤ length (now area)) ⌝ }
+        × Moving (seen (now control)) regions task class (next .unit) (next .left)
+        × (UNIT-BYTES * (next .unit) + UNIT-BYTES ≤ length (now area)) ⌝ }
     ensures { λ r. ⌜ DoneIn (a4 (seen (now (control .entry))) (link (now (area .entry))) regions task class)
         (now (control .entry)) (now (area .entry)) (now (control .exit)) (now (area .exit)) r ⌝ }
 {
+    let unit = next.unit;
+    let left = next.left;
     let count = caches::cache_count(control, task, class);
     if units::blocks(class) <= count {
         return Answer::Refused(14);
@@ -173,5 +179,9 @@ pub fn step(
         return Answer::Refused(14);
     }
     let unit = units::unit(region, class, index);
-    move_at(control, area, regions, task, class, unit, left)
+    let next = Next {
+        unit: unit,
+        left: left,
+    };
+    move_at(control, area, regions, task, class, next)
 }
