@@ -43,6 +43,7 @@ pub mod Pushes
 pub mod Stepping
 pub mod Unstarted
 pub mod OneEvent
+pub mod UnderWays
 pub mod Observing
 pub mod Lent
 pub mod Ways

@@ -89,7 +89,8 @@ module _ (v : View) (fits : Fitting v) (link : ℕ → ℕ) {regions t c : ℕ} 
   chain-max word h =
       let a = anchorOf word in
       let p = both (eqb (a .state) 1 && oneTo n (a .count)) (ltb (a .avail) n) h in
-      let q = both (leb 1 (a .count)) (leb (a .count) n) (right-true (eqb (a .state) 1) (oneTo n (a .count)) (p .0)) in (
+      let q = both (leb 1 (a .count)) (leb (a .count) n)
+      (right-true (eqb (a .state) 1) (oneTo n (a .count)) (p .0)) in (
         omega (arith, perRegion-high c, ltb-true (a .avail) n (p .1)),
         omega
             (arith, perRegion-high c, leb-true (a .count) n (q .1)),

@@ -173,7 +173,8 @@ accepted-start s₁ s b area a t =
       le-leb 1 tasks (t .0),
       le-leb tasks TASKS (t .1),
       if-yes (ℕ-discrete CONTROL-BYTES CONTROL-BYTES)
-          (if (Plain.area? (length area)) (if (Plain.tasks? tasks) (new tasks regions, going nothing) (Plain.refuse 3 s))
+          (if (Plain.area? (length area))
+          (if (Plain.tasks? tasks) (new tasks regions, going nothing) (Plain.refuse 3 s))
           (Plain.refuse 2 s)) (Plain.refuse 1 s) refl,
       if-yes (Plain.area? (length area)) (if (Plain.tasks? tasks) (new tasks regions, going nothing) (Plain.refuse 3 s))
           (Plain.refuse 2 s) a,

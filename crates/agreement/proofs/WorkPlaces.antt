@@ -1,5 +1,4 @@
 -- The place of a task at work, as a number: one of the step list's, and not idle's.
-use mathlib.Core.Path.{_≡_}
 use Prim.Native.Nat.{ℕ, _+_, _≤_, _<_}
 use native.Mathlib.Omega.{arith}
 use Rattle.plain.specs.State.{Phase, Work, Mem}

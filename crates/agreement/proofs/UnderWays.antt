@@ -1,0 +1,115 @@
+-- What a task has under way, read off the memories by its place, is what the plain pool says.
+use mathlib.Core.Path.{_≡_, refl, sym, ap, _∙_}
+use mathlib.Core.List.{List, [], _∷_, _++_}
+use Prim.Native.Nat.{ℕ, _+_, _≤_}
+use native.Mathlib.Omega.{arith}
+use lib.ListN.{length}
+use Rattle.rows.specs.Counting.{count}
+use Rattle.rows.specs.Linked.{Linked, walk}
+use Rattle.rows.proofs.Linked.{linked-walk, linked-append-one}
+use Rattle.classes.specs.Geometry.{unitOf, indexOf}
+use Rattle.classes.proofs.BlockUnits.{unit-again}
+use Rattle.links.specs.Link.{link}
+use Rattle.plain.specs.State.{Phase, Place, Mem, Work, working}
+use Rattle.plain.specs.Held.{underWay, classAt}
+use Rattle.plain.specs.Places.{Together}
+use Rattle.plain.proofs.Blocks.{counts-block}
+use Rattle.plain.proofs.Places.{placeHolds}
+use Rattle.control.specs.Places.{IDLE, A1, A3-READ, A3-EXCHANGE, A4, A7, A8, F1, F2, F3-READ, F3-LINK, F3-EXCHANGE}
+use Rattle.control.specs.Places.{F4-CLEAR}
+use Rattle.agreement.specs.Contents.{Contents}
+use Rattle.agreement.specs.Relation.{PopRelated, PushRelated, GroupRelated, PlaceRelated, r-idle, r-a1, r-partial}
+use Rattle.agreement.specs.Relation.{r-spare, r-region, r-retire, r-back, r-release, r-offer, r-a3-read}
+use Rattle.agreement.specs.Relation.{r-a3-exchange, r-a4, r-a7, r-a8, r-f1, r-f2, r-f2-more, r-f3-read, r-f3-link}
+use Rattle.agreement.specs.Relation.{r-f3-exchange, r-f4-clear, WorkRelated}
+use Rattle.agreement.specs.Relation.{r-working}
+use Rattle.agreement.specs.Observe.{underWays, blocksAt}
+use Rattle.agreement.proofs.Couple.{Pair}
+use Rattle.agreement.proofs.Groups.{of-region}
+
+-- the block that is freed, and a group behind it
+freed-with : {u : ℕ} {q r : List ℕ} → q ≡ r → u ∷ q ≡ u ∷ r
+freed-with {u} e = ap (λ (z : List ℕ). u ∷ z) e
+
+module _ {regions : ℕ} {a : Contents} {m : Mem} {t : ℕ} {k : ℕ → List ℕ} where
+  group-is : {p : Place} {y : ℕ} {g : List ℕ} (w : Pair regions a m t p k) (G : GroupRelated a (a .slot t) y g)
+      → ((v : ℕ) → count v (y ∷ g) ≤ count v (underWay p)) → classAt p ≡ a .slot t .class → Together y g
+      → walk (link (a .area)) (unitOf (a .slot t .hand .region) (a .slot t .class)) (a .slot t .group .first)
+      (a .slot t .group .count) ≡ y ∷ g
+  group-is {y = y} {g = g} w G sub cl tog =
+      let s = a .slot t in
+      let c = s .class in
+      let l : Linked (link (a .area)) (indexOf c) (link (a .area) (G .last)) (s .group .first)
+      (G .front ++ (G .last ∷ [])) = linked-append-one (G .linked) refl in
+      let n : s .group .count ≡ length (G .front ++ (G .last ∷ [])) = G .counts ∙ ap length (G .is) in
+      ap (walk (link (a .area)) (unitOf (s .hand .region) c) (s .group .first)) n
+      ∙ linked-walk (unitOf (s .hand .region) c) l
+      (λ v h. unit-again (of-region w G sub cl tog v (omega (arith, ap (count v) (G .is)))))
+      ∙ sym (G .is)
+
+  -- at the place n the table of what is under way has q
+  at-place : {p : Place} (w : Pair regions a m t p k) (n : ℕ) (q : List ℕ) → a .slot t .place ≡ n
+      → blocksAt (underWays (a .slot t) a) n ≡ q
+      → blocksAt (underWays (a .slot t) a) (a .slot t .place) ≡ q
+  at-place w n q e h = ap (λ (z : ℕ). blocksAt (underWays (a .slot t) a) z) e ∙ h
+
+  -- so it is at the three places of a list move
+  in-pop : {p : Place} {b ℓ items : ℕ} {φ : Phase} (w : Pair regions a m t p k)
+      → (blocksAt (underWays (a .slot t) a) b ≡ []) × (blocksAt (underWays (a .slot t) a) (b + 1) ≡ [])
+      × (blocksAt (underWays (a .slot t) a) (b + 2) ≡ [])
+      → PopRelated m (a .slot t) b ℓ items φ → blocksAt (underWays (a .slot t) a) (a .slot t .place) ≡ []
+  in-pop {b = b} w h (PopRelated.at-read e) = at-place w b [] e (h .0)
+  in-pop {b = b} w h (PopRelated.at-next e N i l) = at-place w (b + 1) [] e (h .1)
+  in-pop {b = b} w h (PopRelated.at-exchange e N i l x f) = at-place w (b + 2) [] e (h .2)
+
+  in-push : {p : Place} {b ℓ items z : ℕ} {nx : ℕ → ℕ} {φ : Phase} (w : Pair regions a m t p k) (q : List ℕ)
+      → (blocksAt (underWays (a .slot t) a) b ≡ q) × (blocksAt (underWays (a .slot t) a) (b + 1) ≡ q)
+      × (blocksAt (underWays (a .slot t) a) (b + 2) ≡ q)
+      → PushRelated m (a .slot t) b ℓ items z nx φ → blocksAt (underWays (a .slot t) a) (a .slot t .place) ≡ q
+  in-push {b = b} w q h (PushRelated.at-read e) = at-place w b q e (h .0)
+  in-push {b = b} w q h (PushRelated.at-next e N l) = at-place w (b + 1) q e (h .1)
+  in-push {b = b} w q h (PushRelated.at-exchange e N l f) = at-place w (b + 2) q e (h .2)
+
+  at-work : {p : Work} (w : Pair regions a m t (working p) k) → WorkRelated regions a m (a .slot t) p
+      → blocksAt (underWays (a .slot t) a) (a .slot t .place) ≡ underWay (working p)
+  at-work w (r-a1 e) = at-place w A1 [] e refl
+  at-work w (r-partial h) = in-pop w (refl, refl, refl) h
+  at-work w (r-spare h) = in-pop w (refl, refl, refl) h
+  at-work w (r-region h) = in-pop w (refl, refl, refl) h
+  at-work w (r-retire h) = in-push w [] (refl, refl, refl) h
+  at-work w (r-back h) = in-push w [] (refl, refl, refl) h
+  at-work w (r-release i h) = in-push w (a .slot t .unit ∷ []) (refl, refl, refl) h
+  at-work w (r-offer h) = in-push w (a .slot t .unit ∷ []) (refl, refl, refl) h
+  at-work w (r-a3-read e) = at-place w A3-READ [] e refl
+  at-work w (r-a3-exchange e N i j l o) = at-place w A3-EXCHANGE [] e refl
+  at-work w (r-a4 {x = x} {q = q} e l n f) =
+      let s = a .slot t in
+      at-place w A4 (x ∷ q) e
+      (ap (walk (link (a .area)) (unitOf (s .hand .region) (s .class)) (s .hand .index)) n
+      ∙ linked-walk (unitOf (s .hand .region) (s .class)) l
+      (λ v h. unit-again (counts-block (s .hand .region) (s .class) v (omega (arith, f v)))))
+  at-work w (r-a7 e) = at-place w A7 [] e refl
+  at-work w (r-a8 e) = at-place w A8 _ e refl
+  at-work w (r-f1 e) = at-place w F1 (a .slot t .unit ∷ []) e refl
+  at-work w (r-f2 e z) =
+      let s = a .slot t in
+      at-place w F2 (s .unit ∷ []) e
+      (freed-with (ap (walk (link (a .area)) (unitOf (s .hand .region) (s .class)) (s .group .first)) z))
+  at-work w (r-f2-more {y = y} {g = g} e G) =
+      at-place w F2 (a .slot t .unit ∷ y ∷ g) e
+      (freed-with (group-is w G (λ v. omega arith) refl (placeHolds (w .turn) .3)))
+  at-work w (r-f3-read {y = y} {g = g} e G) =
+      at-place w F3-READ (a .slot t .unit ∷ y ∷ g) e
+      (freed-with (group-is w G (λ v. omega arith) refl (placeHolds (w .turn) .2)))
+  at-work w (r-f3-link {y = y} {g = g} e G N l) =
+      at-place w F3-LINK (a .slot t .unit ∷ y ∷ g) e
+      (freed-with (group-is w G (λ v. omega arith) refl (placeHolds (w .turn) .2)))
+  at-work w (r-f3-exchange {y = y} {g = g} e G N l f) =
+      at-place w F3-EXCHANGE (a .slot t .unit ∷ y ∷ g) e
+      (freed-with (group-is w G (λ v. omega arith) refl (placeHolds (w .turn) .2)))
+  at-work w (r-f4-clear e f) = at-place w F4-CLEAR (a .slot t .unit ∷ []) e refl
+
+  pub under-way : {p : Place} (w : Pair regions a m t p k) → PlaceRelated regions a m (a .slot t) p
+      → blocksAt (underWays (a .slot t) a) (a .slot t .place) ≡ underWay p
+  under-way w (r-idle e) = at-place w IDLE [] e refl
+  under-way w (r-working W) = at-work w W
