@@ -1,4 +1,4 @@
--- From the tests, and what follows them, to what an exported call ensures. Assumes nothing.
+-- From the tests, and what follows them, to what an exported call ensures.
 use mathlib.Core.Path.{_≡_, refl, sym, ap, subst, _∙_}
 use mathlib.Core.Logic.{_≢_}
 use mathlib.Core.Bool.{Bool, cond}
@@ -9,16 +9,17 @@ use borrow.Author.Tests.{eq-eqb, ne-eqb}
 use lib.ListN.{length}
 use Rattle.fields.specs.Columns.{View}
 use Rattle.links.specs.Link.{link}
+use Rattle.plain.specs.Calls.{allocate, free, step}
 use Rattle.control.specs.Layout.{Regions, seen}
 use Rattle.control.specs.Answers.{numberOf}
 use Rattle.control.specs.declared.answer.Answer.{Answer}
 use Rattle.stepped.specs.Outcome.{Outcome, refuse, effect}
-use Rattle.stepped.specs.Steps.{step}
-use Rattle.stepped.specs.Calls.{tested, whenIdle, beginAllocate, beginFree, allocateOutcome, freeOutcome, stepOutcome, allocate, free, go}
+use Rattle.stepped.specs.Steps as Steps
+use Rattle.stepped.specs.Calls.{tested, whenIdle, beginAllocate, beginFree, allocateOutcome, freeOutcome, stepOutcome}
 use Rattle.stepped.specs.Done.{Done, NumberIn}
 use Rattle.stepped.proofs.Doing.{lends, numbers}
 use Rattle.begins.specs.Tests.{TestsAre}
-use Rattle.pool.specs.Call.{CallIs}
+use Rattle.pool.specs.Call.{CallIs, Ensures}
 
 -- a call that the number r refuses
 pub refused-is : {o : Outcome} (c a : List ℕ) {r : ℕ} → o ≡ refuse r → CallIs (effect o c a) c a r
@@ -37,35 +38,35 @@ module _ (c a : List ℕ) (t r : ℕ) (T : TestsAre (length c) (length a) (seen 
   passes : r ≡ 0 → (x : Outcome) → tested (length c) (length a) (seen c) t x ≡ x
   passes h x = T .is x ∙ ap (λ (b : Bool). cond b x (refuse r)) (eq-eqb r 0 h)
 
-  pub allocate-refused : (size : ℕ) → r ≢ 0 → CallIs (allocate c a t size) c a r
-  unfolding allocate allocateOutcome
+  pub allocate-refused : (size : ℕ) → r ≢ 0 → Ensures (allocate t size) c a c a r
+  unfolding allocateOutcome
   allocate-refused size h = refused-is c a (refuses h _)
 
   pub allocate-does : (size : ℕ) → r ≡ 0 → {c′ : List ℕ} {s : Answer} {n : ℕ}
-      → Done (whenIdle (seen c) t (beginAllocate t size)) c c′ s → n ≡ numberOf s → CallIs (allocate c a t size) c′ a n
-  unfolding allocate allocateOutcome
+      → Done (whenIdle (seen c) t (beginAllocate t size)) c c′ s → n ≡ numberOf s → Ensures (allocate t size) c a c′ a n
+  unfolding allocateOutcome
   allocate-does size h d n = does-is (passes h _) (numbers (lends d) n)
 
-  pub free-refused : (u : ℕ) → r ≢ 0 → CallIs (free c a t u) c a r
-  unfolding free freeOutcome
+  pub free-refused : (u : ℕ) → r ≢ 0 → Ensures (free t u) c a c a r
+  unfolding freeOutcome
   free-refused u h = refused-is c a (refuses h _)
 
   pub free-does : (u regions : ℕ) → r ≡ 0 → regions ≡ seen c Regions → {c′ : List ℕ} {s : Answer} {n : ℕ}
-      → Done (whenIdle (seen c) t (beginFree (seen c) regions t u)) c c′ s → n ≡ numberOf s → CallIs (free c a t u) c′ a n
-  unfolding free freeOutcome
+      → Done (whenIdle (seen c) t (beginFree (seen c) regions t u)) c c′ s → n ≡ numberOf s → Ensures (free t u) c a c′ a n
+  unfolding freeOutcome
   free-does u regions h e {c′} {s} d n =
       does-is (passes h _)
       (numbers (lends (subst (λ (k : ℕ). Done (whenIdle (seen c) t (beginFree (seen c) k t u)) c c′ s) e d)) n)
 
-  pub step-refused : r ≢ 0 → CallIs (go c a t) c a r
-  unfolding go stepOutcome
+  pub step-refused : r ≢ 0 → Ensures (step t) c a c a r
+  unfolding stepOutcome
   step-refused h = refused-is c a (refuses h _)
 
   pub step-does : (regions : ℕ) → r ≡ 0 → regions ≡ seen c Regions → {c′ a′ : List ℕ} {n : ℕ}
-      → NumberIn (step (seen c) (link a) regions t) c a c′ a′ n → CallIs (go c a t) c′ a′ n
-  unfolding go stepOutcome
+      → NumberIn (Steps.step (seen c) (link a) regions t) c a c′ a′ n → Ensures (step t) c a c′ a′ n
+  unfolding stepOutcome
   step-does regions h e {c′} {a′} {n} d =
-      does-is (passes h _) (subst (λ (k : ℕ). NumberIn (step (seen c) (link a) k t) c a c′ a′ n) e d)
+      does-is (passes h _) (subst (λ (k : ℕ). NumberIn (Steps.step (seen c) (link a) k t) c a c′ a′ n) e d)
 
 -- what the tests tell
 module _ (control area : ℕ) (v : View) (t r : ℕ) (T : TestsAre control area v t r) (h : r ≡ 0) where

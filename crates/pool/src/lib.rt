@@ -6,12 +6,13 @@ use begins::tests;
 use control::answer;
 use control::started;
 use steps::step;
-ghost use Rattle.pool.specs.Call.{Ensures, start, allocate as allocated, free as freed, step as stepped};
+ghost use Rattle.plain.specs.Calls.{start, allocate as allocated, free as freed, step as stepped};
+ghost use Rattle.pool.specs.Call.{Ensures};
 
 // Begins a new run with so many tasks, on any bytes: it fills the control memory, and leaves the area as it is.
 #[no_mangle]
 pub extern "C" fn pool_start(control: &mut [u8], area: &[u8], tasks: u64) -> u64
-    ensures { λ r. ⌜ Ensures (start tasks) (now (control .entry)) (now (area .entry)) (now (control .exit)) (now (area .entry)) r ⌝ }
+    ensures { λ r. ⌜ Ensures (start (record { tasks = tasks })) (now (control .entry)) (now (area .entry)) (now (control .exit)) (now (area .entry)) r ⌝ }
 {
     if control.len() != 8192 {
         return 1;
