@@ -16,7 +16,7 @@ ghost use Rattle.words.specs.Mark.{withSet};
 ghost use Rattle.plain.specs.Moves.{nothing};
 ghost use Rattle.control.specs.Layout.{Control, seen, Marks, CacheTop, CacheCount, TaskPlace};
 ghost use Rattle.control.specs.Places.{IDLE};
-ghost use Rattle.stepped.specs.Outcome.{close};
+ghost use Rattle.stepped.specs.Outcome.{over};
 ghost use Rattle.stepped.specs.Done.{Lent, Done};
 ghost use Rattle.stepped.specs.Allocate.{a1, a1Take};
 
@@ -32,7 +32,7 @@ fn marked(control: &[u8], unit: usize) -> u64
 // `below`. Caller: `take_top`, which has tested the units.
 fn finish(control: &mut [u8], task: usize, class: usize, unit: u16, left: u16, below: u16) -> Answer
     requires { ⌜ Control (now control) × (task < TASKS) × (class < CLASSES) × (unit < UNITS) ⌝ }
-    ensures { λ r. ⌜ Done (close (Answer.Allocated unit) nothing
+    ensures { λ r. ⌜ Done (over (Answer.Allocated unit) nothing
         (TaskPlace task := IDLE ∷ CacheTop task class := below ∷ CacheCount task class := left
         ∷ Marks (unit / 64) := withSet (seen (now (control .entry)) (Marks (unit / 64))) (unit % 64) ∷ []) [])
         (now (control .entry)) (now (control .exit)) r ⌝ }
