@@ -17,20 +17,19 @@ returns c =
 returns-2 : tie.Need-returns-2
 returns-2 c =
     λ link.
-    let anchor = c .before .before .before .before .before .before .before .before .anchor .ensures in
+    let anchor = c .before .before .before .before .before .before .before .anchor .ensures in
     done (anchor-changed _ link _ _ _ _ _ _ _ (passed-at isAnchor anchor
-    (c .before .before .before .before .before .before .before .is-anchor .ensures)
-    (c .before .before .before .before .before .before .if1 .left)) (omega arith)) refl
+    (c .before .before .before .before .before .before .is-anchor .ensures)
+    (c .before .before .before .before .before .if1 .left)) (omega arith)) refl
     (c .before .before .set-task-place .ensures) refl
 
 returns-3 : tie.Need-returns-3
 returns-3 c =
     λ link.
-    let anchor = c .before .before .before .before .before .before .before .before .anchor .ensures in
+    let anchor = c .before .before .before .before .before .before .before .anchor .ensures in
     does (anchor-noted _ link _ _ _ _ _ _ _ (passed-at isAnchor anchor
-    (c .before .before .before .before .before .before .before .is-anchor .ensures)
-    (c .before .before .before .before .before .before .if1 .left)) (omega arith))
-    (c .before .before .won .ensures link)
+    (c .before .before .before .before .before .before .is-anchor .ensures)
+    (c .before .before .before .before .before .if1 .left)) (omega arith)) (c .before .before .won .ensures link)
 
 pub exchange-of-spec : {M : Type 1} → statement M
 exchange-of-spec =
