@@ -1,27 +1,30 @@
 -- What an act leaves and answers is what the stepped run has at the event. Assumes nothing.
 use mathlib.Core.Path.{_≡_, refl, sym, ap, subst, _∙_}
-use mathlib.Core.Logic.{_≢_, _⊎_, inl, inr, ⊎-elim}
-use mathlib.Core.Bool.{Bool, true, false, cond, false≢true}
+use mathlib.Core.Logic.{_≢_, inl, inr, ⊎-elim}
+use mathlib.Core.Bool.{Bool, cond, false≢true}
 use mathlib.Core.List.{List}
 use Prim.Native.Nat.{ℕ, _<_}
 use native.Mathlib.Omega.{arith}
 use borrow.Author.Tests.{eq-eqb, ne-eqb, le-leb}
 use lib.ListN.{length}
 use Rattle.fields.specs.Columns.{View}
+use Rattle.plain.specs.Calls.{Call, Start, start, allocate, free, step}
 use Rattle.control.specs.Layout.{Tasks, seen}
 use Rattle.control.specs.Answers.{codeOf, numberOf}
 use Rattle.control.specs.declared.answer.Answer.{Answer}
-use Rattle.control.specs.declared.answer.Answer.the-variants.{Accepted, Allocated, Freed, NoDescriptor, NoRegion, Refused}
-use Rattle.stepped.specs.Outcome.{Outcome, refuse, Effect, effect}
+use Rattle.control.specs.declared.answer.Answer.the-variants.{Accepted, Allocated, Freed, NoDescriptor, NoRegion}
+use Rattle.control.specs.declared.answer.Answer.the-variants.{Refused}
+use Rattle.stepped.specs.Outcome.{Outcome, refuse, Effect, effect, Memories}
+use Rattle.stepped.specs.Calls.{effectOf}
 use Rattle.stepped.specs.Calls as Calls
 use Rattle.agreement.specs.Ends.{Begins, startRefusals, oneOf}
-use Rattle.stepped.specs.Outcome.{Memories}
 use Rattle.agreement.specs.Events.{ran, stepped}
 use Rattle.agreement.proofs.Ways.{tests}
 use Rattle.agreement.proofs.Ends.{start-ends}
-use Rattle.agreement.proofs.Lent.{allocate-is, free-is, go-is, other-control, other-area, start-elsewhere}
-use Rattle.pool.specs.Call.{Call, start, allocate, free, step, effectOf, CallIs}
-use Rattle.demands.specs.Runs.{Act, own, other, write, Contract, OtherLength, Happens, after, eventOf, event, Number, Answered}
+use Rattle.agreement.proofs.Lent.{other-control, other-area, start-elsewhere}
+use Rattle.pool.specs.Call.{CallIs}
+use Rattle.demands.specs.Runs.{Act, own, other, write, Contract, OtherLength, Happens, after, event, Number}
+use Rattle.demands.specs.Runs.{Answered}
 use Rattle.demands.proofs.Numbers.{code-small, told-as}
 
 -- the stepped run at the event of an act: the memories and the number are the act's
@@ -31,22 +34,15 @@ pub record Shows (a : Act) (s : Memories) : Type 0 where
 
 -- ---- calls on the pool's memories
 
-call-is : (k : Call) (s : Memories) → stepped (eventOf k s) s ≡ ran (effectOf k (s .control) (s .area))
-call-is (start tasks) s = refl
-call-is (allocate t size) s = allocate-is s t size
-call-is (free t u) s = free-is s t u
-call-is (step t) s = go-is s t
-
 left-is : {e : Effect} {left : Memories} {r : ℕ} → CallIs e (left .control) (left .area) r → ran e .0 ≡ left
 left-is C = sym (λ i. record { control = C .control-is i; area = C .area-is i })
 
 own-shows : (k : Call) (left : Memories) (r : ℕ) (s : Memories) → Contract k s left r → Shows (own k left r) s
 own-shows k left r s C = record {
-  leaves = ap (λ x. x .0) (call-is k s) ∙ left-is C;
+  leaves = left-is C;
   answers =
-      let e = effectOf k (s .control) (s .area) in
-      subst (λ x. Number r (x .1)) (sym (call-is k s))
-      (told-as (e .answer) (e .answer) (e .decided) (C .number) refl (code-small k (s .control) (s .area)));
+      let e = effectOf k s in
+      told-as (e .answer) (e .answer) (e .decided) (C .number) refl (code-small k s);
 }
 
 -- ---- calls on other memories
@@ -87,47 +83,47 @@ module _ (s lent left : Memories) (r : ℕ) where
   )
 
   allocate-shows : (t size : ℕ) → Contract (allocate t size) lent left r → OtherLength s lent → Shows (other (allocate t size) lent left r) s
-  unfolding Calls.allocateOutcome Calls.allocate
+  unfolding Calls.allocateOutcome
   allocate-shows t size C h =
       let R = refused-alike s lent t _ _ h in
-      let B = both-refused (R .1 .0) (R .1 .1) (C .number) (code-small (allocate t size) (lent .control) (lent .area)) in
+      let B = both-refused (R .1 .0) (R .1 .1) (C .number) (code-small (allocate t size) lent) in
       record { leaves = B .0; answers = B .1 }
 
   free-shows : (t u : ℕ) → Contract (free t u) lent left r → OtherLength s lent → Shows (other (free t u) lent left r) s
-  unfolding Calls.freeOutcome Calls.free
+  unfolding Calls.freeOutcome
   free-shows t u C h =
       let R = refused-alike s lent t _ _ h in
-      let B = both-refused (R .1 .0) (R .1 .1) (C .number) (code-small (free t u) (lent .control) (lent .area)) in
+      let B = both-refused (R .1 .0) (R .1 .1) (C .number) (code-small (free t u) lent) in
       record { leaves = B .0; answers = B .1 }
 
   step-shows : (t : ℕ) → Contract (step t) lent left r → OtherLength s lent → Shows (other (step t) lent left r) s
-  unfolding Calls.stepOutcome Calls.go
+  unfolding Calls.stepOutcome
   step-shows t C h =
       let R = refused-alike s lent t _ _ h in
-      let B = both-refused (R .1 .0) (R .1 .1) (C .number) (code-small (step t) (lent .control) (lent .area)) in
+      let B = both-refused (R .1 .0) (R .1 .1) (C .number) (code-small (step t) lent) in
       record { leaves = B .0; answers = B .1 }
 
-  module _ (tasks : ℕ) (C : Contract (start tasks) lent left r) where
+  module _ (b : Start) (C : Contract (start b) lent left r) where
     -- the start by the event, and by the contract
     abbrev e : Effect
-    e = Calls.startIn (length (lent .control)) (lent .area) tasks (s .control) (s .area)
+    e = Calls.startIn (length (lent .control)) (lent .area) (b .tasks) (s .control) (s .area)
 
     abbrev e′ : Effect
-    e′ = Calls.startIn (length (lent .control)) (lent .area) tasks (lent .control) (lent .area)
+    e′ = Calls.startIn (length (lent .control)) (lent .area) (b .tasks) (lent .control) (lent .area)
 
     abbrev StartShown : Type 0
-    StartShown = Shows (other (start tasks) lent left r) s
+    StartShown = Shows (other (start b) lent left r) s
 
     -- a refused start leaves the pool's memories
     refused-shows : (n : ℕ) → e .answer ≡ Refused n → e′ .answer ≡ Refused n → StartShown
     refused-shows n p q =
-        let L = start-ends (length (lent .control)) (lent .area) tasks (s .control) (s .area) .leaves n p in
-        let z : n ≢ 0 = λ h. false≢true (ap (oneOf startRefusals) (sym h) ∙ subst (Begins startRefusals) q (start-ends (length (lent .control)) (lent .area) tasks (lent .control) (lent .area) .answers)) in
+        let L = start-ends (length (lent .control)) (lent .area) (b .tasks) (s .control) (s .area) .leaves n p in
+        let z : n ≢ 0 = λ h. false≢true (ap (oneOf startRefusals) (sym h) ∙ subst (Begins startRefusals) q (start-ends (length (lent .control)) (lent .area) (b .tasks) (lent .control) (lent .area) .answers)) in
         record {
           leaves =
               (λ i. record { control = L .0 i; area = L .1 i })
               ∙ sym (ap (λ (b : Bool). cond b left s) (ne-eqb r 0 (λ h. z (sym (C .number ∙ ap numberOf q) ∙ h))));
-          answers = told-as (e .answer) (e′ .answer) (e .decided) (C .number) (q ∙ sym p) (code-small (start tasks) (lent .control) (lent .area));
+          answers = told-as (e .answer) (e′ .answer) (e .decided) (C .number) (q ∙ sym p) (code-small (start b) lent);
         }
 
     -- an accepted start takes the memories that it is lent
@@ -137,7 +133,7 @@ module _ (s lent left : Memories) (r : ℕ) where
           ap (λ (z : Effect). ran z .0) p
           ∙ left-is C
           ∙ sym (ap (λ (b : Bool). cond b left s) (eq-eqb r 0 (C .number ∙ ap numberOf q)));
-      answers = told-as (e .answer) (e′ .answer) (e .decided) (C .number) (ap (λ (z : Effect). z .answer) (sym p)) (code-small (start tasks) (lent .control) (lent .area));
+      answers = told-as (e .answer) (e′ .answer) (e .decided) (C .number) (ap (λ (z : Effect). z .answer) (sym p)) (code-small (start b) lent);
     }
 
     equal-shows : e ≡ e′ → (a : Answer) → e′ .answer ≡ a → Begins startRefusals a → StartShown
@@ -151,14 +147,14 @@ module _ (s lent left : Memories) (r : ℕ) where
     start-shows : StartShown
     start-shows =
         ⊎-elim
-        (λ p. equal-shows p (e′ .answer) refl (start-ends (length (lent .control)) (lent .area) tasks (lent .control) (lent .area) .answers))
+        (λ p. equal-shows p (e′ .answer) refl (start-ends (length (lent .control)) (lent .area) (b .tasks) (lent .control) (lent .area) .answers))
         (λ q. refused-shows (q .0) (ap (λ (z : Effect). z .answer) (q .1 .0)) (ap (λ (z : Effect). z .answer) (q .1 .1)))
-        (start-elsewhere (lent .area) tasks (length (lent .control)) (s .control) (s .area) (lent .control) (lent .area))
+        (start-elsewhere (lent .area) (b .tasks) (length (lent .control)) (s .control) (s .area) (lent .control) (lent .area))
 
 -- ---- every act
 
 other-shows : (k : Call) (lent left : Memories) (r : ℕ) (s : Memories) → Happens (other k lent left r) s → Shows (other k lent left r) s
-other-shows (start tasks) lent left r s h = start-shows s lent left r tasks (h .0)
+other-shows (start b) lent left r s h = start-shows s lent left r b (h .0)
 other-shows (allocate t size) lent left r s h = allocate-shows s lent left r t size (h .0) (h .1)
 other-shows (free t u) lent left r s h = free-shows s lent left r t u (h .0) (h .1)
 other-shows (step t) lent left r s h = step-shows s lent left r t (h .0) (h .1)

@@ -10,35 +10,37 @@ use Prim.Native.Nat.{ℕ, _%_, _<_}
 use borrow.Author.Tests.{eq-eqb, le-leb, ltb-true}
 use lib.Dec.{ltb, eqb}
 use lib.ListN.{length}
+use Rattle.limits.specs.Limits.{CONTROL-BYTES}
 use Rattle.fields.specs.Columns.{View}
 use Rattle.fields.specs.Little.{Bytes}
 use Rattle.links.specs.Link.{link, linked}
 use Rattle.classes.specs.Sizes.{classOf}
-use Rattle.plain.specs.Calls.{Pool, unstarted}
+use Rattle.plain.specs.Calls.{Pool, Call, Start, start, allocate, free, step, unstarted}
 use Rattle.plain.specs.Calls as Plain
 use Rattle.control.specs.Layout.{seen, changed, TaskPlace, TaskClass, Regions}
 use Rattle.control.specs.Answers.{numberOf}
 use Rattle.control.specs.declared.moves.Pop.the-variants.{Spare, Region}
 use Rattle.control.specs.declared.moves.Push.the-variants.{Back}
 use Rattle.stepped.specs.Steps.{stepAt}
-use Rattle.stepped.specs.Outcome.{Outcome}
+use Rattle.stepped.specs.Outcome.{Outcome, Memories}
 use Rattle.stepped.specs.Calls as Calls
-use Rattle.stepped.specs.Calls.{Tested}
-use Rattle.agreement.specs.Ends.{Leaves, oneOf, Goes, FindsEmpty, WinsPush, InPush, placeAfter, allocateRefusals, placeRefusals, stepRefusals}
-use Rattle.stepped.specs.Outcome.{Memories}
-use Rattle.agreement.specs.Events.{stepped, whole, Premises}
+use Rattle.stepped.specs.Calls.{Tested, lending, effectOf}
+use Rattle.agreement.specs.Ends.{oneOf, Goes, FindsEmpty, WinsPush, InPush, placeAfter, allocateRefusals, placeRefusals}
+use Rattle.agreement.specs.Ends.{stepRefusals}
+use Rattle.agreement.specs.Events.{stepped, whole, Premises, Unstarted}
 use Rattle.agreement.specs.Events as Events
-use Rattle.agreement.specs.Events.{Unstarted}
 use Rattle.agreement.specs.Agreement.{Agrees, Unchanged, Untouched, AgreesAt}
 use Rattle.agreement.proofs.Ways.{only, tests, branch}
-use Rattle.agreement.proofs.Ends.{start-ends, allocate-ends, step-ends, allocate-leaves, free-leaves, go-leaves, smallest-class, place-goes, no-descriptor, no-region, put-back}
+use Rattle.agreement.proofs.Ends.{allocate-ends, step-ends, effect-leaves, smallest-class, place-goes, no-descriptor}
+use Rattle.agreement.proofs.Ends.{no-region, put-back}
 use Rattle.agreement.proofs.SoundCalls.{step-place, step-others, allocate-others, free-others}
 use Rattle.agreement.specs.Reached.{happened, Reached, from-unstarted, from-start}
 use Rattle.agreement.proofs.Theorem.{reached-agrees, agreement-from-start}
-use Rattle.pool.specs.Call.{Call, start, allocate, free, step, effectOf}
 use Rattle.demands.specs.Answers.{Refusal, Ended, OfAnother, Begun}
-use Rattle.demands.specs.Tests.{firstFailed, Passes, startTests, callTests, requestTests, allocateTests, freeTests, stepTests}
-use Rattle.demands.specs.Runs.{Act, own, other, write, Contract, Happens, Run, eventOf, event, events, Answered, OtherLeft, Tells, Told, WhereverActs}
+use Rattle.demands.specs.Tests.{firstFailed, Passes, startTests, callTests, requestTests, allocateTests}
+use Rattle.demands.specs.Tests.{freeTests, stepTests}
+use Rattle.demands.specs.Runs.{Act, own, other, write, Contract, Happens, Run, eventOf, event, events, Answered}
+use Rattle.demands.specs.Runs.{OtherLeft, Tells, Told, WhereverActs}
 use Rattle.demands.proofs.Numbers.{refused, accepted, ends-told, end-told}
 use Rattle.demands.proofs.Failing.{start-first, allocate-first, free-first, step-first, none-failed, later}
 use Rattle.demands.proofs.Acting.{shows}
@@ -47,17 +49,11 @@ use Rattle.demands.proofs.Backing.{stays-back}
 
 -- ---- demand 1
 
-effect-leaves : (k : Call) (c a : List ℕ) → Leaves (effectOf k c a) c a
-effect-leaves (start tasks) c a = start-ends (length c) a tasks c a .leaves
-effect-leaves (allocate t size) c a = allocate-leaves c a t size
-effect-leaves (free t u) c a = free-leaves c a t u
-effect-leaves (step t) c a = go-leaves c a t
-
 -- "A refused call changes no byte."
 pub refused-changes-nothing : (k : Call) (lent left : Memories) (r : ℕ) → Contract k lent left r → Refusal r → left ≡ lent
 refused-changes-nothing k lent left r C h =
-    let R = refused (effectOf k (lent .control) (lent .area) .answer) (subst Refusal (C .number) h) in
-    let L = effect-leaves k (lent .control) (lent .area) (R .0) (R .1) in
+    let R = refused (effectOf k lent .answer) (subst Refusal (C .number) h) in
+    let L = effect-leaves k (lending lent) lent (R .0) (R .1) in
     λ i. record { control = (C .control-is ∙ L .0) i; area = (C .area-is ∙ L .1) i }
 
 -- ---- demand 2
@@ -83,17 +79,16 @@ module _ (lent left : Memories) (r : ℕ) where
 
   -- "A call is refused by the first of the paper's tests that it fails, and by nothing else": a start, and the beginning of a
   -- request, answer the number of the first test that fails, and 0 where all pass.
-  pub start-refused-first : (tasks : ℕ) → Contract (start tasks) lent left r → r ≡ firstFailed (startTests control area tasks) 0
-  start-refused-first tasks C = C .number ∙ start-first control (lent .area) tasks (lent .control) (lent .area)
+  pub start-refused-first : (b : Start) → Contract (start b) lent left r
+      → r ≡ firstFailed (startTests control area (b .tasks)) 0
+  start-refused-first b C = C .number ∙ start-first control (lent .area) (b .tasks) (lent .control) (lent .area)
 
   pub allocate-refused-first : (t size : ℕ) → Contract (allocate t size) lent left r
       → r ≡ firstFailed (allocateTests control area (seen (lent .control)) t size) 0
-  unfolding Calls.allocate
   allocate-refused-first t size C = C .number ∙ allocate-first control area (seen (lent .control)) t size
 
   pub free-refused-first : (t u : ℕ) → Contract (free t u) lent left r
       → r ≡ firstFailed (freeTests control area (seen (lent .control)) t u) 0
-  unfolding Calls.free
   free-refused-first t u C = C .number ∙ free-first control area (seen (lent .control)) t u
 
   -- a step answers the number of the first test that fails; where all pass, that of the step at the task's place
@@ -102,12 +97,10 @@ module _ (lent left : Memories) (r : ℕ) where
       r
       ≡ firstFailed (stepTests control area v t)
       (numberOf (stepAt v (link (lent .area)) (v Regions) t (v (TaskClass t)) (v (TaskPlace t)) .answer))
-  unfolding Calls.go
   step-refused-first t C = C .number ∙ step-first control area (seen (lent .control)) t (link (lent .area))
 
   -- .. and a step is refused by the numbers of its tests alone, and by 14, where the step at its place reads a bad value
   pub step-refused-by : (t : ℕ) → Contract (step t) lent left r → Refusal r → oneOf stepRefusals r ≡ true
-  unfolding Calls.go
   step-refused-by t C h =
       let o = Calls.stepOutcome control area (seen (lent .control)) (link (lent .area)) t in
       let R = refused (o .answer) (subst Refusal (C .number) h) in
@@ -133,7 +126,6 @@ module _ (lent left : Memories) (r : ℕ) where
   -- "A size gets the smallest class that holds it."
   pub allocate-begins : (t size : ℕ) → Contract (allocate t size) lent left r → r ≡ 0
       → Begun t size (lent .control) (lent .area) (left .control) (left .area)
-  unfolding Calls.allocate
   allocate-begins t size C h =
       let o = Calls.allocateOutcome control area (seen (lent .control)) t size in
       let A = accepted allocateRefusals false≢true (o .answer) (allocate-ends control area (seen (lent .control)) t size .answers) (sym (C .number) ∙ h) in
@@ -155,7 +147,6 @@ module _ (lent left : Memories) (r : ℕ) where
     o = Calls.stepOutcome control area (seen (lent .control)) (link (lent .area)) t
 
     answer-number : r ≡ numberOf (o .answer)
-    unfolding Calls.go
     answer-number = C .number
 
     -- "'No descriptor' .. only and always where the list read is empty": 12 is answered exactly where the task reads the head of
@@ -176,7 +167,6 @@ module _ (lent left : Memories) (r : ℕ) where
     -- what is lent are bytes, and so the control memory that is left tells where the step leads
     module _ (bytes : Bytes (lent .control)) where
       left-place : seen (left .control) (TaskPlace t) ≡ placeAfter o (seen (lent .control)) t
-      unfolding Calls.go
       left-place = ap (λ (b : List ℕ). seen b (TaskPlace t)) (C .control-is) ∙ step-place area (link (lent .area)) t (lent .control) bytes
 
       -- A task that is not in the push back comes to it exactly where it reads the head of the list of spare regions and finds it
@@ -204,8 +194,7 @@ module _ (lent left : Memories) (r : ℕ) where
 -- No call of another task moves a task: between two of its own calls it is where it was, until the next start.
 pub others-stay : (k : Call) (lent left : Memories) (r : ℕ) → Contract k lent left r → Bytes (lent .control)
     → (u : ℕ) → u < 8 → OfAnother u k → seen (left .control) (TaskPlace u) ≡ seen (lent .control) (TaskPlace u)
-unfolding Calls.go Calls.allocate Calls.free
-others-stay (start tasks) lent left r C bytes u h n = absurd n
+others-stay (start b) lent left r C bytes u h n = absurd n
 others-stay (allocate t size) lent left r C bytes u h n =
     ap (λ (b : List ℕ). seen b (TaskPlace u)) (C .control-is)
     ∙ allocate-others n (length (lent .area)) (lent .control) bytes h size
@@ -261,25 +250,26 @@ accepted-tests control area tasks l a t = rw (
 )
 
 -- such a start agrees, and a run begins with it, on any memories and beside any pool
-start-reaches : (s : Memories) (p : Pool) (tasks control : ℕ) → control ≡ 8192 → Plain.Area (length (s .area))
-    → Plain.Tasks tasks → let e = Events.start control (s .area) tasks in
+start-reaches : (s : Memories) (p : Pool) (b : Start) (control : ℕ) → control ≡ CONTROL-BYTES → Plain.Area (length (s .area))
+    → Plain.Tasks (b .tasks) → let e = Events.call (start b) (record { control = control; area = s .area }) in
     AgreesAt e s p × Reached (happened e s p ∷ []) (stepped e s .0) (whole e p .0)
-start-reaches s p tasks control l a t =
+start-reaches s p b control l a t =
     subst
-    (λ (n : ℕ). let e = Events.start n (s .area) tasks in
+    (λ (n : ℕ). let e = Events.call (start b) (record { control = n; area = s .area }) in
     AgreesAt e s p × Reached (happened e s p ∷ []) (stepped e s .0) (whole e p .0))
-    (sym l) (agreement-from-start [] s p (s .area) tasks a t tt .0, from-start s p (s .area) tasks a t)
+    (sym l) (agreement-from-start [] s p b (s .area) a t tt .0, from-start s p b (s .area) a t)
 
 -- The same from a start on any memories, whose lengths and number of tasks are right; it is accepted.
-pub run-told-from-start : (acts : List Act) (s left : Memories) (tasks r : ℕ) (p : Pool) → length (s .control) ≡ 8192
-    → Plain.Area (length (s .area)) → Plain.Tasks tasks → Run (own (start tasks) left r ∷ acts) s
-    → Premises (events acts left) (whole (eventOf (start tasks) s) p .0) → (r ≡ 0) × Told (own (start tasks) left r ∷ acts) s p
-run-told-from-start acts s left tasks r p l a t R P =
-    let e = eventOf (start tasks) s in
-    let A = start-reaches s p tasks (length (s .control)) l a t in
+pub run-told-from-start : (acts : List Act) (s left : Memories) (b : Start) (r : ℕ) (p : Pool)
+    → length (s .control) ≡ CONTROL-BYTES → Plain.Area (length (s .area)) → Plain.Tasks (b .tasks)
+    → Run (own (start b) left r ∷ acts) s → Premises (events acts left) (whole (eventOf (start b) s) p .0)
+    → (r ≡ 0) × Told (own (start b) left r ∷ acts) s p
+run-told-from-start acts s left b r p l a t R P =
+    let e = eventOf (start b) s in
+    let A = start-reaches s p b (length (s .control)) l a t in
     let began : Reached (happened e s p ∷ []) left (whole e p .0) =
-    subst (λ (z : Memories). Reached (happened e s p ∷ []) z (whole e p .0)) (shows (own (start tasks) left r) s (R .0) .leaves) (A .1)
-    in (
-      start-refused-first s left r tasks (R .0) ∙ accepted-tests (length (s .control)) (length (s .area)) tasks l a t,
-      (tells-by (own (start tasks) left r) s p (R .0) (A .0), along-acts Tells reached-tells began acts (R .1) P),
+    subst (λ (z : Memories). Reached (happened e s p ∷ []) z (whole e p .0))
+    (shows (own (start b) left r) s (R .0) .leaves) (A .1) in (
+      start-refused-first s left r b (R .0) ∙ accepted-tests (length (s .control)) (length (s .area)) (b .tasks) l a t,
+      (tells-by (own (start b) left r) s p (R .0) (A .0), along-acts Tells reached-tells began acts (R .1) P),
     )

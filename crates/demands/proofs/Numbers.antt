@@ -10,15 +10,18 @@ use lib.Dec.{eqb, ltb}
 use lib.ListN.{length}
 use Rattle.links.specs.Link.{link}
 use Rattle.plain.specs.Moves.{Decided}
+use Rattle.plain.specs.Calls.{Call, start, allocate, free, step}
 use Rattle.control.specs.Layout.{seen}
 use Rattle.control.specs.Answers.{codeOf, valueOf, numberOf}
 use Rattle.control.specs.declared.answer.Answer.{Answer}
-use Rattle.control.specs.declared.answer.Answer.the-variants.{Accepted, Allocated, Freed, NoDescriptor, NoRegion, Refused}
-use Rattle.agreement.specs.Ends.{oneOf, Begins, Goes, IsEnd, startRefusals, allocateRefusals, freeRefusals, stepRefusals}
-use Rattle.stepped.specs.Calls as Calls
+use Rattle.control.specs.declared.answer.Answer.the-variants.{Accepted, Allocated, Freed, NoDescriptor, NoRegion}
+use Rattle.control.specs.declared.answer.Answer.the-variants.{Refused}
+use Rattle.agreement.specs.Ends.{oneOf, Begins, Goes, IsEnd, startRefusals, allocateRefusals, freeRefusals}
+use Rattle.agreement.specs.Ends.{stepRefusals}
+use Rattle.stepped.specs.Outcome.{Memories}
+use Rattle.stepped.specs.Calls.{effectOf}
 use Rattle.stepped.proofs.Conjunction.{left-true, right-true}
 use Rattle.agreement.proofs.Ends.{start-ends, allocate-ends, free-ends, step-ends}
-use Rattle.pool.specs.Call.{Call, start, allocate, free, step, effectOf}
 use Rattle.demands.specs.Answers.{Refusal, Ended}
 use Rattle.demands.specs.Runs.{Number}
 
@@ -56,17 +59,21 @@ goes-small ns s NoRegion b = omega arith
 goes-small ns s (Refused n) b = among ns n s b
 
 -- the code of every exported call
-pub code-small : (k : Call) (c a : List ℕ) → codeOf (effectOf k c a .answer) < 256
-unfolding small Calls.allocate Calls.free Calls.go
-code-small (start tasks) c a =
-    begins-small startRefusals refl (Calls.start c a tasks .answer) (start-ends (length c) a tasks c a .answers)
-code-small (allocate t size) c a =
-    begins-small allocateRefusals refl (Calls.allocate c a t size .answer)
-    (allocate-ends (length c) (length a) (seen c) t size .answers)
-code-small (free t u) c a =
-    begins-small freeRefusals refl (Calls.free c a t u .answer) (free-ends (length c) (length a) (seen c) t u .answers)
-code-small (step t) c a =
-    goes-small stepRefusals refl (Calls.go c a t .answer) (step-ends (length c) (length a) (seen c) (link a) t .answers)
+pub code-small : (k : Call) (s : Memories) → codeOf (effectOf k s .answer) < 256
+unfolding small
+code-small (start b) s =
+    let c = length (s .control) in
+    begins-small startRefusals refl (effectOf (start b) s .answer)
+    (start-ends c (s .area) (b .tasks) (s .control) (s .area) .answers)
+code-small (allocate t size) s =
+    begins-small allocateRefusals refl (effectOf (allocate t size) s .answer)
+    (allocate-ends (length (s .control)) (length (s .area)) (seen (s .control)) t size .answers)
+code-small (free t u) s =
+    begins-small freeRefusals refl (effectOf (free t u) s .answer)
+    (free-ends (length (s .control)) (length (s .area)) (seen (s .control)) t u .answers)
+code-small (step t) s =
+    goes-small stepRefusals refl (effectOf (step t) s .answer)
+    (step-ends (length (s .control)) (length (s .area)) (seen (s .control)) (link (s .area)) t .answers)
 
 -- the number is the code and 256 times the value
 number-is : (a : Answer) → numberOf a ≡ codeOf a + 256 * valueOf a

@@ -6,7 +6,7 @@ use Prim.Native.Nat.{ℕ, _%_, _≤_, _<_}
 use Rattle.fields.specs.Columns.{_:=_}
 use Rattle.classes.specs.Classes.{block}
 use Rattle.control.specs.Layout.{changed, TaskPlace, TaskClass}
-use Rattle.pool.specs.Call.{Call, start, allocate, free, step}
+use Rattle.plain.specs.Calls.{Call, start, allocate, free, step}
 
 -- "A refused call answers the number": 1 to 14, but for 12 and 13, which "refuse no call".
 abbrev pub Refusal : ℕ → Type 0
@@ -18,7 +18,7 @@ Ended r = (r ≡ 12) ⊎ ((r ≡ 13) ⊎ (r % 256 ≡ 20))
 
 -- a call of another task than u; a start is a call of none
 abbrev pub OfAnother : ℕ → Call → Type 0
-OfAnother u (start tasks) = ⊥
+OfAnother u (start b) = ⊥
 OfAnother u (allocate t size) = u ≢ t
 OfAnother u (free t unit) = u ≢ t
 OfAnother u (step t) = u ≢ t

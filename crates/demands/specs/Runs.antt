@@ -8,14 +8,15 @@ use Prim.Native.Nat.{ℕ, _*_, _/_, _%_}
 use lib.Dec.{eqb}
 use lib.ListN.{length, set}
 use Rattle.plain.specs.Moves.{Answer}
-use Rattle.plain.specs.Calls.{Pool}
+use Rattle.plain.specs.Calls.{Pool, Call, start, allocate, free, step}
 use Rattle.control.specs.Layout.{Tasks, Regions, seen}
 use Rattle.stepped.specs.Outcome.{Memories}
+use Rattle.stepped.specs.Calls.{lending}
 use Rattle.agreement.specs.Events.{Event, stepped, whole, Premise}
 use Rattle.agreement.specs.Events as Events
 use Rattle.agreement.specs.Reached.{History, Reached}
 use Rattle.agreement.specs.Agreement.{Agrees, Unchanged, Untouched}
-use Rattle.pool.specs.Call.{Call, start, allocate, free, step, Ensures}
+use Rattle.pool.specs.Call.{Ensures}
 use Rattle.demands.specs.Answers.{Refusal}
 
 -- What happens to a pool: a call on its memories leaves the memories `left` and answers `number`; a call on other memories, lent
@@ -39,7 +40,7 @@ OtherLength s lent =
 
 -- Other memories that a call may be lent: a start any, every other call those of another length.
 abbrev pub Lendable : Call → Memories → Memories → Type 0
-Lendable (start tasks) s lent = Unit {0}
+Lendable (start b) s lent = Unit {0}
 Lendable (allocate t size) s lent = OtherLength s lent
 Lendable (free t u) s lent = OtherLength s lent
 Lendable (step t) s lent = OtherLength s lent
@@ -52,7 +53,7 @@ Happens (write at b) s = Unit {0}
 
 -- The pool's memories after a call on others: "a later accepted start sets both runs anew"; any other "touches nothing".
 abbrev pub afterOther : Call → Memories → ℕ → Memories → Memories
-afterOther (start tasks) left number s = cond (eqb number 0) left s
+afterOther (start b) left number s = cond (eqb number 0) left s
 afterOther (allocate t size) left number s = s
 afterOther (free t u) left number s = s
 afterOther (step t) left number s = s
@@ -69,12 +70,9 @@ Run (a ∷ rest) s = Happens a s × Run rest (after a s)
 
 -- ---- the whole run beside it
 
--- what the plain pool is fed of a call: its numbers and the lengths lent
+-- the event of a call that is lent the memories s: the plain pool is fed its numbers and the lengths lent
 abbrev pub eventOf : Call → Memories → Event
-eventOf (start tasks) s = Events.start (length (s .control)) (s .area) tasks
-eventOf (allocate t size) s = Events.allocate (length (s .control)) (length (s .area)) t size
-eventOf (free t u) s = Events.free (length (s .control)) (length (s .area)) t u
-eventOf (step t) s = Events.go (length (s .control)) (length (s .area)) t
+eventOf k s = Events.call k (lending s)
 
 abbrev pub event : Act → Memories → Event
 event (own k left number) s = eventOf k s
