@@ -9,7 +9,7 @@ use lib.Dec.{ltb, leb, eqb}
 use Rattle.fields.specs.Columns.{View}
 use Rattle.words.specs.Anchor.{EMPTY, anchorOf}
 use Rattle.words.specs.Mark.{isSet}
-use Rattle.classes.specs.Places.{regionOf, isFirst}
+use Rattle.classes.specs.Geometry.{regionOf, isFirst}
 use Rattle.control.specs.Layout.{Anchor, Marks, TaskPlace, TaskClass, DescriptorRegion, DescriptorClass, Map, Tasks}
 use Rattle.control.specs.Layout.{Regions}
 use Rattle.stepped.specs.Ranges.{oneTo, isAnchor}

@@ -1,4 +1,4 @@
--- The paper's example, and the stand's edge cases, computed over the plain pool. Assumes nothing.
+-- The paper's example, and the stand's edge cases, computed over the plain pool.
 use Prim.Native.Nat.{ℕ}
 use mathlib.Core.Path.{_≡_, refl}
 use mathlib.Core.List.{List, [], _∷_, map}
@@ -46,7 +46,7 @@ pub paper-example : played example
       line 0 1 0 0 ∷ line 1 2 0 0 ∷ line 2 5 20 480 ∷ line 3 3 0 0 ∷ line 4 5 20 0 ∷ line 5 3 11 0 ∷ [],
       total 2 3 1,
     )
-unfolding table runs recordAt wideOf counted getLE units perRegion classOf unstarted both ℕ-discrete decLt decLe update Calls.call Calls.startMem Calls.rising Steps.step
+unfolding table runs recordAt wideOf counted getLE units perRegion classOf unstarted both ℕ-discrete decLt decLe update Calls.call Calls.startMem Calls.rising Steps.stepOf
 paper-example = refl
 
 -- no input; a cut start; kind 0, after which nothing is read; an unknown kind; five regions and nine tasks, "more than 4 regions is 2";
@@ -62,5 +62,5 @@ pub edge-cases : map played
     ∷ (line 0 5 0 0 ∷ [], total 0 1 0)
     ∷ (line 0 4 4 0 ∷ [], total 0 0 1)
     ∷ [])
-unfolding table runs recordAt wideOf counted getLE units perRegion classOf unstarted both ℕ-discrete decLt decLe update Calls.call Calls.startMem Calls.rising Steps.step
+unfolding table runs recordAt wideOf counted getLE units perRegion classOf unstarted both ℕ-discrete decLt decLe update Calls.call Calls.startMem Calls.rising Steps.stepOf
 edge-cases = refl

@@ -1,4 +1,4 @@
--- A call that is lent a part of the area does what the stand's definition says. Assumes nothing.
+-- A call that is lent a part of the area does what the stand's definition says.
 use Prim.Native.Nat.{ℕ, _*_, _≤_, _<_}
 use mathlib.Core.Path.{_≡_, refl, sym, ap, subst, _∙_}
 use mathlib.Core.Logic.{_≢_}
@@ -7,12 +7,12 @@ use mathlib.Core.List.{List}
 use borrow.Author.Tests.{eq-eqb, ne-eqb, lt-ltb, le-ltb}
 use borrow.Rule.Slice.PartMut.{midOf, putMid, put-same}
 use Rattle.fields.specs.Columns.{View}
+use Rattle.plain.specs.Calls.{Call}
 use Rattle.control.specs.Layout.{Tasks, Regions, seen}
 use Rattle.stepped.specs.Outcome.{Memories}
-use Rattle.pool.specs.Call.{Call, Ensures}
-use Rattle.pool.specs.Call as Call
-use Rattle.schedule.specs.Stand.{start, allocate, free, step}
-use Rattle.schedule.specs.Bytes.{lentRegions, lending, onBytes, Does}
+use Rattle.pool.specs.Call.{Ensures}
+use Rattle.schedule.specs.Stand.{named, as-started}
+use Rattle.schedule.specs.Bytes.{lentRegions, onPart, onBytes, Does}
 
 -- ---- how many regions are lent
 
@@ -31,7 +31,7 @@ module _ (v : View) where
 module _ (c a : List ℕ) (k : ℕ) (c′ : List ℕ) where
   -- the part comes back as part′
   pub lent-part : (q : Call) (part′ : List ℕ) (r : ℕ) → Ensures q c (midOf 0 k a) c′ part′ r
-      → Does (lending q k) c a c′ (putMid 0 k a part′) r
+      → Does (onPart q k) c a c′ (putMid 0 k a part′) r
   lent-part q part′ r C = record {
     control-is = C .control-is;
     area-is = ap (putMid 0 k a) (C .area-is);
@@ -39,9 +39,9 @@ module _ (c a : List ℕ) (k : ℕ) (c′ : List ℕ) where
   }
 
   -- the part is only read
-  pub shown-part : (q : Call) (r : ℕ) → Ensures q c (midOf 0 k a) c′ (midOf 0 k a) r → Does (lending q k) c a c′ a r
+  pub shown-part : (q : Call) (r : ℕ) → Ensures q c (midOf 0 k a) c′ (midOf 0 k a) r → Does (onPart q k) c a c′ a r
   shown-part q r C =
-      subst (λ (z : List ℕ). Does (lending q k) c a c′ z r) (put-same 0 k a) (lent-part q (midOf 0 k a) r C)
+      subst (λ (z : List ℕ). Does (onPart q k) c a c′ z r) (put-same 0 k a) (lent-part q (midOf 0 k a) r C)
 
 -- the same function of the memories
 pub does-as : {f g : Memories → Memories × ℕ} (c a c′ a′ : List ℕ) (r : ℕ)
@@ -52,45 +52,40 @@ does-as {f} {g} c a c′ a′ r e D = record {
   answer = D .answer ∙ sym (ap (λ (x : Memories × ℕ). x .1) e);
 }
 
--- ---- a start
+-- ---- what is lent
 
-module _ (tasks regions : ℕ) (c a : List ℕ) where
-  pub many-regions : 4 < regions → Does (onBytes (start tasks regions)) c a c a 2
+module _ (q : Call) (regions : ℕ) (c a : List ℕ) where
+  -- more regions than the stand has
+  pub many-regions : 4 < regions → Does (onBytes q (named regions)) c a c a 2
   many-regions h =
       let s : Memories = record { control = c; area = a } in
       let x : Memories × ℕ = (s, 2) in
       does-as {f = λ s. (s, 2)} c a c a 2
-      (ap (λ (b : Bool). cond b x (lending (Call.start tasks) (4096 * regions) s)) (lt-ltb 4 regions h))
+      (ap (λ (b : Bool). cond b x (onPart q (4096 * regions) s)) (lt-ltb 4 regions h))
       (record { control-is = refl; area-is = refl; answer = refl })
 
-  pub start-does : (c′ : List ℕ) (k r : ℕ) → Ensures (Call.start tasks) c (midOf 0 k a) c′ (midOf 0 k a) r → regions ≤ 4
-      → k ≡ 4096 * regions → Does (onBytes (start tasks regions)) c a c′ a r
-  start-does c′ k r C h e =
+  -- the regions that are named are only read
+  pub named-does : (c′ : List ℕ) (k r : ℕ) → Ensures q c (midOf 0 k a) c′ (midOf 0 k a) r → regions ≤ 4
+      → k ≡ 4096 * regions → Does (onBytes q (named regions)) c a c′ a r
+  named-does c′ k r C h e =
       let s : Memories = record { control = c; area = a } in
       let x : Memories × ℕ = (s, 2) in
-      does-as {f = lending (Call.start tasks) (4096 * regions)} c a c′ a r
-      (ap (λ (b : Bool). cond b x (lending (Call.start tasks) (4096 * regions) s)) (le-ltb 4 regions h))
-      (subst (λ (n : ℕ). Does (lending (Call.start tasks) n) c a c′ a r) e (shown-part c a k c′ (Call.start tasks) r C))
+      does-as {f = onPart q (4096 * regions)} c a c′ a r
+      (ap (λ (b : Bool). cond b x (onPart q (4096 * regions) s)) (le-ltb 4 regions h))
+      (subst (λ (n : ℕ). Does (onPart q n) c a c′ a r) e (shown-part c a k c′ q r C))
 
--- ---- the other calls
+-- a call that is lent what was started
+module _ (q : Call) (c a c′ : List ℕ) (k r : ℕ) (e : k ≡ 4096 * lentRegions (seen c)) where
+  -- .. and only reads it
+  pub shown-does : Ensures q c (midOf 0 k a) c′ (midOf 0 k a) r → Does (onBytes q as-started) c a c′ a r
+  shown-does C =
+      does-as {f = onPart q (4096 * lentRegions (seen c))} c a c′ a r refl
+      (subst (λ (n : ℕ). Does (onPart q n) c a c′ a r) e (shown-part c a k c′ q r C))
 
-module _ (c a c′ : List ℕ) (k r : ℕ) where
-  -- a call that is lent what was started
-  lent-as : (q : Call) (f : Memories → Memories × ℕ) (a′ : List ℕ)
-      → f (record { control = c; area = a }) ≡ lending q (4096 * lentRegions (seen c)) (record { control = c; area = a })
-      → Does (lending q k) c a c′ a′ r → k ≡ 4096 * lentRegions (seen c) → Does f c a c′ a′ r
-  lent-as q f a′ p D e =
-      does-as {f = lending q (4096 * lentRegions (seen c))} {g = f} c a c′ a′ r p
-      (subst (λ (n : ℕ). Does (lending q n) c a c′ a′ r) e D)
-
-  pub allocate-does : (t size : ℕ) → Ensures (Call.allocate t size) c (midOf 0 k a) c′ (midOf 0 k a) r
-      → k ≡ 4096 * lentRegions (seen c) → Does (onBytes (allocate t size)) c a c′ a r
-  allocate-does t size C = lent-as (Call.allocate t size) (onBytes (allocate t size)) a refl (shown-part c a k c′ (Call.allocate t size) r C)
-
-  pub free-does : (t u : ℕ) → Ensures (Call.free t u) c (midOf 0 k a) c′ (midOf 0 k a) r
-      → k ≡ 4096 * lentRegions (seen c) → Does (onBytes (free t u)) c a c′ a r
-  free-does t u C = lent-as (Call.free t u) (onBytes (free t u)) a refl (shown-part c a k c′ (Call.free t u) r C)
-
-  pub step-does : (t : ℕ) (part′ : List ℕ) → Ensures (Call.step t) c (midOf 0 k a) c′ part′ r
-      → k ≡ 4096 * lentRegions (seen c) → Does (onBytes (step t)) c a c′ (putMid 0 k a part′) r
-  step-does t part′ C = lent-as (Call.step t) (onBytes (step t)) (putMid 0 k a part′) refl (lent-part c a k c′ (Call.step t) part′ r C)
+  -- .. and leaves part′ of it
+  pub written-does : (part′ : List ℕ) → Ensures q c (midOf 0 k a) c′ part′ r
+      → Does (onBytes q as-started) c a c′ (putMid 0 k a part′) r
+  written-does part′ C =
+      let a′ = putMid 0 k a part′ in
+      does-as {f = onPart q (4096 * lentRegions (seen c))} c a c′ a′ r refl
+      (subst (λ (n : ℕ). Does (onPart q n) c a c′ a′ r) e (lent-part c a k c′ q part′ r C))

@@ -1,4 +1,4 @@
--- One turn of a run. Assumes nothing.
+-- One turn of a run.
 use Prim.Native.Nat.{ℕ, suc, _-_, _≤_}
 use mathlib.Core.Path.{_≡_, refl, sym, ap, _∙_}
 use mathlib.Core.Logic.{_≢_}
@@ -8,7 +8,8 @@ use native.Mathlib.Omega.{arith}
 use borrow.Author.Tests.{eq-eqb, ne-eqb}
 use lib.Dec.{eqb}
 use Rattle.stepped.specs.Outcome.{Memories}
-use Rattle.schedule.specs.Stand.{step, runs}
+use Rattle.plain.specs.Calls.{step}
+use Rattle.schedule.specs.Stand.{as-started, runs}
 use Rattle.schedule.specs.Bytes.{onBytes, Does}
 
 -- what a run that began on the memories c₀ and a₀ with `most` steps leaves is what is left to run
@@ -30,9 +31,9 @@ module _ {t most : ℕ} {c₀ a₀ : List ℕ} {left answer : ℕ} {c a : List �
         answer = sym (ap (λ (x : Memories × ℕ). x .1) p);
       }
 
-  module _ {c′ a′ : List ℕ} {r : ℕ} (h : 1 ≤ left) (D : Does (onBytes (step t)) c a c′ a′ r) where
+  module _ {c′ a′ : List ℕ} {r : ℕ} (h : 1 ≤ left) (D : Does (onBytes (step t) as-started) c a c′ a′ r) where
     -- the step, by what the function ensures
-    stepped : onBytes (step t) (record { control = c; area = a }) ≡ (record { control = c′; area = a′ }, r)
+    stepped : onBytes (step t) as-started (record { control = c; area = a }) ≡ (record { control = c′; area = a′ }, r)
     stepped = sym (λ i. (record { control = D .control-is i; area = D .area-is i }, D .answer i))
 
     -- what is left to run, by the answer of the step

@@ -1,28 +1,27 @@
 -- The stand over the plain pool, which is fed the numbers of each record and the lengths lent.
--- Assumes nothing.
 use Prim.Native.Nat.{ℕ, _+_, _*_}
 use mathlib.Core.Bool.{cond}
 use lib.Dec.{eqb, ltb}
-use Rattle.plain.specs.Calls.{Pool}
+use Rattle.plain.specs.Calls.{Pool, Call}
 use Rattle.plain.specs.Calls as Calls
 use Rattle.plain.specs.Moves.{Answer}
-use Rattle.schedule.specs.Stand.{Request, start, allocate, free, step}
+use Rattle.schedule.specs.Stand.{Lends, named, as-started}
 
 -- the code, and 256 times the value
 abbrev pub numberIn : Answer → ℕ
 numberIn y = y .code + 256 * y .value
 
--- the answer of a call as one number
-abbrev pub feeding : Calls.Call → Pool → Pool × ℕ
-feeding c p = (Calls.call c p .0, numberIn (Calls.call c p .1))
+-- a call that is lent the control memory and so many bytes of the area, and its answer as one number
+abbrev pub feeding : Call → ℕ → Pool → Pool × ℕ
+feeding k area p =
+    let x = Calls.call k (record { control = 8192; area = area }) p in
+    (x .0, numberIn (x .1))
 
 -- how many regions the last accepted start was lent: none before the first
 abbrev pub startedRegions : Pool → ℕ
 startedRegions p = cond (eqb (p .tasks) 0) 0 (p .regions)
 
 -- "more than 4 regions is 2"
-abbrev pub onPlain : Request → Pool → Pool × ℕ
-onPlain (start tasks regions) p = cond (ltb 4 regions) (p, 2) (feeding (Calls.start 8192 (4096 * regions) tasks) p)
-onPlain (allocate t size) p = feeding (Calls.allocate 8192 (4096 * startedRegions p) t size) p
-onPlain (free t u) p = feeding (Calls.free 8192 (4096 * startedRegions p) t u) p
-onPlain (step t) p = feeding (Calls.go 8192 (4096 * startedRegions p) t) p
+abbrev pub onPlain : Call → Lends → Pool → Pool × ℕ
+onPlain k (named regions) p = cond (ltb 4 regions) (p, 2) (feeding k (4096 * regions) p)
+onPlain k as-started p = feeding k (4096 * startedRegions p) p

@@ -1,10 +1,10 @@
 -- The stand over any pool: what each record does, and the table of a schedule.
--- Assumes nothing.
 use Prim.Native.Nat.{ℕ, zero, suc, _+_, _/_, _%_}
 use mathlib.Core.Bool.{cond}
 use mathlib.Core.List.{List, [], _∷_}
 use lib.Dec.{eqb, ltb}
 use lib.ListN.{length}
+use Rattle.plain.specs.Calls.{Call, start, allocate, free, step}
 use Rattle.schedule.specs.declared.record.Entry.{Entry}
 use Rattle.schedule.specs.declared.record.Record.{Record}
 use Rattle.schedule.specs.declared.record.Record.the-variants.{Start, Allocate, Free, Step, Run, Bad}
@@ -13,31 +13,31 @@ use Rattle.schedule.specs.declared.treat.Line.{Line}
 use Rattle.schedule.specs.Records.{recordAt, entryAt, endOf}
 use Rattle.schedule.specs.Tally.{counted}
 
--- what the stand asks of a pool
-pub data Request : Type 0 where
-  start : (tasks regions : ℕ) → Request
-  allocate : (task size : ℕ) → Request
-  free : (task unit : ℕ) → Request
-  step : (task : ℕ) → Request
+-- what the stand lends to a call: so many regions, which a start's record names, or what the last accepted start was lent
+pub data Lends : Type 0 where
+  named : (regions : ℕ) → Lends
+  as-started : Lends
 
 -- "each line, in decimal: record from 0, kind byte, code, value", for the answer r: the code, and 256 times the value
 abbrev pub lineOf : Entry → ℕ → Line
 lineOf e r = record { number = e .number; kind = e .kind; code = r % 256; value = r / 256 }
 
--- a pool: its state, and what a request makes of it, with the answer: the code, and 256 times the value
-module _ {S : Type 0} (call : Request → S → S × ℕ) where
+-- a pool: its state, and what a call makes of it, with the answer: the code, and 256 times the value
+module _ {S : Type 0} (call : Call → Lends → S → S × ℕ) where
   -- "run (task, most steps ..), which stops at a finish, an end or a refusal (most 0: code 0, no call made)"; "A run shows its last
   -- call's answer". The last answer so far is a.
   unfoldable pub runs : ℕ → ℕ → ℕ → S → S × ℕ
   runs a t zero s = (s, a)
-  runs a t (suc m) s = cond (eqb (call (step t) s .1) 0) (runs 0 t m (call (step t) s .0)) (call (step t) s)
+  runs a t (suc m) s =
+      let x = call (step t) as-started s in
+      cond (eqb (x .1) 0) (runs 0 t m (x .0)) x
 
   -- "15 unknown kind or cut record"
   abbrev pub treated : Record → S → S × ℕ
-  treated (Start tasks regions) s = call (start tasks regions) s
-  treated (Allocate t size) s = call (allocate t size) s
-  treated (Free t u) s = call (free t u) s
-  treated (Step t) s = call (step t) s
+  treated (Start tasks regions) s = call (start (record { tasks = tasks })) (named regions) s
+  treated (Allocate t size) s = call (allocate t size) as-started s
+  treated (Free t u) s = call (free t u) as-started s
+  treated (Step t) s = call (step t) as-started s
   treated (Run t most) s = runs 0 t most s
   treated Bad s = (s, 15)
 

@@ -4,7 +4,8 @@ use control::started;
 ghost use mathlib.Core.Path.{_≡_};
 ghost use Prim.Native.Nat.{_*_, _≤_};
 ghost use Rattle.control.specs.Layout.{Control, seen};
-ghost use Rattle.schedule.specs.Stand.{start as started, allocate as allocated, free as freed, step as stepped};
+ghost use Rattle.plain.specs.Calls.{start as started, allocate as allocated, free as freed, step as stepped};
+ghost use Rattle.schedule.specs.Stand.{named, as-started};
 ghost use Rattle.schedule.specs.Bytes.{lentRegions, onBytes, Does, StandMemories};
 
 // How many bytes of the area the pool was started with. Callers: the calls that are no start.
@@ -25,7 +26,7 @@ fn lent(control: &[u8]) -> usize
 // A start with so many tasks and regions: "more than 4 regions is 2".
 pub fn start(control: &mut [u8], area: &mut [u8], tasks: u8, regions: u8) -> u64
     requires { ⌜ StandMemories (now control) (now area) ⌝ }
-    ensures { λ r. ⌜ Does (onBytes (started tasks regions)) (now (control .entry)) (now (area .entry)) (now (control .exit)) (now (area .exit)) r ⌝ }
+    ensures { λ r. ⌜ Does (onBytes (started (record { tasks = tasks })) (named regions)) (now (control .entry)) (now (area .entry)) (now (control .exit)) (now (area .exit)) r ⌝ }
 {
     if 4 < regions {
         return 2;
@@ -36,7 +37,7 @@ pub fn start(control: &mut [u8], area: &mut [u8], tasks: u8, regions: u8) -> u64
 
 pub fn allocate(control: &mut [u8], area: &mut [u8], task: u8, size: u16) -> u64
     requires { ⌜ StandMemories (now control) (now area) ⌝ }
-    ensures { λ r. ⌜ Does (onBytes (allocated task size)) (now (control .entry)) (now (area .entry)) (now (control .exit)) (now (area .exit)) r ⌝ }
+    ensures { λ r. ⌜ Does (onBytes (allocated task size) as-started) (now (control .entry)) (now (area .entry)) (now (control .exit)) (now (area .exit)) r ⌝ }
 {
     let n = lent(control);
     pool::pool_begin_allocate(control, &area[0..n], task as u64, size as u64)
@@ -44,7 +45,7 @@ pub fn allocate(control: &mut [u8], area: &mut [u8], task: u8, size: u16) -> u64
 
 pub fn free(control: &mut [u8], area: &mut [u8], task: u8, unit: u16) -> u64
     requires { ⌜ StandMemories (now control) (now area) ⌝ }
-    ensures { λ r. ⌜ Does (onBytes (freed task unit)) (now (control .entry)) (now (area .entry)) (now (control .exit)) (now (area .exit)) r ⌝ }
+    ensures { λ r. ⌜ Does (onBytes (freed task unit) as-started) (now (control .entry)) (now (area .entry)) (now (control .exit)) (now (area .exit)) r ⌝ }
 {
     let n = lent(control);
     pool::pool_begin_free(control, &area[0..n], task as u64, unit as u64)
@@ -52,7 +53,7 @@ pub fn free(control: &mut [u8], area: &mut [u8], task: u8, unit: u16) -> u64
 
 pub fn step(control: &mut [u8], area: &mut [u8], task: u8) -> u64
     requires { ⌜ StandMemories (now control) (now area) ⌝ }
-    ensures { λ r. ⌜ Does (onBytes (stepped task)) (now (control .entry)) (now (area .entry)) (now (control .exit)) (now (area .exit)) r ⌝ }
+    ensures { λ r. ⌜ Does (onBytes (stepped task) as-started) (now (control .entry)) (now (area .entry)) (now (control .exit)) (now (area .exit)) r ⌝ }
 {
     let n = lent(control);
     pool::pool_step(control, &mut area[0..n], task as u64)

@@ -1,5 +1,5 @@
 -- The stand on bytes beside the stand over the plain pool: each request is answered by the same number, and keeps them beside each
--- other. Assumes nothing.
+-- other.
 use Prim.Native.Nat.{ℕ, suc, _*_, _≤_, _<_}
 use mathlib.Core.Path.{_≡_, refl, sym, ap, subst, _∙_}
 use mathlib.Core.List.{[], _∷_}
@@ -8,33 +8,32 @@ use native.Mathlib.Decide.{ℕ-discrete}
 use borrow.Author.Tests.{eq-eqb, ne-eqb, le-ltb}
 use borrow.Rule.Slice.PartMut.{midOf}
 use lib.ListN.{length}
+use Rattle.fields.specs.Columns.{View}
 use Rattle.links.specs.Link.{link}
 use Rattle.links.proofs.Links.{length-linked}
 use Rattle.plain.specs.Moves.{Answer}
 use Rattle.plain.specs.Codes.{AtMost}
-use Rattle.plain.specs.Calls.{Pool}
+use Rattle.plain.specs.Calls.{Pool, Call, allocate, free, step, Lengths}
 use Rattle.plain.specs.Calls as Calls
 use Rattle.plain.proofs.Answers.{most}
 use Rattle.control.specs.Layout.{Tasks, seen}
 use Rattle.control.specs.Answers.{numberOf}
-use Rattle.stepped.specs.Outcome.{Effect}
+use Rattle.stepped.specs.Outcome.{Effect, Memories}
+use Rattle.stepped.specs.Calls.{effectOf}
 use Rattle.stepped.specs.Calls as Stepped
-use Rattle.stepped.specs.Outcome.{Memories}
 use Rattle.agreement.specs.Events.{stepped, whole, Premise}
 use Rattle.agreement.specs.Tied.{Tied}
 use Rattle.agreement.proofs.Runs.{short}
 use Rattle.agreement.specs.Reached.{History, happened, Reached, by-event}
 use Rattle.agreement.proofs.Reaching.{reached-tied}
 use Rattle.agreement.proofs.Theorem.{reached-agrees}
-use Rattle.pool.specs.Call.{Call, effectOf}
-use Rattle.pool.specs.Call as Call
 use Rattle.demands.specs.Runs.{own, eventOf, Number}
 use Rattle.demands.proofs.Acting.{shows}
-use Rattle.schedule.specs.Stand.{allocate, free, step}
-use Rattle.schedule.specs.Bytes.{lentRegions, lending, onBytes}
+use Rattle.schedule.specs.Stand.{as-started}
+use Rattle.schedule.specs.Bytes.{lentRegions, onPart, onBytes}
 use Rattle.schedule.specs.Plain.{numberIn, feeding, startedRegions, onPlain}
 use Rattle.stand_agreement.proofs.Parts.{part-length, part-back, back-length}
-use Rattle.stand_agreement.proofs.Fed.{SameStart, allocate-keeps, free-keeps, go-keeps, same-regions}
+use Rattle.stand_agreement.proofs.Fed.{SameStart, allocate-keeps, free-keeps, step-keeps, same-regions}
 
 -- the memories that a call is lent with n regions
 abbrev pub partOf : ℕ → Memories → Memories
@@ -85,71 +84,79 @@ module _ {n : ℕ} {s : Memories} {p : Pool} (B : Beside n s p) (small : n < 429
   part-is : length (lent .area) ≡ 4096 * regions
   part-is = part-length (4096 * regions) (s .area) (omega (arith, B .few, B .area-is))
 
+  -- what the plain pool is fed
+  abbrev fed : Lengths
+  fed = record { control = 8192; area = 4096 * regions }
+
+  as-fed : (q : Call) → whole (eventOf q lent) p ≡ Calls.call q fed p
+  as-fed q =
+      ap (λ (k : ℕ). Calls.call q (record { control = k; area = length (lent .area) }) p) (tied B .length)
+      ∙ ap (λ (k : ℕ). Calls.call q (record { control = 8192; area = k }) p) part-is
+
   -- ---- a call that is no start, by its own effect
 
-  module _ (q : Call) (c : Calls.Call) (is : whole (eventOf q lent) p ≡ Calls.call c p) (premise : Premise (eventOf q lent) p)
-      (long : length (effectOf q (lent .control) (lent .area) .area) ≡ length (lent .area)) (keeps : SameStart p (Calls.call c p .0)) where
+  module _ (q : Call) (premise : Premise (eventOf q lent) p) (long : length (effectOf q lent .area) ≡ length (lent .area))
+      (keeps : SameStart p (Calls.call q fed p .0)) where
     abbrev e : Effect
-    e = effectOf q (lent .control) (lent .area)
+    e = effectOf q lent
 
     abbrev left : Memories
     left = record { control = e .control; area = e .area }
 
-    same-call : SameAnswer (suc n) (lending q (4096 * regions) s) (feeding c p)
+    same-call : SameAnswer (suc n) (onPart q (4096 * regions) s) (feeding q (4096 * regions) p)
     same-call =
         let S = shows (own q left (numberOf (e .answer))) lent (record { number = refl; control-is = refl; area-is = refl }) in
         let H = happened (eventOf q lent) lent p ∷ B .history in
         let A = reached-agrees (B .history) lent p (B .reached) (eventOf q lent) premise in
-        let p′ = Calls.call c p .0 in
+        let p′ = Calls.call q fed p .0 in
         let r = same-regions p p′ keeps in
-        let s′ : Memories = lending q (4096 * regions) s .0 in
+        let s′ : Memories = onPart q (4096 * regions) s .0 in
         let back : partOf regions s′ ≡ left = λ i. record { control = e .control; area = part-back (4096 * regions) (s .area) (e .area) (long ∙ part-is) i } in
         record {
-          number = sum (S .answers) ∙ ap numberIn (A .0 .says) ∙ ap (λ x. numberIn (x .1)) is;
+          number = sum (S .answers) ∙ ap numberIn (A .0 .says) ∙ ap (λ x. numberIn (x .1)) (as-fed q);
           beside = record {
             area-is = back-length (4096 * regions) (s .area) (e .area) (omega (arith, B .few, B .area-is)) (long ∙ part-is) ∙ B .area-is;
             few = omega (arith, B .few, r);
             history = H;
             reached =
                 subst (λ (z : Memories). Reached H z p′) (S .leaves ∙ sym (ap (λ (k : ℕ). partOf k s′) r ∙ back))
-                (subst (λ x. Reached H (stepped (eventOf q lent) lent .0) (x .0)) is (by-event (B .reached) (eventOf q lent) premise));
-            most-won = most n c p (B .most-won);
+                (subst (λ x. Reached H (stepped (eventOf q lent) lent .0) (x .0)) (as-fed q)
+                (by-event (B .reached) (eventOf q lent) premise));
+            most-won = most n q fed p (B .most-won);
           };
         }
+
+    -- the call is lent so many regions as the stand's definition says
+    same-lent : SameAnswer (suc n) (onBytes q as-started s) (onPlain q as-started p)
+    same-lent =
+        subst (λ (k : ℕ). SameAnswer (suc n) (onPart q (4096 * k) s) (feeding q (4096 * regions) p)) (sym lent-same) same-call
 
   -- ---- the calls
 
   -- a step meets the premise: no list has won so many exchanges
-  near : (t : ℕ) → Premise (eventOf (Call.step t) lent) p
-  near t = short n (eventOf (Call.step t) lent ∷ []) p (B .most-won) (omega (arith, small)) tt .0
+  near : (t : ℕ) → Premise (eventOf (step t) lent) p
+  near t = short n (eventOf (step t) lent ∷ []) p (B .most-won) (omega (arith, small)) tt .0
 
-  as-fed : (f : ℕ → ℕ → Calls.Call) → Calls.call (f (length (lent .control)) (length (lent .area))) p ≡ Calls.call (f 8192 (4096 * regions)) p
-  as-fed f =
-      ap (λ (k : ℕ). Calls.call (f k (length (lent .area))) p) (tied B .length)
-      ∙ ap (λ (k : ℕ). Calls.call (f 8192 k) p) part-is
+  -- the lengths and the fields of what is lent
+  abbrev c : ℕ
+  c = length (lent .control)
 
-  -- the call is lent so many regions as the stand's definition says
-  lends : (q : Call) (y : Pool × ℕ) → SameAnswer (suc n) (lending q (4096 * regions) s) y
-      → SameAnswer (suc n) (lending q (4096 * lentRegions (seen (s .control))) s) y
-  lends q y h = subst (λ (k : ℕ). SameAnswer (suc n) (lending q (4096 * k) s) y) (sym lent-same) h
+  abbrev a : ℕ
+  a = length (lent .area)
 
-  pub same-allocate : (t size : ℕ) → SameAnswer (suc n) (onBytes (allocate t size) s) (onPlain (allocate t size) p)
-  unfolding Stepped.allocate
+  abbrev v : View
+  v = seen (lent .control)
+
+  pub same-allocate : (t size : ℕ) → SameAnswer (suc n) (onBytes (allocate t size) as-started s) (onPlain (allocate t size) as-started p)
   same-allocate t size =
-      lends (Call.allocate t size) _
-      (same-call (Call.allocate t size) (Calls.allocate 8192 (4096 * regions) t size)
-      (as-fed (λ k l. Calls.allocate k l t size)) tt (length-linked (Stepped.allocateOutcome (length (lent .control)) (length (lent .area)) (seen (lent .control)) t size .links) (lent .area)) (allocate-keeps 8192 (4096 * regions) t p size))
+      same-lent (allocate t size) tt (length-linked (Stepped.allocateOutcome c a v t size .links) (lent .area))
+      (allocate-keeps fed t p size)
 
-  pub same-free : (t u : ℕ) → SameAnswer (suc n) (onBytes (free t u) s) (onPlain (free t u) p)
-  unfolding Stepped.free
+  pub same-free : (t u : ℕ) → SameAnswer (suc n) (onBytes (free t u) as-started s) (onPlain (free t u) as-started p)
   same-free t u =
-      lends (Call.free t u) _
-      (same-call (Call.free t u) (Calls.free 8192 (4096 * regions) t u)
-      (as-fed (λ k l. Calls.free k l t u)) tt (length-linked (Stepped.freeOutcome (length (lent .control)) (length (lent .area)) (seen (lent .control)) t u .links) (lent .area)) (free-keeps 8192 (4096 * regions) t p u))
+      same-lent (free t u) tt (length-linked (Stepped.freeOutcome c a v t u .links) (lent .area)) (free-keeps fed t p u)
 
-  pub same-step : (t : ℕ) → SameAnswer (suc n) (onBytes (step t) s) (onPlain (step t) p)
-  unfolding Stepped.go
+  pub same-step : (t : ℕ) → SameAnswer (suc n) (onBytes (step t) as-started s) (onPlain (step t) as-started p)
   same-step t =
-      lends (Call.step t) _
-      (same-call (Call.step t) (Calls.go 8192 (4096 * regions) t)
-      (as-fed (λ k l. Calls.go k l t)) (near t) (length-linked (Stepped.stepOutcome (length (lent .control)) (length (lent .area)) (seen (lent .control)) (link (lent .area)) t .links) (lent .area)) (go-keeps 8192 (4096 * regions) t p))
+      same-lent (step t) (near t) (length-linked (Stepped.stepOutcome c a v (link (lent .area)) t .links) (lent .area))
+      (step-keeps fed t p)

@@ -1,4 +1,4 @@
--- A start keeps the stand on bytes beside the stand over the plain pool. Assumes nothing.
+-- A start keeps the stand on bytes beside the stand over the plain pool.
 use Prim.Native.Nat.{ℕ, suc, _*_, _≤_, _<_}
 use mathlib.Core.Path.{_≡_, refl, sym, ap, subst, _∙_}
 use mathlib.Core.Logic.{_≢_}
@@ -11,26 +11,25 @@ use borrow.Rule.Slice.PartMut.{putMid, put-same}
 use lib.Dec.{eqb}
 use lib.ListN.{length}
 use Rattle.plain.specs.Moves.{Answer}
-use Rattle.plain.specs.Calls.{Pool}
+use Rattle.plain.specs.Calls.{Pool, Start, start, Lengths}
 use Rattle.plain.specs.Calls as Calls
 use Rattle.plain.proofs.Answers.{most}
 use Rattle.control.specs.Answers.{codeOf, numberOf}
-use Rattle.control.specs.declared.answer.Answer.the-variants.{Accepted, Allocated, Freed, NoDescriptor, NoRegion, Refused}
+use Rattle.control.specs.declared.answer.Answer.the-variants.{Accepted, Allocated, Freed, NoDescriptor, NoRegion}
+use Rattle.control.specs.declared.answer.Answer.the-variants.{Refused}
 use Rattle.control.specs.declared.answer.Answer as A
-use Rattle.stepped.specs.Outcome.{Effect}
+use Rattle.stepped.specs.Outcome.{Effect, Memories}
+use Rattle.stepped.specs.Calls.{effectOf}
 use Rattle.agreement.specs.Ends.{Begins, startRefusals}
-use Rattle.stepped.specs.Outcome.{Memories}
 use Rattle.agreement.specs.Events.{stepped, whole}
 use Rattle.agreement.proofs.Ends.{start-ends}
 use Rattle.agreement.proofs.Lent.{start-leaves}
 use Rattle.agreement.specs.Reached.{History, happened, Reached, by-event}
 use Rattle.agreement.proofs.Theorem.{reached-agrees}
-use Rattle.pool.specs.Call.{Call, effectOf}
-use Rattle.pool.specs.Call as Call
 use Rattle.demands.specs.Runs.{other, eventOf}
 use Rattle.demands.proofs.Acting.{shows}
-use Rattle.schedule.specs.Stand.{start}
-use Rattle.schedule.specs.Bytes.{lending, onBytes}
+use Rattle.schedule.specs.Stand.{named}
+use Rattle.schedule.specs.Bytes.{onPart, onBytes}
 use Rattle.schedule.specs.Plain.{numberIn, feeding, startedRegions, onPlain}
 use Rattle.stand_agreement.proofs.Parts.{part-length, part-back, back-length}
 use Rattle.stand_agreement.proofs.Fed.{StartIs, accepted, refused, start-is}
@@ -57,12 +56,12 @@ refusal NoDescriptor b h = absurd b
 refusal NoRegion b h = absurd b
 refusal (Refused n) b h = (n, refl)
 
-module _ {n : ℕ} {s : Memories} {p : Pool} (B : Beside n s p) (tasks regions : ℕ) (few : regions ≤ 4) where
+module _ {n : ℕ} {s : Memories} {p : Pool} (B : Beside n s p) (b : Start) (regions : ℕ) (few : regions ≤ 4) where
   abbrev lent : Memories
   lent = partOf regions s
 
   abbrev e : Effect
-  e = effectOf (Call.start tasks) (lent .control) (lent .area)
+  e = effectOf (start b) lent
 
   abbrev r : ℕ
   r = numberOf (e .answer)
@@ -73,46 +72,46 @@ module _ {n : ℕ} {s : Memories} {p : Pool} (B : Beside n s p) (tasks regions :
   abbrev before : Memories
   before = partOf (startedRegions p) s
 
-  abbrev c : Calls.Call
-  c = Calls.start 8192 (4096 * regions) tasks
+  abbrev lengths : Lengths
+  lengths = record { control = 8192; area = 4096 * regions }
 
   part-is : length (lent .area) ≡ 4096 * regions
   part-is = part-length (4096 * regions) (s .area) (omega (arith, few, B .area-is))
 
-  fed : whole (eventOf (Call.start tasks) lent) p ≡ Calls.call c p
+  fed : whole (eventOf (start b) lent) p ≡ Calls.call (start b) lengths p
   fed =
-      ap (λ (k : ℕ). Calls.call (Calls.start k (length (lent .area)) tasks) p) (tied B .length)
-      ∙ ap (λ (k : ℕ). Calls.call (Calls.start 8192 k tasks) p) part-is
+      ap (λ (k : ℕ). Calls.call (start b) (record { control = k; area = length (lent .area) }) p) (tied B .length)
+      ∙ ap (λ (k : ℕ). Calls.call (start b) (record { control = 8192; area = k }) p) part-is
 
   -- what the stepped run and the whole run have of it
-  number-same : r ≡ numberIn (Calls.call c p .1)
+  number-same : r ≡ numberIn (Calls.call (start b) lengths p .1)
   number-same =
-      let S = shows (other (Call.start tasks) lent left r) before (record { number = refl; control-is = refl; area-is = refl }, tt) in
-      let A = reached-agrees (B .history) before p (B .reached) (eventOf (Call.start tasks) lent) tt in
+      let S = shows (other (start b) lent left r) before (record { number = refl; control-is = refl; area-is = refl }, tt) in
+      let A = reached-agrees (B .history) before p (B .reached) (eventOf (start b) lent) tt in
       sum (S .answers) ∙ ap numberIn (A .0 .says) ∙ ap (λ x. numberIn (x .1)) fed
 
   abbrev H : History
-  H = happened (eventOf (Call.start tasks) lent) before p ∷ B .history
+  H = happened (eventOf (start b) lent) before p ∷ B .history
 
-  reached-after : Reached H (cond (eqb r 0) left before) (Calls.call c p .0)
+  reached-after : Reached H (cond (eqb r 0) left before) (Calls.call (start b) lengths p .0)
   reached-after =
-      let S = shows (other (Call.start tasks) lent left r) before (record { number = refl; control-is = refl; area-is = refl }, tt) in
-      subst (λ (z : Memories). Reached H z (Calls.call c p .0)) (S .leaves)
-      (subst (λ x. Reached H (stepped (eventOf (Call.start tasks) lent) before .0) (x .0)) fed
-      (by-event (B .reached) (eventOf (Call.start tasks) lent) tt))
+      let S = shows (other (start b) lent left r) before (record { number = refl; control-is = refl; area-is = refl }, tt) in
+      subst (λ (z : Memories). Reached H z (Calls.call (start b) lengths p .0)) (S .leaves)
+      (subst (λ x. Reached H (stepped (eventOf (start b) lent) before .0) (x .0)) fed
+      (by-event (B .reached) (eventOf (start b) lent) tt))
 
   answers : Begins startRefusals (e .answer)
-  answers = start-ends (length (lent .control)) (lent .area) tasks (lent .control) (lent .area) .answers
+  answers = start-ends (length (lent .control)) (lent .area) (b .tasks) (lent .control) (lent .area) .answers
 
   abbrev s′ : Memories
-  s′ = lending (Call.start tasks) (4096 * regions) s .0
+  s′ = onPart (start b) (4096 * regions) s .0
 
   abbrev p′ : Pool
-  p′ = Calls.call c p .0
+  p′ = Calls.call (start b) lengths p .0
 
   accepted-beside : r ≡ 0 → 1 ≤ p′ .tasks → p′ .regions ≡ regions → Beside (suc n) s′ p′
   accepted-beside h k g =
-      let kept : e .area ≡ lent .area = start-leaves (lent .area) tasks (length (lent .control)) (lent .control) (lent .area) (sym (number-code (e .answer) answers) ∙ h) in
+      let kept : e .area ≡ lent .area = start-leaves (lent .area) (b .tasks) (length (lent .control)) (lent .control) (lent .area) (sym (number-code (e .answer) answers) ∙ h) in
       let long : length (e .area) ≡ 4096 * regions = ap length kept ∙ part-is in
       let q : startedRegions p′ ≡ regions = ap (λ (b : Bool). cond b 0 (p′ .regions)) (ne-eqb (p′ .tasks) 0 (λ z. omega arith)) ∙ g in
       let back : partOf regions s′ ≡ left = λ i. record { control = e .control; area = part-back (4096 * regions) (s .area) (e .area) long i } in
@@ -123,28 +122,28 @@ module _ {n : ℕ} {s : Memories} {p : Pool} (B : Beside n s p) (tasks regions :
         reached =
             subst (λ (z : Memories). Reached H z p′)
             (ap (λ (b : Bool). cond b left before) (eq-eqb r 0 h) ∙ sym (ap (λ (k : ℕ). partOf k s′) q ∙ back)) reached-after;
-        most-won = most n c p (B .most-won);
+        most-won = most n (start b) lengths p (B .most-won);
       }
 
   refused-beside : r ≢ 0 → p′ ≡ p → Beside (suc n) s′ p′
   refused-beside h k =
       let R = refusal (e .answer) answers h in
-      let L = start-ends (length (lent .control)) (lent .area) tasks (lent .control) (lent .area) .leaves (R .0) (R .1) in
+      let L = start-ends (length (lent .control)) (lent .area) (b .tasks) (lent .control) (lent .area) .leaves (R .0) (R .1) in
       let same : s ≡ s′ = sym ((λ i. record { control = L .0 i; area = putMid 0 (4096 * regions) (s .area) (L .1 i) }) ∙ (λ i. record { control = s .control; area = put-same 0 (4096 * regions) (s .area) i })) in
       subst (λ (z : Memories). Beside (suc n) z p′) same (subst (λ (z : Pool). Beside (suc n) s z) (sym k) (later (omega arith) B))
 
-  by : StartIs tasks regions p (Calls.call c p) → Beside (suc n) s′ p′
+  by : StartIs regions p (Calls.call (start b) lengths p) → Beside (suc n) s′ p′
   by (accepted z k g) = accepted-beside (number-same ∙ z) k g
-  by (refused z k) = refused-beside (λ h. z (code-zero (Calls.call c p .1) (sym number-same ∙ h))) k
+  by (refused z k) = refused-beside (λ h. z (code-zero (Calls.call (start b) lengths p .1) (sym number-same ∙ h))) k
 
-  pub same-lent : SameAnswer (suc n) (lending (Call.start tasks) (4096 * regions) s) (feeding c p)
-  same-lent = record { number = number-same; beside = by (start-is tasks regions p) }
+  pub same-lent : SameAnswer (suc n) (onPart (start b) (4096 * regions) s) (feeding (start b) (4096 * regions) p)
+  same-lent = record { number = number-same; beside = by (start-is b regions p) }
 
 -- "more than 4 regions is 2", in both
-pub same-start : {n : ℕ} {s : Memories} {p : Pool} → Beside n s p → (tasks regions : ℕ)
-    → SameAnswer (suc n) (onBytes (start tasks regions) s) (onPlain (start tasks regions) p)
-same-start {n} {s} {p} B tasks regions = by-regions (decLt 4 regions)
+pub same-start : {n : ℕ} {s : Memories} {p : Pool} → Beside n s p → (b : Start) (regions : ℕ)
+    → SameAnswer (suc n) (onBytes (start b) (named regions) s) (onPlain (start b) (named regions) p)
+same-start {n} {s} {p} B b regions = by-regions (decLt 4 regions)
   where
-    by-regions : Dec (4 < regions) → SameAnswer (suc n) (onBytes (start tasks regions) s) (onPlain (start tasks regions) p)
+    by-regions : Dec (4 < regions) → SameAnswer (suc n) (onBytes (start b) (named regions) s) (onPlain (start b) (named regions) p)
     by-regions (yes h) = rw (lt-ltb 4 regions h) (record { number = refl; beside = later (omega arith) B })
-    by-regions (no h) = rw (le-ltb 4 regions (omega arith)) (same-lent B tasks regions (omega arith))
+    by-regions (no h) = rw (le-ltb 4 regions (omega arith)) (same-lent B b regions (omega arith))

@@ -1,4 +1,4 @@
--- What a call leaves of the numbers that the plain pool was started with. Assumes nothing.
+-- What a call leaves of the numbers that the plain pool was started with.
 use Prim.Native.Nat.{ℕ, _*_, _≤_}
 use mathlib.Core.Path.{_≡_, refl}
 use mathlib.Core.Logic.{_≢_}
@@ -6,7 +6,7 @@ use native.Mathlib.Omega.{arith}
 use native.Mathlib.Decide.{ℕ-discrete, decLt}
 use Rattle.plain.specs.Moves.{Answer}
 use Rattle.plain.specs.Steps.{Result}
-use Rattle.plain.specs.Calls.{Pool}
+use Rattle.plain.specs.Calls.{Pool, Start, Lengths}
 use Rattle.plain.specs.Calls as Calls
 use Rattle.plain.proofs.Tests.{either}
 use Rattle.schedule.specs.Plain.{numberIn, startedRegions}
@@ -16,28 +16,28 @@ abbrev pub SameStart : Pool → Pool → Type 0
 SameStart p p′ = (p′ .tasks ≡ p .tasks) × (p′ .regions ≡ p .regions)
 
 -- a call that is no start
-tested-keeps : (control area t : ℕ) (p : Pool) (x : Result) → SameStart p (Calls.tested control area t p x .0)
-tested-keeps control area t p x =
+tested-keeps : (t : ℕ) (lent : Lengths) (p : Pool) (x : Result) → SameStart p (Calls.tested t lent p x .0)
+tested-keeps t lent p x =
     let Q : Pool × Answer → Type 0 = λ z. SameStart p (z .0) in
-    either Q (ℕ-discrete control 8192) _ _
+    either Q (ℕ-discrete (lent .control) 8192) _ _
     (λ a. either Q (ℕ-discrete (p .tasks) 0) _ _ (λ b. (refl, refl))
-    (λ b. either Q (ℕ-discrete area (4096 * p .regions)) _ _
+    (λ b. either Q (ℕ-discrete (lent .area) (4096 * p .regions)) _ _
     (λ c. either Q (decLt t (p .tasks)) _ _ (λ d. (refl, refl)) (λ d. (refl, refl)))
     (λ c. (refl, refl))))
     (λ a. (refl, refl))
 
-module _ (control area t : ℕ) (p : Pool) where
-  pub allocate-keeps : (size : ℕ) → SameStart p (Calls.call (Calls.allocate control area t size) p .0)
+module _ (lent : Lengths) (t : ℕ) (p : Pool) where
+  pub allocate-keeps : (size : ℕ) → SameStart p (Calls.call (Calls.allocate t size) lent p .0)
   unfolding Calls.call
-  allocate-keeps size = tested-keeps control area t p _
+  allocate-keeps size = tested-keeps t lent p _
 
-  pub free-keeps : (u : ℕ) → SameStart p (Calls.call (Calls.free control area t u) p .0)
+  pub free-keeps : (u : ℕ) → SameStart p (Calls.call (Calls.free t u) lent p .0)
   unfolding Calls.call
-  free-keeps u = tested-keeps control area t p _
+  free-keeps u = tested-keeps t lent p _
 
-  pub go-keeps : SameStart p (Calls.call (Calls.go control area t) p .0)
+  pub step-keeps : SameStart p (Calls.call (Calls.step t) lent p .0)
   unfolding Calls.call
-  go-keeps = tested-keeps control area t p _
+  step-keeps = tested-keeps t lent p _
 
 pub same-regions : (p p′ : Pool) → SameStart p p′ → startedRegions p′ ≡ startedRegions p
 same-regions p p′ h = rw (h .0, h .1) refl
@@ -45,16 +45,17 @@ same-regions p p′ h = rw (h .0, h .1) refl
 -- ---- a start
 
 -- an accepted start: its tasks and regions; a refused one leaves the pool
-pub data StartIs (tasks regions : ℕ) (p : Pool) (x : Pool × Answer) : Type 0 where
-  accepted : numberIn (x .1) ≡ 0 → 1 ≤ x .0 .tasks → x .0 .regions ≡ regions → StartIs tasks regions p x
-  refused : x .1 .code ≢ 0 → x .0 ≡ p → StartIs tasks regions p x
+pub data StartIs (regions : ℕ) (p : Pool) (x : Pool × Answer) : Type 0 where
+  accepted : numberIn (x .1) ≡ 0 → 1 ≤ x .0 .tasks → x .0 .regions ≡ regions → StartIs regions p x
+  refused : x .1 .code ≢ 0 → x .0 ≡ p → StartIs regions p x
 
-pub start-is : (tasks regions : ℕ) (p : Pool) → StartIs tasks regions p (Calls.call (Calls.start 8192 (4096 * regions) tasks) p)
+pub start-is : (b : Start) (regions : ℕ) (p : Pool)
+    → StartIs regions p (Calls.call (Calls.start b) (record { control = 8192; area = 4096 * regions }) p)
 unfolding Calls.call
-start-is tasks regions p =
-    let Q = StartIs tasks regions p in
+start-is b regions p =
+    let Q = StartIs regions p in
     either Q (ℕ-discrete 8192 8192) _ _
     (λ a. either Q (Calls.area? (4096 * regions)) _ _
-    (λ b. either Q (Calls.tasks? tasks) _ _ (λ c. accepted refl (c .0) (omega arith)) (λ c. refused (λ e. absurd (omega arith)) refl))
+    (λ b. either Q (Calls.tasks? (b .tasks)) _ _ (λ c. accepted refl (c .0) (omega arith)) (λ c. refused (λ e. absurd (omega arith)) refl))
     (λ b. refused (λ e. absurd (omega arith)) refl))
     (λ a. refused (λ e. absurd (omega arith)) refl)

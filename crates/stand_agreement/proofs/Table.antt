@@ -1,5 +1,5 @@
 -- The table of a schedule: the stand on bytes writes the lines and the totals of the stand over the plain pool.
--- Assumes nothing.
+--
 use Prim.Native.Nat.{ℕ, zero, suc, _+_, _*_, _%_, _-_, _≤_, _<_}
 use mathlib.Core.Path.{_≡_, refl, sym, ap, _∙_}
 use mathlib.Core.List.{List, [], _∷_}
@@ -10,7 +10,7 @@ use lib.Dec.{eqb, leb}
 use lib.ListN.{length, getD, length-replicate}
 use Rattle.fields.specs.Little.{Bytes, getLE}
 use Rattle.fields.proofs.Numbers.{getLE-lt}
-use Rattle.plain.specs.Calls.{Pool, unstarted}
+use Rattle.plain.specs.Calls.{Pool, step, unstarted}
 use Rattle.fields.specs.Columns.{at as atColumn, width}
 use Rattle.control.specs.Layout.{layout, Tasks}
 use Rattle.stepped.specs.Outcome.{Memories}
@@ -23,7 +23,7 @@ use Rattle.schedule.specs.declared.tally.Tally.{Tally}
 use Rattle.schedule.specs.declared.treat.Line.{Line}
 use Rattle.schedule.specs.Records.{wideOf, recordAt, entryAt, endOf}
 use Rattle.schedule.specs.Tally.{none, counted}
-use Rattle.schedule.specs.Stand.{Request, start, allocate, free, step, lineOf, runs, treated, table}
+use Rattle.schedule.specs.Stand.{as-started, lineOf, runs, treated, table}
 use Rattle.schedule.specs.Bytes.{zeros, onBytes}
 use Rattle.schedule.specs.Plain.{onPlain}
 use Rattle.stand_agreement.proofs.Beside.{partOf, Beside, later, SameAnswer, same-allocate, same-free, same-step}
@@ -73,32 +73,25 @@ record-fits input at b l =
     (λ f. bad))
     (λ e. bad)
 
--- ---- requests, runs and records
-
-same-request : {n : ℕ} {s : Memories} {p : Pool} (q : Request) → Beside n s p → n < 4294967296
-    → SameAnswer (suc n) (onBytes q s) (onPlain q p)
-same-request (start tasks regions) B l = same-start B tasks regions
-same-request (allocate t size) B l = same-allocate B l t size
-same-request (free t u) B l = same-free B l t u
-same-request (step t) B l = same-step B l t
+-- ---- runs and records
 
 same-runs : (m n a t : ℕ) (s : Memories) (p : Pool) → Beside n s p → n + m < 4294967296
     → SameAnswer (n + m) (runs onBytes a t m s) (runs onPlain a t m p)
 unfolding runs
 same-runs zero n a t s p B l = record { number = refl; beside = later (omega arith) B }
 same-runs (suc m) n a t s p B l =
-    let one = same-request (step t) B (omega arith) in
-    by one (same-runs m (suc n) 0 t (onBytes (step t) s .0) (onPlain (step t) p .0) (one .beside) (omega arith))
-    (ℕ-discrete (onPlain (step t) p .1) 0)
+    let one = same-step B (omega arith) t in
+    by one (same-runs m (suc n) 0 t (onBytes (step t) as-started s .0) (onPlain (step t) as-started p .0) (one .beside) (omega arith))
+    (ℕ-discrete (onPlain (step t) as-started p .1) 0)
   where
-    by : SameAnswer (suc n) (onBytes (step t) s) (onPlain (step t) p)
-        → SameAnswer (suc n + m) (runs onBytes 0 t m (onBytes (step t) s .0)) (runs onPlain 0 t m (onPlain (step t) p .0))
-        → Dec (onPlain (step t) p .1 ≡ 0) → SameAnswer (n + suc m) (runs onBytes a t (suc m) s) (runs onPlain a t (suc m) p)
+    by : SameAnswer (suc n) (onBytes (step t) as-started s) (onPlain (step t) as-started p)
+        → SameAnswer (suc n + m) (runs onBytes 0 t m (onBytes (step t) as-started s .0)) (runs onPlain 0 t m (onPlain (step t) as-started p .0))
+        → Dec (onPlain (step t) as-started p .1 ≡ 0) → SameAnswer (n + suc m) (runs onBytes a t (suc m) s) (runs onPlain a t (suc m) p)
     by one rest (yes e) =
-        rw (eq-eqb (onBytes (step t) s .1) 0 (one .number ∙ e), eq-eqb (onPlain (step t) p .1) 0 e)
+        rw (eq-eqb (onBytes (step t) as-started s .1) 0 (one .number ∙ e), eq-eqb (onPlain (step t) as-started p .1) 0 e)
         (record { number = rest .number; beside = later (omega arith) (rest .beside) })
     by one rest (no k) =
-        rw (ne-eqb (onBytes (step t) s .1) 0 (λ e. k (sym (one .number) ∙ e)), ne-eqb (onPlain (step t) p .1) 0 k)
+        rw (ne-eqb (onBytes (step t) as-started s .1) 0 (λ e. k (sym (one .number) ∙ e)), ne-eqb (onPlain (step t) as-started p .1) 0 k)
         (record { number = one .number; beside = later (omega arith) (one .beside) })
 
 after : {n : ℕ} {x : Memories × ℕ} {y : Pool × ℕ} → SameAnswer (suc n) x y → SameAnswer (n + 65535) x y
@@ -106,10 +99,10 @@ after S = record { number = S .number; beside = later (omega arith) (S .beside) 
 
 same-treated : {n : ℕ} {s : Memories} {p : Pool} (r : Record) → mostOf r ≤ 65535 → Beside n s p → n + 65535 < 4294967296
     → SameAnswer (n + 65535) (treated onBytes r s) (treated onPlain r p)
-same-treated (Start tasks regions) m B l = after (same-request (start tasks regions) B (omega arith))
-same-treated (Allocate t size) m B l = after (same-request (allocate t size) B (omega arith))
-same-treated (Free t u) m B l = after (same-request (free t u) B (omega arith))
-same-treated (Step t) m B l = after (same-request (step t) B (omega arith))
+same-treated (Start tasks regions) m B l = after (same-start B (record { tasks = tasks }) regions)
+same-treated (Allocate t size) m B l = after (same-allocate B (omega arith) t size)
+same-treated (Free t u) m B l = after (same-free B (omega arith) t u)
+same-treated (Step t) m B l = after (same-step B (omega arith) t)
 same-treated {n} {s} {p} (Run t most) m B l =
     let S = same-runs most n 0 t s p B (omega (arith, m)) in
     record { number = S .number; beside = later (omega (arith, m)) (S .beside) }

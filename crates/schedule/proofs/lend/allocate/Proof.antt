@@ -1,7 +1,8 @@
--- The area of the last start is lent, and only read. Assumes nothing.
+-- The area of the last start is lent, and only read.
 use Prim.Native.Nat.{_-_}
 use native.Mathlib.Omega.{arith}
-use Rattle.schedule.proofs.Lending.{allocate-does}
+use Rattle.plain.specs.Calls.{allocate}
+use Rattle.schedule.proofs.Lending.{shown-does}
 use borrow.Author.Needs.{needs}
 use Rattle.schedule.proofs.lend.allocate.Statement.{statement}
 use Rattle.schedule.proofs.lend.allocate.Tie as tie
@@ -10,7 +11,7 @@ returns : tie.Need-returns
 returns c =
     let called = c .before .before in
     let read = called .before .before .before .before .lent in
-    allocate-does _ _ _ (read .result - 0) _ _ _ (called .pool-begin-allocate .ensures) (omega (arith, read .ensures .0))
+    shown-does (allocate _ _) _ _ _ (read .result - 0) _ (omega (arith, read .ensures .0)) (called .pool-begin-allocate .ensures)
 
 pub allocate-spec : {M : Type 1} → statement M
 allocate-spec =
