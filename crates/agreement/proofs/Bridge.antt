@@ -117,7 +117,8 @@ mark-clear v u =
 
 -- After writes that change the view v to v′: what is shared is as in b, and of the tasks' parts only that of t, now s,
 -- has changed. The first premise is `refl` where only fields of tasks were written.
-pub becomes : (v v′ : View) (area : List ℕ) (t : ℕ) (s : Slot) (b : Contents) → contentsOf v′ area ≡ withSlots (slotOf v′) b
+pub becomes : (v v′ : View) (area : List ℕ) (t : ℕ) (s : Slot) (b : Contents)
+    → contentsOf v′ area ≡ withSlots (slotOf v′) b
     → b .slot ≡ slotOf v → slotOf v′ t ≡ s → ((j : ℕ) → t ≢ j → slotOf v′ j ≡ slotOf v j)
     → contentsOf v′ area ≡ setSlot t s b
 becomes v v′ area t s b e f own others =

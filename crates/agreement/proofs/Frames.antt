@@ -99,7 +99,8 @@ module _ {a a′ : Contents} {m m′ : Mem} {T : Task} (K : Framed a a′ m m′
   }
 
 -- the blocks under way count with the task's
-under-links : {a a′ : Contents} {m m′ : Mem} {T : Task} → Framed a a′ m m′ T → (v : ℕ) → 1 ≤ count v (underWay (T .place))
+under-links : {a a′ : Contents} {m m′ : Mem} {T : Task} → Framed a a′ m m′ T → (v : ℕ)
+    → 1 ≤ count v (underWay (T .place))
     → link (a′ .area) v ≡ link (a .area) v
 under-links K v h = K .links v (omega arith)
 

@@ -44,7 +44,8 @@ next-set spare-regions t s x n a = update-same (a .lists .regionNext) x n
 
 module _ {regions : ℕ} {v : View} {area : List ℕ} {m : Mem} {t : ℕ} {p : Place} {k : ℕ → List ℕ}
     (w : At regions v area m t p k) where
-  pub held-below : {ℓ items : ℕ} {nx : ℕ → Field} {column : Contents → ℕ → ℕ} (K : Kind regions ℓ items nx column) (x : ℕ)
+  pub held-below : {ℓ items : ℕ} {nx : ℕ → Field} {column : Contents → ℕ → ℕ} (K : Kind regions ℓ items nx column)
+      (x : ℕ)
       → Holds K x p → x < items
   held-below (descriptors l) x h = descriptor-in-hand (w .pair .turn) x h
   held-below spare-regions x h = region-in-hand (w .pair .turn) x h
@@ -61,7 +62,8 @@ module _ {regions : ℕ} {v : View} {area : List ℕ} {m : Mem} {t : ℕ} {p : P
       record {
         says = refl;
         keeps = (refl, refl);
-        rel = shares w ws s p′ (setDescriptorNext x n (contentsOf v area)) m (dnexting (w .pair) x n s (taskOf p′ k) h i)
+        rel =
+            shares w ws s p′ (setDescriptorNext x n (contentsOf v area)) m (dnexting (w .pair) x n s (taskOf p′ k) h i)
             (descriptorNext-written v (slotOf (assigned ws v)) area x n) refl refl
             (rw (eq-eqb t t refl)) (λ j n. rw (ne-eqb t j n)) refl refl pl;
         sound = omega (arith, w .pair .turn .fits, descriptor-in-hand (w .pair .turn) x h);

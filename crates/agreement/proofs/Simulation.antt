@@ -97,7 +97,8 @@ module _ {s₁ : Memories} {s : Pool} (S : Tied s₁ s) where
     Run o = ran (effect o (s₁ .control) (s₁ .area))
 
     test-five : control ≡ CONTROL-BYTES → 1 ≤ s .tasks → area ≡ REGION-BYTES * s .regions → (d : Dec (t < s .tasks))
-        → Alike (HandsKept s₁ s) (Run (cond (ltb t (v Tasks)) x (refuse 5))) (if d (Plain.became s y) (Plain.refuse 5 s))
+        → Alike (HandsKept s₁ s) (Run (cond (ltb t (v Tasks)) x (refuse 5)))
+        (if d (Plain.became s y) (Plain.refuse 5 s))
     test-five p q r (yes l) =
         let T : Taken (record { control = control; area = area }) t s =
         record { control-is = p; started = q; area-is = r; below = l } in

@@ -40,7 +40,8 @@ use Rattle.agreement.proofs.Clearing.{f4-clear-both}
 use Rattle.agreement.proofs.WorkPlaces.{work-place}
 
 module _ {regions : ℕ} {v : View} {area : List ℕ} {m : Mem} {t : ℕ} {k : ℕ → List ℕ} where
-  work-both : {p : Work} → At regions v area m t (working p) k → WorkRelated regions (contentsOf v area) m (slotOf v t) p
+  work-both : {p : Work} → At regions v area m t (working p) k
+      → WorkRelated regions (contentsOf v area) m (slotOf v t) p
       → Events.Near (m .won) (notedAt p)
       → Both regions v area m (Stepped.stepAt v (link area) regions t (v (TaskClass t)) (v (TaskPlace t)))
       (Steps.stepAt t k p m)

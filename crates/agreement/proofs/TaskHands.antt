@@ -134,7 +134,8 @@ module _ (regions : ℕ) (v : View) (area : List ℕ) (m : Mem) (t : ℕ) (k : �
   no-move : (POP-PARTIAL ≤ v (TaskPlace t) → v (TaskPlace t) < A3-READ → ⊥) → Lists
   no-move h = none regions v m t h
 
-  numbers-at-work : {p : Work} → Turning (working p) → WorkRelated regions (contentsOf v area) m s p → Ranged (working p)
+  numbers-at-work : {p : Work} → Turning (working p) → WorkRelated regions (contentsOf v area) m s p
+      → Ranged (working p)
   numbers-at-work w (r-a1 e) = (no-move (omega arith), (omega arith, omega arith), allocates (omega arith))
   numbers-at-work w (r-partial h) =
       let i = pop-span h in

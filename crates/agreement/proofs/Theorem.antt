@@ -34,7 +34,8 @@ call-untouched (allocate t size) lent s₁ s h = h
 call-untouched (free t u) lent s₁ s h = h
 call-untouched (step t) lent s₁ s h = h
 
-untouched : (e : Event) (s₁ : Memories) (s : Pool) → EventKeeps e s₁ s (stepped e s₁ .0) → Untouched e s₁ (stepped e s₁) s
+untouched : (e : Event) (s₁ : Memories) (s : Pool) → EventKeeps e s₁ s (stepped e s₁ .0)
+    → Untouched e s₁ (stepped e s₁) s
 untouched (call k lent) s₁ s h = call-untouched k lent s₁ s h
 untouched (write at b) s₁ s h = tt
 

@@ -1,4 +1,4 @@
--- What an act leaves and answers is what the stepped run has at the event. Assumes nothing.
+-- What an act leaves and answers is what the stepped run has at the event.
 use mathlib.Core.Path.{_≡_, refl, sym, ap, subst, _∙_}
 use mathlib.Core.Logic.{_≢_, inl, inr, ⊎-elim}
 use mathlib.Core.Bool.{Bool, cond, false≢true}
@@ -7,6 +7,7 @@ use Prim.Native.Nat.{ℕ, _<_}
 use native.Mathlib.Omega.{arith}
 use borrow.Author.Tests.{eq-eqb, ne-eqb, le-leb}
 use lib.ListN.{length}
+use Rattle.limits.specs.Limits.{TASKS}
 use Rattle.fields.specs.Columns.{View}
 use Rattle.plain.specs.Calls.{Call, Start, start, allocate, free, step}
 use Rattle.control.specs.Layout.{Tasks, seen}
@@ -51,9 +52,10 @@ own-shows k left r s C = record {
 not-started : (control area : ℕ) (v : View) (t : ℕ) (x y : Outcome) → v Tasks ≡ 0
     → Calls.tested control area v t x ≡ Calls.tested control area v t y
 unfolding Calls.tested
-not-started control area v t x y h = rw (le-leb (v Tasks) 8 (omega (arith, h)), eq-eqb (v Tasks) 0 h) refl
+not-started control area v t x y h = rw (le-leb (v Tasks) TASKS (omega (arith, h)), eq-eqb (v Tasks) 0 h) refl
 
--- a call on other lengths is refused by the same number, whatever the control memory holds and whatever is behind the tests
+-- a call on other lengths is refused by the same number, whatever the control memory holds and whatever is behind the
+-- tests
 refused-alike : (s lent : Memories) (t : ℕ) (x y : Outcome) → OtherLength s lent
     → (n : ℕ)
     × ((Calls.tested (length (lent .control)) (length (lent .area)) (seen (s .control)) t x ≡ refuse n)
@@ -75,14 +77,16 @@ refused-alike s lent t x y (inr h) =
 
 module _ (s lent left : Memories) (r : ℕ) where
   -- two outcomes that refuse by the same number: the pool's memories stay, and the answers are the same
-  both-refused : {o o′ : Outcome} {n : ℕ} → o ≡ refuse n → o′ ≡ refuse n → r ≡ numberOf (o′ .answer) → codeOf (o′ .answer) < 256
+  both-refused : {o o′ : Outcome} {n : ℕ} → o ≡ refuse n → o′ ≡ refuse n → r ≡ numberOf (o′ .answer)
+      → codeOf (o′ .answer) < 256
       → (ran (effect o (s .control) (s .area)) .0 ≡ s) × Number r (ran (effect o (s .control) (s .area)) .1)
   both-refused {o} {o′} {n} p q e l = (
     ap (λ (z : Outcome). ran (effect z (s .control) (s .area)) .0) p,
     told-as (o .answer) (o′ .answer) (o .decided) e (ap (λ (z : Outcome). z .answer) (q ∙ sym p)) l,
   )
 
-  allocate-shows : (t size : ℕ) → Contract (allocate t size) lent left r → OtherLength s lent → Shows (other (allocate t size) lent left r) s
+  allocate-shows : (t size : ℕ) → Contract (allocate t size) lent left r → OtherLength s lent
+      → Shows (other (allocate t size) lent left r) s
   unfolding Calls.allocateOutcome
   allocate-shows t size C h =
       let R = refused-alike s lent t _ _ h in
@@ -118,7 +122,10 @@ module _ (s lent left : Memories) (r : ℕ) where
     refused-shows : (n : ℕ) → e .answer ≡ Refused n → e′ .answer ≡ Refused n → StartShown
     refused-shows n p q =
         let L = start-ends (length (lent .control)) (lent .area) (b .tasks) (s .control) (s .area) .leaves n p in
-        let z : n ≢ 0 = λ h. false≢true (ap (oneOf startRefusals) (sym h) ∙ subst (Begins startRefusals) q (start-ends (length (lent .control)) (lent .area) (b .tasks) (lent .control) (lent .area) .answers)) in
+        let z : n ≢ 0 =
+        λ h. false≢true
+        (ap (oneOf startRefusals) (sym h) ∙ subst (Begins startRefusals) q
+        (start-ends (length (lent .control)) (lent .area) (b .tasks) (lent .control) (lent .area) .answers)) in
         record {
           leaves =
               (λ i. record { control = L .0 i; area = L .1 i })
@@ -133,7 +140,9 @@ module _ (s lent left : Memories) (r : ℕ) where
           ap (λ (z : Effect). ran z .0) p
           ∙ left-is C
           ∙ sym (ap (λ (b : Bool). cond b left s) (eq-eqb r 0 (C .number ∙ ap numberOf q)));
-      answers = told-as (e .answer) (e′ .answer) (e .decided) (C .number) (ap (λ (z : Effect). z .answer) (sym p)) (code-small (start b) lent);
+      answers =
+          told-as (e .answer) (e′ .answer) (e .decided) (C .number) (ap (λ (z : Effect). z .answer) (sym p))
+          (code-small (start b) lent);
     }
 
     equal-shows : e ≡ e′ → (a : Answer) → e′ .answer ≡ a → Begins startRefusals a → StartShown
@@ -147,13 +156,17 @@ module _ (s lent left : Memories) (r : ℕ) where
     start-shows : StartShown
     start-shows =
         ⊎-elim
-        (λ p. equal-shows p (e′ .answer) refl (start-ends (length (lent .control)) (lent .area) (b .tasks) (lent .control) (lent .area) .answers))
-        (λ q. refused-shows (q .0) (ap (λ (z : Effect). z .answer) (q .1 .0)) (ap (λ (z : Effect). z .answer) (q .1 .1)))
-        (start-elsewhere (lent .area) (b .tasks) (length (lent .control)) (s .control) (s .area) (lent .control) (lent .area))
+        (λ p. equal-shows p (e′ .answer) refl
+        (start-ends (length (lent .control)) (lent .area) (b .tasks) (lent .control) (lent .area) .answers))
+        (λ q. refused-shows (q .0) (ap (λ (z : Effect). z .answer) (q .1 .0))
+        (ap (λ (z : Effect). z .answer) (q .1 .1)))
+        (start-elsewhere (lent .area) (b .tasks) (length (lent .control)) (s .control) (s .area) (lent .control)
+        (lent .area))
 
 -- ---- every act
 
-other-shows : (k : Call) (lent left : Memories) (r : ℕ) (s : Memories) → Happens (other k lent left r) s → Shows (other k lent left r) s
+other-shows : (k : Call) (lent left : Memories) (r : ℕ) (s : Memories) → Happens (other k lent left r) s
+    → Shows (other k lent left r) s
 other-shows (start b) lent left r s h = start-shows s lent left r b (h .0)
 other-shows (allocate t size) lent left r s h = allocate-shows s lent left r t size (h .0) (h .1)
 other-shows (free t u) lent left r s h = free-shows s lent left r t u (h .0) (h .1)

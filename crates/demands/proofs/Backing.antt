@@ -1,4 +1,4 @@
--- A task that pushes its descriptor back stays in that push until it ends with 13. Assumes nothing.
+-- A task that pushes its descriptor back stays in that push until it ends with 13.
 use Prim.Native.Nat.{ℕ, _≤_}
 use mathlib.Core.Path.{_≡_, refl, sym, ap, subst, _∙_}
 use mathlib.Core.Logic.{_⊎_, inl, inr}
@@ -7,6 +7,8 @@ use mathlib.Core.List.{List, [], _∷_}
 use native.Mathlib.Omega.{arith}
 use native.Mathlib.Decide.{ℕ-discrete}
 use lib.Dec.{eqb, ltb, leb}
+use Rattle.limits.specs.Limits.{CLASSES, DESCRIPTORS}
+use Rattle.control.specs.Places.{IDLE, PUSH-BACK}
 use Rattle.fields.specs.Columns.{View, Write, _:=_, assigned}
 use Rattle.words.specs.Head.{itemOf}
 use Rattle.control.specs.Layout.{Head, TaskHead, TaskPlace, TaskClass, Regions}
@@ -26,40 +28,51 @@ module _ (v : View) (t : ℕ) where
   Stays o = (o .answer ≡ NoRegion) ⊎ InPush Back (placeAfter o v t)
 
   -- a step that writes this place of the push
-  to : (q : ℕ) (ws : List Write) → 14 ≤ q → q ≤ 16 → Keeps t ws → InPush Back (assigned (TaskPlace t := q ∷ ws) v (TaskPlace t))
+  to : (q : ℕ) (ws : List Write) → PUSH-BACK ≤ q → q ≤ PUSH-BACK + 2 → Keeps t ws
+      → InPush Back (assigned (TaskPlace t := q ∷ ws) v (TaskPlace t))
   to q ws l m h = record { from = omega (arith, l, sent v t q ws h); to = omega (arith, m, sent v t q ws h) }
 
   module _ (link : ℕ → ℕ) (regions c : ℕ) (here : InPush Back (v (TaskPlace t))) where
     -- each of the three steps of the push
     at-read : Stays (Lists.pushRead v regions t c Back)
     unfolding Lists.pushRead
-    at-read = branch Stays (leb (itemOf (v (Head (Lists.pushList Back c)))) 64) (λ e. inr (to 15 (TaskHead t := v (Head (Lists.pushList Back c)) ∷ []) (omega arith) (omega arith) (λ u. refl))) (λ e. inr here)
+    at-read =
+        branch Stays (leb (itemOf (v (Head (Lists.pushList Back c)))) DESCRIPTORS)
+        (λ e. inr
+        (to (PUSH-BACK + 1) (TaskHead t := v (Head (Lists.pushList Back c)) ∷ []) (omega arith) (omega arith)
+        (λ u. refl))) (λ e. inr here)
 
     at-next : Stays (Lists.pushNext v regions t c Back)
     unfolding Lists.pushNext
     at-next =
-        branch Stays (ltb (v (Lists.itemField Back t)) 64 && leb (itemOf (v (TaskHead t))) 64)
-        (λ e. inr (to 16 (Lists.pushNextField Back (v (Lists.itemField Back t)) := itemOf (v (TaskHead t)) ∷ []) (omega arith) (omega arith) (λ u. refl))) (λ e. inr here)
+        branch Stays (ltb (v (Lists.itemField Back t)) DESCRIPTORS && leb (itemOf (v (TaskHead t))) DESCRIPTORS)
+        (λ e. inr
+        (to (PUSH-BACK + 2) (Lists.pushNextField Back (v (Lists.itemField Back t)) := itemOf (v (TaskHead t)) ∷ [])
+        (omega arith) (omega arith) (λ u. refl))) (λ e. inr here)
 
     at-exchange : Stays (Lists.pushExchange v regions t c Back)
     unfolding Lists.pushExchange
     at-exchange =
         branch Stays
-        (ltb (v (Lists.itemField Back t)) 64 && leb (itemOf (v (TaskHead t))) 64 && leb (itemOf (v (Head (Lists.pushList Back c)))) 64)
-        (λ e. branch Stays (eqb (v (Head (Lists.pushList Back c))) (v (TaskHead t))) (λ f. inl refl) (λ f. inr (to 14 [] (omega arith) (omega arith) (λ u. refl))))
+        (ltb (v (Lists.itemField Back t)) DESCRIPTORS && leb (itemOf (v (TaskHead t))) DESCRIPTORS && leb
+        (itemOf (v (Head (Lists.pushList Back c)))) DESCRIPTORS)
+        (λ e. branch Stays (eqb (v (Head (Lists.pushList Back c))) (v (TaskHead t))) (λ f. inl refl)
+        (λ f. inr (to PUSH-BACK [] (omega arith) (omega arith) (λ u. refl))))
         (λ e. inr here)
 
     at-place : Stays (Steps.stepAt v link regions t c (v (TaskPlace t)))
-    at-place = by (ℕ-discrete (v (TaskPlace t)) 14) (ℕ-discrete (v (TaskPlace t)) 15)
+    at-place = by (ℕ-discrete (v (TaskPlace t)) PUSH-BACK) (ℕ-discrete (v (TaskPlace t)) (PUSH-BACK + 1))
       where
         is : (q : ℕ) {x : Outcome} → Stays x → v (TaskPlace t) ≡ q → Steps.stepAt v link regions t c q ≡ x
             → Stays (Steps.stepAt v link regions t c (v (TaskPlace t)))
         is q h e p = subst Stays (sym (ap (Steps.stepAt v link regions t c) e ∙ p)) h
 
-        by : Dec (v (TaskPlace t) ≡ 14) → Dec (v (TaskPlace t) ≡ 15) → Stays (Steps.stepAt v link regions t c (v (TaskPlace t)))
-        by (yes e) d = is 14 at-read e (push-steps v link regions t c Back .0)
-        by (no n) (yes e) = is 15 at-next e (push-steps v link regions t c Back .1)
-        by (no n) (no m) = is 16 at-exchange (omega (arith, here .from, here .to)) (push-steps v link regions t c Back .2)
+        by : Dec (v (TaskPlace t) ≡ PUSH-BACK) → Dec (v (TaskPlace t) ≡ PUSH-BACK + 1)
+            → Stays (Steps.stepAt v link regions t c (v (TaskPlace t)))
+        by (yes e) d = is PUSH-BACK at-read e (push-steps v link regions t c Back .0)
+        by (no n) (yes e) = is (PUSH-BACK + 1) at-next e (push-steps v link regions t c Back .1)
+        by (no n) (no m) =
+            is (PUSH-BACK + 2) at-exchange (omega (arith, here .from, here .to)) (push-steps v link regions t c Back .2)
 
 -- at any step of the task, whatever the memories hold
 pub stays-back : (control area : ℕ) (v : View) (link : ℕ → ℕ) (t : ℕ) → InPush Back (v (TaskPlace t))
@@ -67,6 +80,7 @@ pub stays-back : (control area : ℕ) (v : View) (link : ℕ → ℕ) (t : ℕ) 
 unfolding Calls.stepOutcome Steps.step
 stays-back control area v link t here =
     tests (Stays v t) control area v t _ (λ n h. inr here)
-    (λ T. branch (Stays v t) (ltb 0 (v (TaskPlace t)))
-    (λ e. branch (Stays v t) (ltb (v (TaskClass t)) 16) (λ f. at-place v t link (v Regions) (v (TaskClass t)) here) (λ f. inr here))
+    (λ T. branch (Stays v t) (ltb IDLE (v (TaskPlace t)))
+    (λ e. branch (Stays v t) (ltb (v (TaskClass t)) CLASSES) (λ f. at-place v t link (v Regions) (v (TaskClass t)) here)
+    (λ f. inr here))
     (λ e. inr here))

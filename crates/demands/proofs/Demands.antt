@@ -1,7 +1,6 @@
--- The three demands, of the exported functions. Each law takes the contract of a function, `Contract call lent left r`: the call
--- was lent the memories `lent`, left the memories `left`, and answered r. That every call ends so, whatever it is lent, is what
--- the proofs of the functions say: they ask nothing of their caller.
--- Assumes nothing.
+-- The three demands, of the exported functions. Each law takes the contract of a function, `Contract call lent left r`:
+-- the call was lent the memories `lent`, left the memories `left`, and answered r. That every call ends so, whatever it
+-- is lent, is what the proofs of the functions say: they ask nothing of their caller.
 use mathlib.Core.Path.{_≡_, refl, sym, ap, subst, _∙_}
 use mathlib.Core.Logic.{_↔_, _⊎_, ⊎-elim, inl, inr}
 use mathlib.Core.Bool.{true, false≢true}
@@ -10,6 +9,8 @@ use Prim.Native.Nat.{ℕ, _%_, _<_}
 use borrow.Author.Tests.{eq-eqb, le-leb, ltb-true}
 use lib.Dec.{ltb, eqb}
 use lib.ListN.{length}
+use Rattle.limits.specs.Limits.{REGION-BYTES, AREA-BYTES, TASKS, CLASSES, MOST-BYTES}
+use Rattle.control.specs.Places.{IDLE, PLACES}
 use Rattle.limits.specs.Limits.{CONTROL-BYTES}
 use Rattle.fields.specs.Columns.{View}
 use Rattle.fields.specs.Little.{Bytes}
@@ -50,7 +51,8 @@ use Rattle.demands.proofs.Backing.{stays-back}
 -- ---- demand 1
 
 -- "A refused call changes no byte."
-pub refused-changes-nothing : (k : Call) (lent left : Memories) (r : ℕ) → Contract k lent left r → Refusal r → left ≡ lent
+pub refused-changes-nothing : (k : Call) (lent left : Memories) (r : ℕ) → Contract k lent left r → Refusal r
+    → left ≡ lent
 refused-changes-nothing k lent left r C h =
     let R = refused (effectOf k lent .answer) (subst Refusal (C .number) h) in
     let L = effect-leaves k (lending lent) lent (R .0) (R .1) in
@@ -64,9 +66,9 @@ unfolding Calls.allocateOutcome Calls.whenIdle Calls.beginAllocate
 no-links control area v t size =
     let P : Outcome → Type 0 = λ o. o .links ≡ [] in
     tests P control area v t _ (λ n h. refl)
-    (λ T. branch P (ltb (v (TaskPlace t)) 34)
-    (λ e. branch P (eqb (v (TaskPlace t)) 0)
-    (λ f. branch P (eqb size 0) (λ g. refl) (λ g. branch P (ltb 256 size) (λ h. refl) (λ h. refl)))
+    (λ T. branch P (ltb (v (TaskPlace t)) PLACES)
+    (λ e. branch P (eqb (v (TaskPlace t)) IDLE)
+    (λ f. branch P (eqb size 0) (λ g. refl) (λ g. branch P (ltb MOST-BYTES size) (λ h. refl) (λ h. refl)))
     (λ f. refl))
     (λ e. refl))
 
@@ -77,8 +79,8 @@ module _ (lent left : Memories) (r : ℕ) where
   abbrev area : ℕ
   area = length (lent .area)
 
-  -- "A call is refused by the first of the paper's tests that it fails, and by nothing else": a start, and the beginning of a
-  -- request, answer the number of the first test that fails, and 0 where all pass.
+  -- "A call is refused by the first of the paper's tests that it fails, and by nothing else": a start, and the
+  -- beginning of a request, answer the number of the first test that fails, and 0 where all pass.
   pub start-refused-first : (b : Start) → Contract (start b) lent left r
       → r ≡ firstFailed (startTests control area (b .tasks)) 0
   start-refused-first b C = C .number ∙ start-first control (lent .area) (b .tasks) (lent .control) (lent .area)
@@ -99,12 +101,14 @@ module _ (lent left : Memories) (r : ℕ) where
       (numberOf (stepAt v (link (lent .area)) (v Regions) t (v (TaskClass t)) (v (TaskPlace t)) .answer))
   step-refused-first t C = C .number ∙ step-first control area (seen (lent .control)) t (link (lent .area))
 
-  -- .. and a step is refused by the numbers of its tests alone, and by 14, where the step at its place reads a bad value
+  -- .. and a step is refused by the numbers of its tests alone, and by 14, where the step at its place reads a bad
+  -- value
   pub step-refused-by : (t : ℕ) → Contract (step t) lent left r → Refusal r → oneOf stepRefusals r ≡ true
   step-refused-by t C h =
       let o = Calls.stepOutcome control area (seen (lent .control)) (link (lent .area)) t in
       let R = refused (o .answer) (subst Refusal (C .number) h) in
-      let G = subst (Goes stepRefusals) (R .1) (step-ends control area (seen (lent .control)) (link (lent .area)) t .answers) in
+      let G =
+      subst (Goes stepRefusals) (R .1) (step-ends control area (seen (lent .control)) (link (lent .area)) t .answers) in
       ap (oneOf stepRefusals) (C .number ∙ ap numberOf (R .1)) ∙ G
 
   -- .. and where all of its tests pass, by 14 alone: "14 comes where the bad value is read". A place past the step list
@@ -118,7 +122,7 @@ module _ (lent left : Memories) (r : ℕ) where
       let a = stepAt v (link (lent .area)) (v Regions) t (v (TaskClass t)) (v (TaskPlace t)) .answer in
       let e : r ≡ numberOf a = step-refused-first t C ∙ none-failed ts (numberOf a) P in
       let R = refused a (subst Refusal e h) in
-      let class = ltb-true (v (TaskClass t)) 16 (Q .1 .0) in
+      let class = ltb-true (v (TaskClass t)) CLASSES (Q .1 .0) in
       let busy = ltb-true 0 (v (TaskPlace t)) (Q .0) in
       let G = place-goes control area v (link (lent .area)) t class busy in
       e ∙ ap numberOf (R .1) ∙ only 14 (R .0) (subst (Goes placeRefusals) (R .1) G)
@@ -128,7 +132,9 @@ module _ (lent left : Memories) (r : ℕ) where
       → Begun t size (lent .control) (lent .area) (left .control) (left .area)
   allocate-begins t size C h =
       let o = Calls.allocateOutcome control area (seen (lent .control)) t size in
-      let A = accepted allocateRefusals false≢true (o .answer) (allocate-ends control area (seen (lent .control)) t size .answers) (sym (C .number) ∙ h) in
+      let A =
+      accepted allocateRefusals false≢true (o .answer)
+      (allocate-ends control area (seen (lent .control)) t size .answers) (sym (C .number) ∙ h) in
       let B = smallest-class control area (seen (lent .control)) t size A in
       record {
         class = classOf size;
@@ -149,8 +155,8 @@ module _ (lent left : Memories) (r : ℕ) where
     answer-number : r ≡ numberOf (o .answer)
     answer-number = C .number
 
-    -- "'No descriptor' .. only and always where the list read is empty": 12 is answered exactly where the task reads the head of
-    -- the list of spare descriptors and finds it empty.
+    -- "'No descriptor' .. only and always where the list read is empty": 12 is answered exactly where the task reads
+    -- the head of the list of spare descriptors and finds it empty.
     pub twelve : (r ≡ 12) ↔ (Tested control area (seen (lent .control)) t × FindsEmpty Spare (seen (lent .control)) t)
     twelve =
         let E = no-descriptor control area (seen (lent .control)) (link (lent .area)) t in
@@ -167,10 +173,12 @@ module _ (lent left : Memories) (r : ℕ) where
     -- what is lent are bytes, and so the control memory that is left tells where the step leads
     module _ (bytes : Bytes (lent .control)) where
       left-place : seen (left .control) (TaskPlace t) ≡ placeAfter o (seen (lent .control)) t
-      left-place = ap (λ (b : List ℕ). seen b (TaskPlace t)) (C .control-is) ∙ step-place area (link (lent .area)) t (lent .control) bytes
+      left-place =
+          ap (λ (b : List ℕ). seen b (TaskPlace t)) (C .control-is)
+          ∙ step-place area (link (lent .area)) t (lent .control) bytes
 
-      -- A task that is not in the push back comes to it exactly where it reads the head of the list of spare regions and finds it
-      -- empty;
+      -- A task that is not in the push back comes to it exactly where it reads the head of the list of spare regions
+      -- and finds it empty;
       pub to-thirteen : (InPush Back (seen (lent .control) (TaskPlace t)) → ⊥)
           → InPush Back (seen (left .control) (TaskPlace t))
           ↔ (Tested control area (seen (lent .control)) t × FindsEmpty Region (seen (lent .control)) t)
@@ -186,14 +194,14 @@ module _ (lent left : Memories) (r : ℕ) where
           (stays-back control area (seen (lent .control)) (link (lent .area)) t here)
 
       -- "12 and 13 .. are a request's end .. and leave the task idle", and so does a finish.
-      pub ends-idle : Ended r → seen (left .control) (TaskPlace t) ≡ 0
+      pub ends-idle : Ended r → seen (left .control) (TaskPlace t) ≡ IDLE
       ends-idle h =
           let E = step-ends control area (seen (lent .control)) (link (lent .area)) t in
           left-place ∙ E .idle (end-told (o .answer) (E .answers) (subst Ended answer-number h))
 
 -- No call of another task moves a task: between two of its own calls it is where it was, until the next start.
 pub others-stay : (k : Call) (lent left : Memories) (r : ℕ) → Contract k lent left r → Bytes (lent .control)
-    → (u : ℕ) → u < 8 → OfAnother u k → seen (left .control) (TaskPlace u) ≡ seen (lent .control) (TaskPlace u)
+    → (u : ℕ) → u < TASKS → OfAnother u k → seen (left .control) (TaskPlace u) ≡ seen (lent .control) (TaskPlace u)
 others-stay (start b) lent left r C bytes u h n = absurd n
 others-stay (allocate t size) lent left r C bytes u h n =
     ap (λ (b : List ℕ). seen b (TaskPlace u)) (C .control-is)
@@ -213,7 +221,8 @@ left-by (own k left r) s H = tt
 left-by (other k lent left r) s H = refused-changes-nothing k lent left r (H .0)
 left-by (write at b) s H = tt
 
--- what the agreement says of the event of an act, it says of the act: the act left and answered what the stepped run has there
+-- what the agreement says of the event of an act, it says of the act: the act left and answered what the stepped run
+-- has there
 tells-by : (a : Act) (s : Memories) (p : Pool) → Happens a s → AgreesAt (event a s) s p → Tells a s p
 tells-by a s p H A =
     let S = shows a s H in
@@ -230,27 +239,29 @@ tells-by a s p H A =
 pub reached-tells : WhereverActs Tells
 reached-tells h s p R a H P = tells-by a s p H (reached-agrees h s p R (event a s) P)
 
--- "For every list of calls with users' writes between them, the stepped run and the whole run (the plain pool) decide the same moves
--- at the same calls, give the same code and value, never 14, and have after every call the same lists, chains and holders; each
--- block of an open region is in exactly one place." Here the stepped run is made of the contracts of the exported functions. From
--- any control memory that is not started.
-pub run-told : (acts : List Act) (s : Memories) → Unstarted s → Run acts s → Premises (events acts s) unstarted → Told acts s unstarted
+-- "For every list of calls with users' writes between them, the stepped run and the whole run (the plain pool) decide
+-- the same moves at the same calls, give the same code and value, never 14, and have after every call the same lists,
+-- chains and holders; each block of an open region is in exactly one place." Here the stepped run is made of the
+-- contracts of the exported functions. From any control memory that is not started.
+pub run-told : (acts : List Act) (s : Memories) → Unstarted s → Run acts s → Premises (events acts s) unstarted
+    → Told acts s unstarted
 run-told acts s U R P = along-acts Tells reached-tells (from-unstarted U) acts R P
 
 -- a start whose lengths and number of tasks are right passes its tests
-accepted-tests : (control area tasks : ℕ) → control ≡ 8192 → Plain.Area area → Plain.Tasks tasks
+accepted-tests : (control area tasks : ℕ) → control ≡ CONTROL-BYTES → Plain.Area area → Plain.Tasks tasks
     → firstFailed (startTests control area tasks) 0 ≡ 0
 accepted-tests control area tasks l a t = rw (
-  eq-eqb control 8192 l,
-  eq-eqb (area % 4096) 0 (a .0),
+  eq-eqb control CONTROL-BYTES l,
+  eq-eqb (area % REGION-BYTES) 0 (a .0),
   le-leb 1 area (a .1 .0),
-  le-leb area 65536 (a .1 .1),
+  le-leb area AREA-BYTES (a .1 .1),
   le-leb 1 tasks (t .0),
-  le-leb tasks 8 (t .1),
+  le-leb tasks TASKS (t .1),
 )
 
 -- such a start agrees, and a run begins with it, on any memories and beside any pool
-start-reaches : (s : Memories) (p : Pool) (b : Start) (control : ℕ) → control ≡ CONTROL-BYTES → Plain.Area (length (s .area))
+start-reaches : (s : Memories) (p : Pool) (b : Start) (control : ℕ) → control ≡ CONTROL-BYTES
+    → Plain.Area (length (s .area))
     → Plain.Tasks (b .tasks) → let e = Events.call (start b) (record { control = control; area = s .area }) in
     AgreesAt e s p × Reached (happened e s p ∷ []) (stepped e s .0) (whole e p .0)
 start-reaches s p b control l a t =

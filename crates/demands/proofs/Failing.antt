@@ -1,21 +1,26 @@
--- The number that a call answers is that of the first of its tests that fails. Assumes nothing.
+-- The number that a call answers is that of the first of its tests that fails.
 use mathlib.Core.Path.{_≡_, refl}
 use mathlib.Core.Bool.{Bool, true, false, cond, not, _&&_}
 use mathlib.Core.List.{List, [], _∷_, _++_}
 use Prim.Native.Nat.{ℕ, _*_, _/_, _%_, _-_}
 use lib.Dec.{ltb, leb, eqb}
 use lib.ListN.{length}
+use Rattle.limits.specs.Limits.{CONTROL-BYTES, REGION-BYTES, AREA-BYTES, TASKS, REGIONS, CLASSES, DESCRIPTORS}
+use Rattle.limits.specs.Limits.{MOST-BYTES}
+use Rattle.control.specs.Places.{IDLE, PLACES}
 use Rattle.fields.specs.Columns.{View}
 use Rattle.words.specs.Anchor.{EMPTY, anchorOf}
 use Rattle.words.specs.Mark.{isSet}
 use Rattle.classes.specs.Geometry.{regionOf, isFirst}
-use Rattle.control.specs.Layout.{Anchor, Marks, TaskPlace, TaskClass, DescriptorRegion, DescriptorClass, Map, Tasks, Regions}
+use Rattle.control.specs.Layout.{Anchor, Marks, TaskPlace, TaskClass, DescriptorRegion, DescriptorClass, Map, Tasks}
+use Rattle.control.specs.Layout.{Regions}
 use Rattle.control.specs.Answers.{numberOf}
 use Rattle.stepped.specs.Outcome.{Outcome, Effect}
 use Rattle.stepped.specs.Ranges.{oneTo, isAnchor}
 use Rattle.stepped.specs.Steps as Steps
 use Rattle.stepped.specs.Calls as Calls
-use Rattle.demands.specs.Tests.{Test, _or_, firstFailed, Passes, startTests, callTests, idleTests, sizeTests, unitTests, requestTests, allocateTests, freeTests, stepTests}
+use Rattle.demands.specs.Tests.{Test, _or_, firstFailed, Passes, startTests, callTests, idleTests, sizeTests}
+use Rattle.demands.specs.Tests.{unitTests, requestTests, allocateTests, freeTests, stepTests}
 
 -- a test, and one that is asked the other way round, by the numbers of the two ways on
 module _ {A : Type 0} (f : A → ℕ) where
@@ -36,11 +41,11 @@ module _ (control area : ℕ) (v : View) (t : ℕ) where
       → numbered (Calls.tested control area v t x) ≡ firstFailed (callTests control area v t ++ ts) k
   unfolding Calls.tested
   after-tests ts k x p =
-      passes numbered (eqb control 8192) _ _
-      (passes numbered (leb (v Tasks) 8) _ _
+      passes numbered (eqb control CONTROL-BYTES) _ _
+      (passes numbered (leb (v Tasks) TASKS) _ _
       (fails numbered (eqb (v Tasks) 0) _ _ refl
-      (passes numbered (oneTo 16 (v Regions)) _ _
-      (passes numbered (eqb area (4096 * v Regions)) _ _
+      (passes numbered (oneTo REGIONS (v Regions)) _ _
+      (passes numbered (eqb area (REGION-BYTES * v Regions)) _ _
       (passes numbered (ltb t (v Tasks)) _ _ p refl)
       refl)
       refl))
@@ -51,11 +56,11 @@ module _ (control area : ℕ) (v : View) (t : ℕ) where
       → numbered (Calls.whenIdle v t x) ≡ firstFailed (idleTests v t ++ ts) k
   unfolding Calls.whenIdle
   when-idle ts k x p =
-      passes numbered (ltb (v (TaskPlace t)) 34) _ _ (passes numbered (eqb (v (TaskPlace t)) 0) _ _ p refl) refl
+      passes numbered (ltb (v (TaskPlace t)) PLACES) _ _ (passes numbered (eqb (v (TaskPlace t)) IDLE) _ _ p refl) refl
 
   sized : (size : ℕ) → numbered (Calls.beginAllocate t size) ≡ firstFailed (sizeTests size) 0
   unfolding Calls.beginAllocate
-  sized size = fails numbered (eqb size 0) _ _ refl (fails numbered (ltb 256 size) _ _ refl refl)
+  sized size = fails numbered (eqb size 0) _ _ refl (fails numbered (ltb MOST-BYTES size) _ _ refl refl)
 
   unit : (u : ℕ) → numbered (Calls.beginFree v (v Regions) t u) ≡ firstFailed (unitTests v u) 0
   unfolding Calls.beginFree Calls.freeEntry Calls.freeBy Calls.freeOpen Calls.freeMarked
@@ -65,12 +70,12 @@ module _ (control area : ℕ) (v : View) (t : ℕ) where
       let d = entry - 1 in
       passes numbered (ltb r (v Regions)) _ _
       (fails numbered (eqb entry 0) _ _ refl
-      (passes numbered (leb entry 64) _ _
+      (passes numbered (leb entry DESCRIPTORS) _ _
       (passes numbered (ltb (v (DescriptorRegion d)) (v Regions)) _ _
       (passes numbered (eqb (v (DescriptorRegion d)) r) _ _
       (passes numbered (isAnchor (v (Anchor d))) _ _
       (fails numbered (eqb (anchorOf (v (Anchor d)) .state) EMPTY) _ _ refl
-      (passes numbered (ltb (v (DescriptorClass d)) 16) _ _
+      (passes numbered (ltb (v (DescriptorClass d)) CLASSES) _ _
       (passes numbered (isFirst (v (DescriptorClass d)) u) _ _
       (passes numbered (isSet (v (Marks (u / 64))) (u % 64)) _ _ refl refl)
       refl)
@@ -81,20 +86,25 @@ module _ (control area : ℕ) (v : View) (t : ℕ) where
       refl))
       refl
 
-  pub allocate-first : (size : ℕ) → numbered (Calls.allocateOutcome control area v t size) ≡ firstFailed (allocateTests control area v t size) 0
+  pub allocate-first : (size : ℕ) → numbered (Calls.allocateOutcome control area v t size)
+      ≡ firstFailed (allocateTests control area v t size) 0
   unfolding Calls.allocateOutcome
   allocate-first size = after-tests (idleTests v t ++ sizeTests size) 0 _ (when-idle (sizeTests size) 0 _ (sized size))
 
-  pub free-first : (u : ℕ) → numbered (Calls.freeOutcome control area v t u) ≡ firstFailed (freeTests control area v t u) 0
+  pub free-first : (u : ℕ) → numbered (Calls.freeOutcome control area v t u)
+      ≡ firstFailed (freeTests control area v t u) 0
   unfolding Calls.freeOutcome
   free-first u = after-tests (idleTests v t ++ unitTests v u) 0 _ (when-idle (unitTests v u) 0 _ (unit u))
 
   pub step-first : (link : ℕ → ℕ)
       → numbered (Calls.stepOutcome control area v link t)
-      ≡ firstFailed (stepTests control area v t) (numbered (Steps.stepAt v link (v Regions) t (v (TaskClass t)) (v (TaskPlace t))))
+      ≡ firstFailed (stepTests control area v t)
+      (numbered (Steps.stepAt v link (v Regions) t (v (TaskClass t)) (v (TaskPlace t))))
   unfolding Calls.stepOutcome Steps.step
   step-first link =
-      after-tests (requestTests v t) _ _ (passes numbered (ltb 0 (v (TaskPlace t))) _ _ (passes numbered (ltb (v (TaskClass t)) 16) _ _ refl refl) refl)
+      after-tests (requestTests v t) _ _
+      (passes numbered (ltb IDLE (v (TaskPlace t))) _ _ (passes numbered (ltb (v (TaskClass t)) CLASSES) _ _ refl refl)
+      refl)
 
 -- where all tests pass, none has failed
 pub none-failed : (ts : List Test) (n : ℕ) → Passes ts → firstFailed ts n ≡ n
@@ -114,6 +124,7 @@ pub start-first : (size : ℕ) (area : List ℕ) (tasks : ℕ) (control before :
     → answered (Calls.startIn size area tasks control before) ≡ firstFailed (startTests size (length area) tasks) 0
 unfolding Calls.startIn
 start-first size area tasks control before =
-    passes answered (eqb size 8192) _ _
-    (passes answered (eqb (length area % 4096) 0 && oneTo 65536 (length area)) _ _ (passes answered (oneTo 8 tasks) _ _ refl refl) refl)
+    passes answered (eqb size CONTROL-BYTES) _ _
+    (passes answered (eqb (length area % REGION-BYTES) 0 && oneTo AREA-BYTES (length area)) _ _
+    (passes answered (oneTo TASKS tasks) _ _ refl refl) refl)
     refl

@@ -1,4 +1,4 @@
--- What the number that a call answers tells of its answer. Assumes nothing.
+-- What the number that a call answers tells of its answer.
 use mathlib.Core.Path.{_≡_, refl, sym, ap, _∙_}
 use mathlib.Core.Logic.{_≢_, _⊎_, ⊎-elim, inl, inr}
 use mathlib.Core.Bool.{Bool, true, false, _&&_, _||_, false≢true}
@@ -116,7 +116,8 @@ not-among : {n : ℕ} (m : ℕ) → oneOf stepRefusals n ≡ true → oneOf step
 not-among m g h e = false≢true (sym h ∙ ap (oneOf stepRefusals) (sym e) ∙ g)
 
 -- the numbers 12 and 13 tell that a step found no descriptor and no region: neither is among the numbers that refuse it
-pub ends-told : (a : Answer) → Goes stepRefusals a → (numberOf a ≡ 12 → a ≡ NoDescriptor) × (numberOf a ≡ 13 → a ≡ NoRegion)
+pub ends-told : (a : Answer) → Goes stepRefusals a
+    → (numberOf a ≡ 12 → a ≡ NoDescriptor) × (numberOf a ≡ 13 → a ≡ NoRegion)
 ends-told Accepted g = (λ e. absurd (omega arith), λ e. absurd (omega arith))
 ends-told (Allocated u) g = (λ e. absurd (omega arith), λ e. absurd (omega arith))
 ends-told Freed g = (λ e. absurd (omega arith), λ e. absurd (omega arith))
@@ -127,11 +128,14 @@ ends-told (Refused n) g = (λ e. absurd (not-among 12 g refl e), λ e. absurd (n
 -- the numbers of a request's end tell that it has ended
 pub end-told : (a : Answer) → Goes stepRefusals a → Ended (numberOf a) → IsEnd a
 unfolding small
-end-told Accepted g e = ⊎-elim (λ h. absurd (omega (arith, h))) (λ f. ⊎-elim (λ h. absurd (omega (arith, h))) (λ h. absurd (omega (arith, h))) f) e
+end-told Accepted g e =
+    ⊎-elim (λ h. absurd (omega (arith, h)))
+    (λ f. ⊎-elim (λ h. absurd (omega (arith, h))) (λ h. absurd (omega (arith, h))) f) e
 end-told (Allocated u) g e = tt
 end-told Freed g e = tt
 end-told NoDescriptor g e = tt
 end-told NoRegion g e = tt
 end-told (Refused n) g e =
     ⊎-elim (not-among 12 g refl)
-    (λ f. ⊎-elim (not-among 13 g refl) (λ h. not-among {n = n} 20 g refl (omega (arith, h, among stepRefusals n refl g))) f) e
+    (λ f. ⊎-elim (not-among 13 g refl)
+    (λ h. not-among {n = n} 20 g refl (omega (arith, h, among stepRefusals n refl g))) f) e

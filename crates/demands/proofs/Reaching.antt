@@ -15,7 +15,8 @@ by-act {h} {s} {p} R a H P =
     let e = event a s in
     subst (λ (z : Memories). Reached (happened e s p ∷ h) z (whole e p .0)) (shows a s H .leaves) (by-event R e P)
 
--- What holds of every act wherever a run has come holds along every list of acts behind it whose events meet the premises.
+-- What holds of every act wherever a run has come holds along every list of acts behind it whose events meet the
+-- premises.
 pub along-acts : (P : Act → Memories → Pool → Type 0) → WhereverActs P → {h : History} {s : Memories} {p : Pool}
     → Reached h s p → (acts : List Act) → Run acts s → Premises (events acts s) p → AlongActs P acts s p
 along-acts P f R [] run premises = tt

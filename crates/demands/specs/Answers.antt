@@ -3,6 +3,8 @@ use mathlib.Core.Path.{_≡_}
 use mathlib.Core.Logic.{_≢_, _⊎_}
 use mathlib.Core.List.{List, [], _∷_}
 use Prim.Native.Nat.{ℕ, _%_, _≤_, _<_}
+use Rattle.limits.specs.Limits.{CLASSES}
+use Rattle.control.specs.Places.{A1}
 use Rattle.fields.specs.Columns.{_:=_}
 use Rattle.classes.specs.Classes.{block}
 use Rattle.control.specs.Layout.{changed, TaskPlace, TaskClass}
@@ -23,12 +25,12 @@ OfAnother u (allocate t size) = u ≢ t
 OfAnother u (free t unit) = u ≢ t
 OfAnother u (step t) = u ≢ t
 
--- "A size gets the smallest class that holds it": the beginning of an allocation has set the task's place and its class, the
--- smallest whose block holds the size, and changed no other byte.
+-- "A size gets the smallest class that holds it": the beginning of an allocation has set the task's place and its
+-- class, the smallest whose block holds the size, and changed no other byte.
 pub record Begun (t size : ℕ) (control area control′ area′ : List ℕ) : Type 0 where
   pub class : ℕ
-  pub is-class : class < 16
+  pub is-class : class < CLASSES
   pub holds : size ≤ block class
   pub smallest : (c : ℕ) → c < class → block c < size
-  pub control-is : control′ ≡ changed (TaskPlace t := 1 ∷ TaskClass t := class ∷ []) control
+  pub control-is : control′ ≡ changed (TaskPlace t := A1 ∷ TaskClass t := class ∷ []) control
   pub area-is : area′ ≡ area

@@ -1,5 +1,4 @@
 -- Runs made of the exported functions' contracts, with users' writes between the calls; and what demand 3 says of them.
--- Assumes nothing.
 use mathlib.Core.Path.{_≡_}
 use mathlib.Core.Logic.{_≢_, _⊎_}
 use mathlib.Core.Bool.{cond}
@@ -7,6 +6,7 @@ use mathlib.Core.List.{List, [], _∷_}
 use Prim.Native.Nat.{ℕ, _*_, _/_, _%_}
 use lib.Dec.{eqb}
 use lib.ListN.{length, set}
+use Rattle.limits.specs.Limits.{CONTROL-BYTES, REGION-BYTES}
 use Rattle.plain.specs.Moves.{Answer}
 use Rattle.plain.specs.Calls.{Pool, Call, start, allocate, free, step}
 use Rattle.control.specs.Layout.{Tasks, Regions, seen}
@@ -19,8 +19,8 @@ use Rattle.agreement.specs.Agreement.{Agrees, Unchanged, Untouched}
 use Rattle.pool.specs.Call.{Ensures}
 use Rattle.demands.specs.Answers.{Refusal}
 
--- What happens to a pool: a call on its memories leaves the memories `left` and answers `number`; a call on other memories, lent
--- as `lent`; a user writes the byte b at the place `at` of the area.
+-- What happens to a pool: a call on its memories leaves the memories `left` and answers `number`; a call on other
+-- memories, lent as `lent`; a user writes the byte b at the place `at` of the area.
 pub data Act : Type 0 where
   own : (call : Call) (left : Memories) (number : ℕ) → Act
   other : (call : Call) (lent left : Memories) (number : ℕ) → Act
@@ -30,13 +30,13 @@ pub data Act : Type 0 where
 abbrev pub Contract : Call → Memories → Memories → ℕ → Type 0
 Contract k lent left number = Ensures k (lent .control) (lent .area) (left .control) (left .area) number
 
--- "A call that is lent another length": a control memory that is not of 8,192 bytes, or the pool's with an area that is not of the
--- started length; while the pool is not started, any area.
+-- "A call that is lent another length": a control memory that is not of 8,192 bytes, or the pool's with an area that is
+-- not of the started length; while the pool is not started, any area.
 abbrev pub OtherLength : Memories → Memories → Type 0
 OtherLength s lent =
-    (length (lent .control) ≢ 8192)
+    (length (lent .control) ≢ CONTROL-BYTES)
     ⊎ ((lent .control ≡ s .control)
-    × ((length (lent .area) ≢ 4096 * seen (s .control) Regions) ⊎ (seen (s .control) Tasks ≡ 0)))
+    × ((length (lent .area) ≢ REGION-BYTES * seen (s .control) Regions) ⊎ (seen (s .control) Tasks ≡ 0)))
 
 -- Other memories that a call may be lent: a start any, every other call those of another length.
 abbrev pub Lendable : Call → Memories → Memories → Type 0
@@ -51,7 +51,8 @@ Happens (own k left number) s = Contract k s left number
 Happens (other k lent left number) s = Contract k lent left number × Lendable k s lent
 Happens (write at b) s = Unit {0}
 
--- The pool's memories after a call on others: "a later accepted start sets both runs anew"; any other "touches nothing".
+-- The pool's memories after a call on others: "a later accepted start sets both runs anew"; any other "touches
+-- nothing".
 abbrev pub afterOther : Call → Memories → ℕ → Memories → Memories
 afterOther (start b) left number s = cond (eqb number 0) left s
 afterOther (allocate t size) left number s = s
@@ -104,10 +105,10 @@ OtherLeft (write at b) = Unit {0}
 abbrev pub leftBy : Act → Memories → Memories × Answer
 leftBy a s = (after a s, stepped (event a s) s .1)
 
--- What demand 3, and demand 1's last sentence, say of one act: the plain pool p gives the same code and value and decides the same
--- move, never 14; afterwards both have the same lists, chains and holders, each block of an open region in exactly one place; a
--- refused call left the pool's memories as they were, and the memories that it was lent; and no call changed a byte of a block in a
--- user's hands.
+-- What demand 3, and demand 1's last sentence, say of one act: the plain pool p gives the same code and value and
+-- decides the same move, never 14; afterwards both have the same lists, chains and holders, each block of an open
+-- region in exactly one place; a refused call left the pool's memories as they were, and the memories that it was lent;
+-- and no call changed a byte of a block in a user's hands.
 pub record Tells (a : Act) (s : Memories) (p : Pool) : Type 0 where
   pub answered : Answered a (whole (event a s) p .1)
   pub agrees : Agrees (leftBy a s) (whole (event a s) p)

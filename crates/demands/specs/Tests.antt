@@ -1,11 +1,13 @@
--- The tests of each call in the paper's order: "Start tests 1, 2, 3. Other calls test 1, 4, 2, 5, then 6 or 7, then 8, 9 or 10,
--- 11. 14 comes where the bad value is read."
--- Assumes nothing.
+-- The tests of each call in the paper's order: "Start tests 1, 2, 3. Other calls test 1, 4, 2, 5, then 6 or 7, then 8,
+-- 9 or 10, 11. 14 comes where the bad value is read."
 use Prim.Native.Nat.{ℕ, _*_, _/_, _%_, _-_}
 use mathlib.Core.Path.{_≡_}
 use mathlib.Core.Bool.{Bool, true, cond, not, _&&_}
 use mathlib.Core.List.{List, [], _∷_, _++_}
 use lib.Dec.{ltb, leb, eqb}
+use Rattle.limits.specs.Limits.{CONTROL-BYTES, REGION-BYTES, AREA-BYTES, TASKS, REGIONS, CLASSES, DESCRIPTORS}
+use Rattle.limits.specs.Limits.{MOST-BYTES}
+use Rattle.control.specs.Places.{IDLE, PLACES}
 use Rattle.fields.specs.Columns.{View}
 use Rattle.words.specs.Anchor.{EMPTY, anchorOf}
 use Rattle.words.specs.Mark.{isSet}
@@ -36,34 +38,34 @@ Passes (t ∷ ts) = (t .asks ≡ true) × Passes ts
 -- "1 control not 8,192 bytes; 2 area length zero, no multiple of 4,096 or above 65,536; 3 tasks not 1 to 8"
 abbrev pub startTests : ℕ → ℕ → ℕ → List Test
 startTests control area tasks =
-    eqb control 8192 or 1
-    ∷ (eqb (area % 4096) 0 && oneTo 65536 area) or 2
-    ∷ oneTo 8 tasks or 3
+    eqb control CONTROL-BYTES or 1
+    ∷ (eqb (area % REGION-BYTES) 0 && oneTo AREA-BYTES area) or 2
+    ∷ oneTo TASKS tasks or 3
     ∷ []
 
--- "1, 4, 2, 5": the length of the control memory; the pool is started; the area has the started length; there is such a task. The
--- started numbers of tasks and regions are read for 4 and 2.
+-- "1, 4, 2, 5": the length of the control memory; the pool is started; the area has the started length; there is such a
+-- task. The started numbers of tasks and regions are read for 4 and 2.
 abbrev pub callTests : ℕ → ℕ → View → ℕ → List Test
 callTests control area v t =
-    eqb control 8192 or 1
-    ∷ leb (v Tasks) 8 or 14
+    eqb control CONTROL-BYTES or 1
+    ∷ leb (v Tasks) TASKS or 14
     ∷ not (eqb (v Tasks) 0) or 4
-    ∷ oneTo 16 (v Regions) or 14
-    ∷ eqb area (4096 * v Regions) or 2
+    ∷ oneTo REGIONS (v Regions) or 14
+    ∷ eqb area (REGION-BYTES * v Regions) or 2
     ∷ ltb t (v Tasks) or 5
     ∷ []
 
 -- "6 the task has a request in hand", by its place
 abbrev pub idleTests : View → ℕ → List Test
-idleTests v t = ltb (v (TaskPlace t)) 34 or 14 ∷ eqb (v (TaskPlace t)) 0 or 6 ∷ []
+idleTests v t = ltb (v (TaskPlace t)) PLACES or 14 ∷ eqb (v (TaskPlace t)) IDLE or 6 ∷ []
 
 -- "8 size 0; 9 size above 256"
 abbrev pub sizeTests : ℕ → List Test
-sizeTests size = not (eqb size 0) or 8 ∷ not (ltb 256 size) or 9 ∷ []
+sizeTests size = not (eqb size 0) or 8 ∷ not (ltb MOST-BYTES size) or 9 ∷ []
 
--- "10 not the first unit of a block of an open region; 11 such a unit, but its mark is clear". The unit's region is one of the
--- area's, and its map entry names a descriptor d, which names it back; d's anchor is not EMPTY; the unit is the first of a block
--- of d's class.
+-- "10 not the first unit of a block of an open region; 11 such a unit, but its mark is clear". The unit's region is one
+-- of the area's, and its map entry names a descriptor d, which names it back; d's anchor is not EMPTY; the unit is the
+-- first of a block of d's class.
 abbrev pub unitTests : View → ℕ → List Test
 unitTests v u =
     let r = regionOf u in
@@ -71,19 +73,19 @@ unitTests v u =
     let d = entry - 1 in
     ltb r (v Regions) or 10
     ∷ not (eqb entry 0) or 10
-    ∷ leb entry 64 or 14
+    ∷ leb entry DESCRIPTORS or 14
     ∷ ltb (v (DescriptorRegion d)) (v Regions) or 14
     ∷ eqb (v (DescriptorRegion d)) r or 10
     ∷ isAnchor (v (Anchor d)) or 14
     ∷ not (eqb (anchorOf (v (Anchor d)) .state) EMPTY) or 10
-    ∷ ltb (v (DescriptorClass d)) 16 or 14
+    ∷ ltb (v (DescriptorClass d)) CLASSES or 14
     ∷ isFirst (v (DescriptorClass d)) u or 10
     ∷ isSet (v (Marks (u / 64))) (u % 64) or 11
     ∷ []
 
 -- "7 step without one"; at a place other than idle the class of the request is read, too
 abbrev pub requestTests : View → ℕ → List Test
-requestTests v t = ltb 0 (v (TaskPlace t)) or 7 ∷ ltb (v (TaskClass t)) 16 or 14 ∷ []
+requestTests v t = ltb IDLE (v (TaskPlace t)) or 7 ∷ ltb (v (TaskClass t)) CLASSES or 14 ∷ []
 
 -- all tests of the beginning of an allocation, of the beginning of a free, and of a step before the step itself
 abbrev pub allocateTests : ℕ → ℕ → View → ℕ → ℕ → List Test

@@ -94,7 +94,8 @@ module _ {area : ℕ} {m : Mem} {t : ℕ} {k : ℕ → List ℕ} where
   -- ---- allocate
 
   -- Step 1: the top of the cache goes to a user's hands, or the cache is empty.
-  pub a1-inv : (c : ℕ) (q : List ℕ) → k c ≡ q → Turn area m t (taskOf (working (a1 c)) k) → KeepsInvariant area (a1Step t k c q m)
+  pub a1-inv : (c : ℕ) (q : List ℕ) → k c ≡ q → Turn area m t (taskOf (working (a1 c)) k)
+      → KeepsInvariant area (a1Step t k c q m)
   a1-inv c [] e w = placed w _ refl (placeHolds w, ap length e) tt
   a1-inv c (x ∷ q) e w = turn-inv w _ (taskOf idle (update k c q)) refl (record {
     descriptors = λ y. omega arith;

@@ -29,7 +29,8 @@ module _ {area : ℕ} {m : Mem} {t : ℕ} {k : ℕ → List ℕ} where
   empty-inv (region c d) w = placed w _ refl (placeHolds w) tt
 
   -- A lost exchange, and an exchange of an empty row, go back to the read.
-  lost-inv : (p : Pop) (φ : Phase) → Turn area m t (taskOf (working (popping p φ)) k) → KeepsInvariant area (popLost t k p m)
+  lost-inv : (p : Pop) (φ : Phase) → Turn area m t (taskOf (working (popping p φ)) k)
+      → KeepsInvariant area (popLost t k p m)
   lost-inv p φ w = placed w _ refl (placeHolds w) tt
 
   -- A won exchange takes the top item.
@@ -70,7 +71,8 @@ module _ {area : ℕ} {m : Mem} {t : ℕ} {k : ℕ → List ℕ} where
       })) (placeHolds w) tt
 
   -- The three steps of a pop.
-  pub pop-inv : (p : Pop) (φ : Phase) → Turn area m t (taskOf (working (popping p φ)) k) → KeepsInvariant area (popStep t k p φ m)
+  pub pop-inv : (p : Pop) (φ : Phase) → Turn area m t (taskOf (working (popping p φ)) k)
+      → KeepsInvariant area (popStep t k p φ m)
   pop-inv p read w = by (m .row (popList p)) refl
     where
       by : (q : List ℕ) → m .row (popList p) ≡ q → KeepsInvariant area (popRead t k p q m)
@@ -84,7 +86,8 @@ module _ {area : ℕ} {m : Mem} {t : ℕ} {k : ℕ → List ℕ} where
   -- ---- pushes
 
   -- A won exchange puts the item on top.
-  put-inv : (p : Push) (φ : Phase) → Turn area m t (taskOf (working (pushing p φ)) k) → KeepsInvariant area (pushPut t k p m)
+  put-inv : (p : Push) (φ : Phase) → Turn area m t (taskOf (working (pushing p φ)) k)
+      → KeepsInvariant area (pushPut t k p m)
   put-inv (retire c d) φ w =
       let q = m .row SPARE-DESCRIPTORS in
       relisted w _ _ _ refl (omega arith) (record {

@@ -7,6 +7,7 @@ use Prim.Native.Nat.{ℕ, _*_, _≤_, _<_}
 use native.Mathlib.Omega.{arith}
 use borrow.Author.Tests.{eq-eqb, ne-eqb}
 use lib.ListN.{length}
+use Rattle.limits.specs.Limits.{CONTROL-BYTES, REGION-BYTES, TASKS, REGIONS}
 use Rattle.fields.specs.Columns.{View}
 use Rattle.links.specs.Link.{link}
 use Rattle.plain.specs.Calls.{allocate, free, step}
@@ -23,10 +24,13 @@ use Rattle.pool.specs.Call.{CallIs, Ensures}
 
 -- a call that the number r refuses
 pub refused-is : {o : Outcome} (c a : List ℕ) {r : ℕ} → o ≡ refuse r → CallIs (effect o c a) c a r
-refused-is c a {r} e = subst (λ (x : Outcome). CallIs (effect x c a) c a r) (sym e) (record { number = refl; control-is = refl; area-is = refl })
+refused-is c a {r} e =
+    subst (λ (x : Outcome). CallIs (effect x c a) c a r) (sym e)
+    (record { number = refl; control-is = refl; area-is = refl })
 
 -- a call that does the outcome x
-pub does-is : {o x : Outcome} {c a c′ a′ : List ℕ} {r : ℕ} → o ≡ x → NumberIn x c a c′ a′ r → CallIs (effect o c a) c′ a′ r
+pub does-is : {o x : Outcome} {c a c′ a′ : List ℕ} {r : ℕ} → o ≡ x → NumberIn x c a c′ a′ r
+    → CallIs (effect o c a) c′ a′ r
 does-is {c = c} {a = a} {c′ = c′} {a′ = a′} {r = r} e d =
     subst (λ (z : Outcome). CallIs (effect z c a) c′ a′ r) (sym e)
     (record { number = d .number; control-is = d .control; area-is = d .area })
@@ -52,7 +56,8 @@ module _ (c a : List ℕ) (t r : ℕ) (T : TestsAre (length c) (length a) (seen 
   free-refused u h = refused-is c a (refuses h _)
 
   pub free-does : (u regions : ℕ) → r ≡ 0 → regions ≡ seen c Regions → {c′ : List ℕ} {s : Answer} {n : ℕ}
-      → Done (whenIdle (seen c) t (beginFree (seen c) regions t u)) c c′ s → n ≡ numberOf s → Ensures (free t u) c a c′ a n
+      → Done (whenIdle (seen c) t (beginFree (seen c) regions t u)) c c′ s → n ≡ numberOf s
+      → Ensures (free t u) c a c′ a n
   unfolding freeOutcome
   free-does u regions h e {c′} {s} d n =
       does-is (passes h _)
@@ -70,17 +75,17 @@ module _ (c a : List ℕ) (t r : ℕ) (T : TestsAre (length c) (length a) (seen 
 
 -- what the tests tell
 module _ (control area : ℕ) (v : View) (t r : ℕ) (T : TestsAre control area v t r) (h : r ≡ 0) where
-  pub control-is : control ≡ 8192
+  pub control-is : control ≡ CONTROL-BYTES
   control-is = T .passed h .control-is
 
-  pub task-is : t < 8
+  pub task-is : t < TASKS
   task-is = omega (arith, T .passed h .below, T .passed h .tasks)
 
-  pub regions-are : (k : ℕ) → k ≡ v Regions → k ≤ 16
+  pub regions-are : (k : ℕ) → k ≡ v Regions → k ≤ REGIONS
   regions-are k e = omega (arith, T .passed h .regions)
 
   pub regions-some : (k : ℕ) → k ≡ v Regions → 1 ≤ k
   regions-some k e = omega (arith, T .passed h .some)
 
-  pub area-is : (k : ℕ) → k ≡ v Regions → area ≡ 4096 * k
-  area-is k e = T .passed h .area-is ∙ ap (λ (n : ℕ). 4096 * n) (sym e)
+  pub area-is : (k : ℕ) → k ≡ v Regions → area ≡ REGION-BYTES * k
+  area-is k e = T .passed h .area-is ∙ ap (λ (n : ℕ). REGION-BYTES * n) (sym e)

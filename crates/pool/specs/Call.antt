@@ -7,16 +7,16 @@ use Rattle.control.specs.Answers.{numberOf}
 use Rattle.stepped.specs.Outcome.{Effect}
 use Rattle.stepped.specs.Calls.{effectOf}
 
--- "For every input, the answer and each byte of both memories afterwards": the answer as one number, and the two memories, are
--- those of the definition's effect.
+-- "For every input, the answer and each byte of both memories afterwards": the answer as one number, and the two
+-- memories, are those of the definition's effect.
 pub record CallIs (e : Effect) (control area : List ℕ) (r : ℕ) : Type 0 where
   pub number : r ≡ numberOf (e .answer)
   pub control-is : control ≡ e .control
   pub area-is : area ≡ e .area
 
--- What each exported function ensures: the call k, lent the bytes `control` and `area`, leaves control′ and area′ and answers r,
--- as the definitions of the stepped pool say. "exported start, begin and step functions on numbers and byte slices": pool_start,
--- pool_begin_allocate, pool_begin_free and pool_step.
+-- What each exported function ensures: the call k, lent the bytes `control` and `area`, leaves control′ and area′ and
+-- answers r, as the definitions of the stepped pool say. "exported start, begin and step functions on numbers and byte
+-- slices": pool_start, pool_begin_allocate, pool_begin_free and pool_step.
 abbrev pub Ensures : Call → List ℕ → List ℕ → List ℕ → List ℕ → ℕ → Type 0
 Ensures k control area control′ area′ r =
     CallIs (effectOf k (record { control = control; area = area })) control′ area′ r

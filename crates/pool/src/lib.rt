@@ -12,35 +12,39 @@ ghost use Rattle.pool.specs.Call.{Ensures};
 // Begins a new run with so many tasks, on any bytes: it fills the control memory, and leaves the area as it is.
 #[no_mangle]
 pub extern "C" fn pool_start(control: &mut [u8], area: &[u8], tasks: u64) -> u64
-    ensures { λ r. ⌜ Ensures (start (record { tasks = tasks })) (now (control .entry)) (now (area .entry)) (now (control .exit)) (now (area .entry)) r ⌝ }
+    ensures { λ r.
+        ⌜ Ensures (start (record { tasks = tasks })) (now (control .entry)) (now (area .entry)) (now (control .exit))
+        (now (area .entry)) r ⌝ }
 {
-    if control.len() != 8192 {
+    if control.len() != limits::CONTROL_BYTES {
         return 1;
     }
     let bytes = area.len();
-    if bytes % 4096 != 0 {
+    if bytes % limits::REGION_BYTES != 0 {
         return 2;
     }
     if bytes < 1 {
         return 2;
     }
-    if 65536 < bytes {
+    if limits::AREA_BYTES < bytes {
         return 2;
     }
     if tasks < 1 {
         return 3;
     }
-    if 8 < tasks {
+    if (limits::TASKS as u64) < tasks {
         return 3;
     }
-    start::image(control, tasks as u8, (bytes / 4096) as u8);
+    start::image(control, tasks as u8, (bytes / limits::REGION_BYTES) as u8);
     0
 }
 
 // Begins an allocation of so many bytes for a task. It does no step.
 #[no_mangle]
 pub extern "C" fn pool_begin_allocate(control: &mut [u8], area: &[u8], task: u64, size: u64) -> u64
-    ensures { λ r. ⌜ Ensures (allocated task size) (now (control .entry)) (now (area .entry)) (now (control .exit)) (now (area .entry)) r ⌝ }
+    ensures { λ r.
+        ⌜ Ensures (allocated task size) (now (control .entry)) (now (area .entry)) (now (control .exit)) (now (area .entry))
+        r ⌝ }
 {
     let refused = tests::tests(control, area.len(), task);
     if refused != 0 {
@@ -52,7 +56,9 @@ pub extern "C" fn pool_begin_allocate(control: &mut [u8], area: &[u8], task: u64
 // Begins the free of the block at this unit, by any task: its mark is cleared. It does no step.
 #[no_mangle]
 pub extern "C" fn pool_begin_free(control: &mut [u8], area: &[u8], task: u64, unit: u64) -> u64
-    ensures { λ r. ⌜ Ensures (freed task unit) (now (control .entry)) (now (area .entry)) (now (control .exit)) (now (area .entry)) r ⌝ }
+    ensures { λ r.
+        ⌜ Ensures (freed task unit) (now (control .entry)) (now (area .entry)) (now (control .exit)) (now (area .entry))
+        r ⌝ }
 {
     let refused = tests::tests(control, area.len(), task);
     if refused != 0 {
@@ -65,7 +71,8 @@ pub extern "C" fn pool_begin_free(control: &mut [u8], area: &[u8], task: u64, un
 // One step of the request that a task has in hand.
 #[no_mangle]
 pub extern "C" fn pool_step(control: &mut [u8], area: &mut [u8], task: u64) -> u64
-    ensures { λ r. ⌜ Ensures (stepped task) (now (control .entry)) (now (area .entry)) (now (control .exit)) (now (area .exit)) r ⌝ }
+    ensures { λ r.
+        ⌜ Ensures (stepped task) (now (control .entry)) (now (area .entry)) (now (control .exit)) (now (area .exit)) r ⌝ }
 {
     let refused = tests::tests(control, area.len(), task);
     if refused != 0 {

@@ -46,13 +46,15 @@ pub paper-example : played example
       line 0 1 0 0 ∷ line 1 2 0 0 ∷ line 2 5 20 480 ∷ line 3 3 0 0 ∷ line 4 5 20 0 ∷ line 5 3 11 0 ∷ [],
       total 2 3 1,
     )
-unfolding table runs recordAt wideOf counted getLE units perRegion classOf unstarted both ℕ-discrete decLt decLe update Calls.call Calls.startMem Calls.rising Steps.stepOf
+unfolding table runs recordAt wideOf counted getLE units perRegion classOf unstarted both ℕ-discrete decLt decLe update
+    Calls.call Calls.startMem Calls.rising Steps.stepOf
 paper-example = refl
 
--- no input; a cut start; kind 0, after which nothing is read; an unknown kind; five regions and nine tasks, "more than 4 regions is 2";
--- no region; a run of no steps before any start, "code 0, no call made"; a step before any start
+-- no input; a cut start; kind 0, after which nothing is read; an unknown kind; five regions and nine tasks, "more than
+-- 4 regions is 2"; no region; a run of no steps before any start, "code 0, no call made"; a step before any start
 pub edge-cases : map played
-    ([] ∷ (1 ∷ 1 ∷ []) ∷ (0 ∷ 1 ∷ 1 ∷ 1 ∷ []) ∷ (6 ∷ 0 ∷ []) ∷ (1 ∷ 9 ∷ 5 ∷ []) ∷ (1 ∷ 1 ∷ 0 ∷ []) ∷ (5 ∷ 3 ∷ 0 ∷ 0 ∷ []) ∷ (4 ∷ 0 ∷ []) ∷ [])
+    ([] ∷ (1 ∷ 1 ∷ []) ∷ (0 ∷ 1 ∷ 1 ∷ 1 ∷ []) ∷ (6 ∷ 0 ∷ []) ∷ (1 ∷ 9 ∷ 5 ∷ []) ∷ (1 ∷ 1 ∷ 0 ∷ [])
+    ∷ (5 ∷ 3 ∷ 0 ∷ 0 ∷ []) ∷ (4 ∷ 0 ∷ []) ∷ [])
     ≡ (([], total 0 0 0)
     ∷ (line 0 1 15 0 ∷ [], total 0 0 1)
     ∷ (line 0 0 15 0 ∷ [], total 0 0 1)
@@ -62,5 +64,6 @@ pub edge-cases : map played
     ∷ (line 0 5 0 0 ∷ [], total 0 1 0)
     ∷ (line 0 4 4 0 ∷ [], total 0 0 1)
     ∷ [])
-unfolding table runs recordAt wideOf counted getLE units perRegion classOf unstarted both ℕ-discrete decLt decLe update Calls.call Calls.startMem Calls.rising Steps.stepOf
+unfolding table runs recordAt wideOf counted getLE units perRegion classOf unstarted both ℕ-discrete decLt decLe update
+    Calls.call Calls.startMem Calls.rising Steps.stepOf
 edge-cases = refl

@@ -6,11 +6,13 @@ use mathlib.Core.Bool.{Bool, cond}
 use mathlib.Core.List.{List}
 use borrow.Author.Tests.{eq-eqb, ne-eqb, lt-ltb, le-ltb}
 use borrow.Rule.Slice.PartMut.{midOf, putMid, put-same}
+use Rattle.limits.specs.Limits.{REGION-BYTES}
 use Rattle.fields.specs.Columns.{View}
 use Rattle.plain.specs.Calls.{Call}
 use Rattle.control.specs.Layout.{Tasks, Regions, seen}
 use Rattle.stepped.specs.Outcome.{Memories}
 use Rattle.pool.specs.Call.{Ensures}
+use Rattle.schedule.specs.Stand.{STAND-REGIONS}
 use Rattle.schedule.specs.Stand.{named, as-started}
 use Rattle.schedule.specs.Bytes.{lentRegions, onPart, onBytes, Does}
 
@@ -20,11 +22,11 @@ module _ (v : View) where
   pub none-lent : v Tasks ≡ 0 → lentRegions v ≡ 0
   none-lent e = rw (eq-eqb (v Tasks) 0 e)
 
-  pub all-lent : v Tasks ≢ 0 → 4 < v Regions → lentRegions v ≡ 4
-  all-lent n h = rw (ne-eqb (v Tasks) 0 n, lt-ltb 4 (v Regions) h)
+  pub all-lent : v Tasks ≢ 0 → STAND-REGIONS < v Regions → lentRegions v ≡ STAND-REGIONS
+  all-lent n h = rw (ne-eqb (v Tasks) 0 n, lt-ltb STAND-REGIONS (v Regions) h)
 
-  pub some-lent : v Tasks ≢ 0 → v Regions ≤ 4 → lentRegions v ≡ v Regions
-  some-lent n h = rw (ne-eqb (v Tasks) 0 n, le-ltb 4 (v Regions) h)
+  pub some-lent : v Tasks ≢ 0 → v Regions ≤ STAND-REGIONS → lentRegions v ≡ v Regions
+  some-lent n h = rw (ne-eqb (v Tasks) 0 n, le-ltb STAND-REGIONS (v Regions) h)
 
 -- ---- a call that is lent the first k bytes
 
@@ -45,7 +47,8 @@ module _ (c a : List ℕ) (k : ℕ) (c′ : List ℕ) where
 
 -- the same function of the memories
 pub does-as : {f g : Memories → Memories × ℕ} (c a c′ a′ : List ℕ) (r : ℕ)
-    → g (record { control = c; area = a }) ≡ f (record { control = c; area = a }) → Does f c a c′ a′ r → Does g c a c′ a′ r
+    → g (record { control = c; area = a }) ≡ f (record { control = c; area = a }) → Does f c a c′ a′ r
+    → Does g c a c′ a′ r
 does-as {f} {g} c a c′ a′ r e D = record {
   control-is = D .control-is ∙ sym (ap (λ (x : Memories × ℕ). x .0 .control) e);
   area-is = D .area-is ∙ sym (ap (λ (x : Memories × ℕ). x .0 .area) e);
@@ -56,30 +59,30 @@ does-as {f} {g} c a c′ a′ r e D = record {
 
 module _ (q : Call) (regions : ℕ) (c a : List ℕ) where
   -- more regions than the stand has
-  pub many-regions : 4 < regions → Does (onBytes q (named regions)) c a c a 2
+  pub many-regions : STAND-REGIONS < regions → Does (onBytes q (named regions)) c a c a 2
   many-regions h =
       let s : Memories = record { control = c; area = a } in
       let x : Memories × ℕ = (s, 2) in
       does-as {f = λ s. (s, 2)} c a c a 2
-      (ap (λ (b : Bool). cond b x (onPart q (4096 * regions) s)) (lt-ltb 4 regions h))
+      (ap (λ (b : Bool). cond b x (onPart q (REGION-BYTES * regions) s)) (lt-ltb STAND-REGIONS regions h))
       (record { control-is = refl; area-is = refl; answer = refl })
 
   -- the regions that are named are only read
-  pub named-does : (c′ : List ℕ) (k r : ℕ) → Ensures q c (midOf 0 k a) c′ (midOf 0 k a) r → regions ≤ 4
-      → k ≡ 4096 * regions → Does (onBytes q (named regions)) c a c′ a r
+  pub named-does : (c′ : List ℕ) (k r : ℕ) → Ensures q c (midOf 0 k a) c′ (midOf 0 k a) r → regions ≤ STAND-REGIONS
+      → k ≡ REGION-BYTES * regions → Does (onBytes q (named regions)) c a c′ a r
   named-does c′ k r C h e =
       let s : Memories = record { control = c; area = a } in
       let x : Memories × ℕ = (s, 2) in
-      does-as {f = onPart q (4096 * regions)} c a c′ a r
-      (ap (λ (b : Bool). cond b x (onPart q (4096 * regions) s)) (le-ltb 4 regions h))
+      does-as {f = onPart q (REGION-BYTES * regions)} c a c′ a r
+      (ap (λ (b : Bool). cond b x (onPart q (REGION-BYTES * regions) s)) (le-ltb STAND-REGIONS regions h))
       (subst (λ (n : ℕ). Does (onPart q n) c a c′ a r) e (shown-part c a k c′ q r C))
 
 -- a call that is lent what was started
-module _ (q : Call) (c a c′ : List ℕ) (k r : ℕ) (e : k ≡ 4096 * lentRegions (seen c)) where
+module _ (q : Call) (c a c′ : List ℕ) (k r : ℕ) (e : k ≡ REGION-BYTES * lentRegions (seen c)) where
   -- .. and only reads it
   pub shown-does : Ensures q c (midOf 0 k a) c′ (midOf 0 k a) r → Does (onBytes q as-started) c a c′ a r
   shown-does C =
-      does-as {f = onPart q (4096 * lentRegions (seen c))} c a c′ a r refl
+      does-as {f = onPart q (REGION-BYTES * lentRegions (seen c))} c a c′ a r refl
       (subst (λ (n : ℕ). Does (onPart q n) c a c′ a r) e (shown-part c a k c′ q r C))
 
   -- .. and leaves part′ of it
@@ -87,5 +90,5 @@ module _ (q : Call) (c a c′ : List ℕ) (k r : ℕ) (e : k ≡ 4096 * lentRegi
       → Does (onBytes q as-started) c a c′ (putMid 0 k a part′) r
   written-does part′ C =
       let a′ = putMid 0 k a part′ in
-      does-as {f = onPart q (4096 * lentRegions (seen c))} c a c′ a′ r refl
+      does-as {f = onPart q (REGION-BYTES * lentRegions (seen c))} c a c′ a′ r refl
       (subst (λ (n : ℕ). Does (onPart q n) c a c′ a′ r) e (lent-part c a k c′ q part′ r C))

@@ -1,4 +1,4 @@
--- The record that begins at a byte, by its kind and by how many bytes are left. Assumes nothing.
+-- The record that begins at a byte, by its kind and by how many bytes are left.
 use Prim.Native.Nat.{ℕ, _+_, _-_, _≤_, _<_}
 use mathlib.Core.Path.{_≡_}
 use mathlib.Core.Logic.{_≢_}
@@ -39,7 +39,8 @@ module _ (input : List ℕ) (at : ℕ) where
         unfolding recordAt
         start-cut e h = rw (le-leb 1 kind k, le-leb kind 5 l, ne-eqb kind 4 m, eq-eqb kind 1 e, lt-leb 3 left h)
 
-        pub start-whole : kind ≡ 1 → 3 ≤ left → Start (getD input (at + 1) 0) (getD input (at + 2) 0) ≡ recordAt input at
+        pub start-whole : kind ≡ 1 → 3 ≤ left → Start (getD input (at + 1) 0) (getD input (at + 2) 0)
+            ≡ recordAt input at
         unfolding recordAt
         start-whole e h = rw (le-leb 1 kind k, le-leb kind 5 l, ne-eqb kind 4 m, eq-eqb kind 1 e, le-leb 3 left h)
 

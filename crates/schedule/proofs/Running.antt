@@ -14,7 +14,8 @@ use Rattle.schedule.specs.Bytes.{onBytes, Does}
 
 -- what a run that began on the memories c₀ and a₀ with `most` steps leaves is what is left to run
 pub record Ahead (t most : ℕ) (c₀ a₀ : List ℕ) (left answer : ℕ) (c a : List ℕ) : Type 0 where
-  pub is : runs onBytes 0 t most (record { control = c₀; area = a₀ }) ≡ runs onBytes answer t left (record { control = c; area = a })
+  pub is : runs onBytes 0 t most (record { control = c₀; area = a₀ })
+      ≡ runs onBytes answer t left (record { control = c; area = a })
 
 pub begins : (t most : ℕ) (c a : List ℕ) → Ahead t most c a most 0 c a
 begins t most c a = record { is = refl }
@@ -24,7 +25,8 @@ module _ {t most : ℕ} {c₀ a₀ : List ℕ} {left answer : ℕ} {c a : List �
   pub ends : left ≡ 0 → Does (runs onBytes 0 t most) c₀ a₀ c a answer
   unfolding runs
   ends e =
-      let p : runs onBytes 0 t most (record { control = c₀; area = a₀ }) ≡ (record { control = c; area = a }, answer) = A .is ∙ ap (λ (n : ℕ). runs onBytes answer t n (record { control = c; area = a })) e in
+      let p : runs onBytes 0 t most (record { control = c₀; area = a₀ }) ≡ (record { control = c; area = a }, answer) =
+      A .is ∙ ap (λ (n : ℕ). runs onBytes answer t n (record { control = c; area = a })) e in
       record {
         control-is = sym (ap (λ (x : Memories × ℕ). x .0 .control) p);
         area-is = sym (ap (λ (x : Memories × ℕ). x .0 .area) p);
@@ -38,7 +40,8 @@ module _ {t most : ℕ} {c₀ a₀ : List ℕ} {left answer : ℕ} {c a : List �
 
     -- what is left to run, by the answer of the step
     turn : runs onBytes answer t left (record { control = c; area = a })
-        ≡ cond (eqb r 0) (runs onBytes 0 t (left - 1) (record { control = c′; area = a′ })) (record { control = c′; area = a′ }, r)
+        ≡ cond (eqb r 0) (runs onBytes 0 t (left - 1) (record { control = c′; area = a′ }))
+        (record { control = c′; area = a′ }, r)
     unfolding runs
     turn =
         ap (λ (n : ℕ). runs onBytes answer t n (record { control = c; area = a })) more
@@ -53,7 +56,8 @@ module _ {t most : ℕ} {c₀ a₀ : List ℕ} {left answer : ℕ} {c a : List �
       is =
           A .is
           ∙ turn
-          ∙ ap (λ (b : Bool). cond b (runs onBytes 0 t (left - 1) (record { control = c′; area = a′ })) (record { control = c′; area = a′ }, r)) (eq-eqb r 0 e)
+          ∙ ap (λ (b : Bool). cond b (runs onBytes 0 t (left - 1) (record { control = c′; area = a′ }))
+          (record { control = c′; area = a′ }, r)) (eq-eqb r 0 e)
           ∙ ap (λ (n : ℕ). runs onBytes n t (left - 1) (record { control = c′; area = a′ })) (sym e);
     }
 
@@ -64,5 +68,6 @@ module _ {t most : ℕ} {c₀ a₀ : List ℕ} {left answer : ℕ} {c a : List �
       is =
           A .is
           ∙ turn
-          ∙ ap (λ (b : Bool). cond b (runs onBytes 0 t (left - 1) (record { control = c′; area = a′ })) (record { control = c′; area = a′ }, r)) (ne-eqb r 0 n);
+          ∙ ap (λ (b : Bool). cond b (runs onBytes 0 t (left - 1) (record { control = c′; area = a′ }))
+          (record { control = c′; area = a′ }, r)) (ne-eqb r 0 n);
     }

@@ -1,4 +1,4 @@
--- The line of a record, from what its treatment answers. Assumes nothing.
+-- The line of a record, from what its treatment answers.
 use Prim.Native.Nat.{ℕ}
 use mathlib.Core.Path.{ap}
 use mathlib.Core.List.{List}

@@ -1,4 +1,4 @@
--- The machine values of a line and of a tally. Assumes nothing.
+-- The machine values of a line and of a tally.
 use mathlib.Core.Path.{_≡_, subst}
 use mathlib.Core.List.{[], _∷_}
 use Prim.Native.Nat.{_<_, _^_}

@@ -2,9 +2,11 @@
 use Prim.Native.Nat.{ℕ, _+_, _*_}
 use mathlib.Core.Bool.{cond}
 use lib.Dec.{eqb, ltb}
+use Rattle.limits.specs.Limits.{CONTROL-BYTES, REGION-BYTES}
 use Rattle.plain.specs.Calls.{Pool, Call}
 use Rattle.plain.specs.Calls as Calls
 use Rattle.plain.specs.Moves.{Answer}
+use Rattle.schedule.specs.Stand.{STAND-REGIONS}
 use Rattle.schedule.specs.Stand.{Lends, named, as-started}
 
 -- the code, and 256 times the value
@@ -14,7 +16,7 @@ numberIn y = y .code + 256 * y .value
 -- a call that is lent the control memory and so many bytes of the area, and its answer as one number
 abbrev pub feeding : Call → ℕ → Pool → Pool × ℕ
 feeding k area p =
-    let x = Calls.call k (record { control = 8192; area = area }) p in
+    let x = Calls.call k (record { control = CONTROL-BYTES; area = area }) p in
     (x .0, numberIn (x .1))
 
 -- how many regions the last accepted start was lent: none before the first
@@ -23,5 +25,5 @@ startedRegions p = cond (eqb (p .tasks) 0) 0 (p .regions)
 
 -- "more than 4 regions is 2"
 abbrev pub onPlain : Call → Lends → Pool → Pool × ℕ
-onPlain k (named regions) p = cond (ltb 4 regions) (p, 2) (feeding k (4096 * regions) p)
-onPlain k as-started p = feeding k (4096 * startedRegions p) p
+onPlain k (named regions) p = cond (ltb STAND-REGIONS regions) (p, 2) (feeding k (REGION-BYTES * regions) p)
+onPlain k as-started p = feeding k (REGION-BYTES * startedRegions p) p

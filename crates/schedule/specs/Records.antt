@@ -1,5 +1,4 @@
 -- The records of a schedule. "A record is one byte of kind, then a body."
--- Assumes nothing.
 use Prim.Native.Nat.{ℕ, _+_, _-_}
 use mathlib.Core.Bool.{cond}
 use mathlib.Core.List.{List}
@@ -10,12 +9,14 @@ use Rattle.schedule.specs.declared.record.Entry.{Entry}
 use Rattle.schedule.specs.declared.record.Record.{Record}
 use Rattle.schedule.specs.declared.record.Record.the-variants.{Start, Allocate, Free, Step, Run, Bad}
 
--- "2 allocate (task, size in two bytes, low first); 3 free (task, unit in two bytes, low first); .. 5 run (task, most steps in two
--- bytes, low first)"
+-- "2 allocate (task, size in two bytes, low first); 3 free (task, unit in two bytes, low first); .. 5 run (task, most
+-- steps in two bytes, low first)"
 unfoldable pub wideOf : ℕ → ℕ → ℕ → Record
-wideOf kind task number = cond (eqb kind 2) (Allocate task number) (cond (eqb kind 3) (Free task number) (Run task number))
+wideOf kind task number =
+    cond (eqb kind 2) (Allocate task number) (cond (eqb kind 3) (Free task number) (Run task number))
 
--- the record that begins at the byte `at`: "1 start (tasks, regions); .. 4 step (task)"; "15 unknown kind or cut record"
+-- the record that begins at the byte `at`: "1 start (tasks, regions); .. 4 step (task)"; "15 unknown kind or cut
+-- record"
 unfoldable pub recordAt : List ℕ → ℕ → Record
 recordAt input at =
     let kind = getD input at 0 in

@@ -13,7 +13,15 @@ use Rattle.schedule.specs.declared.treat.Line.{Line}
 use Rattle.schedule.specs.Records.{recordAt, entryAt, endOf}
 use Rattle.schedule.specs.Tally.{counted}
 
--- what the stand lends to a call: so many regions, which a start's record names, or what the last accepted start was lent
+-- "The stand keeps an area of 16,384 bytes": four regions
+abbrev pub STAND-REGIONS : ℕ
+STAND-REGIONS = 4
+
+abbrev pub STAND-AREA : ℕ
+STAND-AREA = 16384
+
+-- what the stand lends to a call: so many regions, which a start's record names, or what the last accepted start was
+-- lent
 pub data Lends : Type 0 where
   named : (regions : ℕ) → Lends
   as-started : Lends
@@ -24,8 +32,8 @@ lineOf e r = record { number = e .number; kind = e .kind; code = r % 256; value 
 
 -- a pool: its state, and what a call makes of it, with the answer: the code, and 256 times the value
 module _ {S : Type 0} (call : Call → Lends → S → S × ℕ) where
-  -- "run (task, most steps ..), which stops at a finish, an end or a refusal (most 0: code 0, no call made)"; "A run shows its last
-  -- call's answer". The last answer so far is a.
+  -- "run (task, most steps ..), which stops at a finish, an end or a refusal (most 0: code 0, no call made)"; "A run
+  -- shows its last call's answer". The last answer so far is a.
   unfoldable pub runs : ℕ → ℕ → ℕ → S → S × ℕ
   runs a t zero s = (s, a)
   runs a t (suc m) s =
@@ -45,7 +53,8 @@ module _ {S : Type 0} (call : Call → Lends → S → S × ℕ) where
   abbrev pub shown : Entry → S → S × Line
   shown e s = let x = treated (e .body) s in (x .0, lineOf e (x .1))
 
-  -- the lines from the record at the byte `at` on, which is the record n, and the tally at the end; no more than f records
+  -- the lines from the record at the byte `at` on, which is the record n, and the tally at the end; no more than f
+  -- records
   unfoldable pub table : ℕ → List ℕ → ℕ → ℕ → Tally → S → List Line × Tally
   table zero input at n y s = ([], y)
   table (suc f) input at n y s =

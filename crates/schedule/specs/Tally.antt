@@ -1,5 +1,4 @@
 -- The tally. "The last line counts codes 20, codes 0 and the others."
--- Assumes nothing.
 use Prim.Native.Nat.{ℕ, _+_, _%_, _^_}
 use mathlib.Core.Bool.{cond}
 use lib.Dec.{eqb}

@@ -16,18 +16,21 @@ pub fn count_in(tally: &mut Tally, code: u64)
     *tally = tally::count(*tally, code);
 }
 
-// The treatment of a record, which is handed the tally and counts the record in it by its code: its line, the two memories
-// and the tally afterwards.
+// The treatment of a record, which is handed the tally and counts the record in it by its code: its line, the two
+// memories and the tally afterwards.
 pub fn treat_counted(control: &mut [u8], area: &mut [u8], entry: Entry, tally: &mut Tally) -> Line
     requires { ⌜ StandMemories (now control) (now area) ⌝ }
-    ensures { λ r. ⌜ Does (shown onBytes entry) (now (control .entry)) (now (area .entry)) (now (control .exit)) (now (area .exit)) r × (now (tally .exit) ≡ counted (now (tally .entry)) (r .code)) ⌝ }
+    ensures { λ r.
+        ⌜ Does (shown onBytes entry) (now (control .entry)) (now (area .entry)) (now (control .exit)) (now (area .exit)) r
+        × (now (tally .exit) ≡ counted (now (tally .entry)) (r .code)) ⌝ }
 {
     let line = treat::show(control, area, entry);
     count_in(tally, line.code);
     line
 }
 
-// What the treatment of a record gives a caller that keeps the tally by value: the line, and the tally with the record counted.
+// What the treatment of a record gives a caller that keeps the tally by value: the line, and the tally with the record
+// counted.
 pub struct Treated {
     pub line: Line,
     pub tally: Tally,
@@ -36,7 +39,9 @@ pub struct Treated {
 // The treatment of a record with a tally by value: a copy of it is lent to the treatment, and returned.
 pub fn treat_with(control: &mut [u8], area: &mut [u8], entry: Entry, tally: Tally) -> Treated
     requires { ⌜ StandMemories (now control) (now area) ⌝ }
-    ensures { λ r. ⌜ Does (shown onBytes entry) (now (control .entry)) (now (area .entry)) (now (control .exit)) (now (area .exit)) (r .line) × (r .tally ≡ counted tally (r .line .code)) ⌝ }
+    ensures { λ r.
+        ⌜ Does (shown onBytes entry) (now (control .entry)) (now (area .entry)) (now (control .exit)) (now (area .exit))
+        (r .line) × (r .tally ≡ counted tally (r .line .code)) ⌝ }
 {
     let mut lent = tally;
     let line = treat_counted(control, area, entry, &mut lent);

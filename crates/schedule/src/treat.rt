@@ -16,7 +16,9 @@ pub struct Line {
 // "5 run .. stops at a finish, an end or a refusal (most 0: code 0, no call made)". It answers as the last call.
 fn run(control: &mut [u8], area: &mut [u8], task: u8, most: u16) -> u64
     requires { ⌜ StandMemories (now control) (now area) ⌝ }
-    ensures { λ r. ⌜ Does (runs onBytes 0 task most) (now (control .entry)) (now (area .entry)) (now (control .exit)) (now (area .exit)) r ⌝ }
+    ensures { λ r.
+        ⌜ Does (runs onBytes 0 task most) (now (control .entry)) (now (area .entry)) (now (control .exit))
+        (now (area .exit)) r ⌝ }
 {
     let mut left = most;
     let mut answer: u64 = 0;
@@ -34,7 +36,9 @@ fn run(control: &mut [u8], area: &mut [u8], task: u8, most: u16) -> u64
 // What a record does to the two memories, and what it answers: the code, and 256 times the value.
 pub fn treat(control: &mut [u8], area: &mut [u8], body: Record) -> u64
     requires { ⌜ StandMemories (now control) (now area) ⌝ }
-    ensures { λ r. ⌜ Does (treated onBytes body) (now (control .entry)) (now (area .entry)) (now (control .exit)) (now (area .exit)) r ⌝ }
+    ensures { λ r.
+        ⌜ Does (treated onBytes body) (now (control .entry)) (now (area .entry)) (now (control .exit)) (now (area .exit))
+        r ⌝ }
 {
     match body {
         Record::Start(tasks, regions) => lend::start(control, area, tasks, regions),
@@ -49,7 +53,9 @@ pub fn treat(control: &mut [u8], area: &mut [u8], body: Record) -> u64
 // What a record does to the two memories, and its line.
 pub fn show(control: &mut [u8], area: &mut [u8], entry: Entry) -> Line
     requires { ⌜ StandMemories (now control) (now area) ⌝ }
-    ensures { λ r. ⌜ Does (shown onBytes entry) (now (control .entry)) (now (area .entry)) (now (control .exit)) (now (area .exit)) r ⌝ }
+    ensures { λ r.
+        ⌜ Does (shown onBytes entry) (now (control .entry)) (now (area .entry)) (now (control .exit)) (now (area .exit))
+        r ⌝ }
 {
     let body = entry.body;
     let answer = treat(control, area, body);

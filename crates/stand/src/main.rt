@@ -1,5 +1,5 @@
-// The stand: it reads a schedule from standard input and writes its table to standard output. This program only reads, calls
-// and writes; it reads no more than the 65,536 bytes of its buffer.
+// The stand: it reads a schedule from standard input and writes its table to standard output. This program only reads,
+// calls and writes; it reads no more than the 65,536 bytes of its buffer.
 use libc::STDIN_FILENO;
 use libc::STDOUT_FILENO;
 ghost use mathlib.Core.Path.{_≡_};

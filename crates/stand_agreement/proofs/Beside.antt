@@ -1,5 +1,5 @@
--- The stand on bytes beside the stand over the plain pool: each request is answered by the same number, and keeps them beside each
--- other.
+-- The stand on bytes beside the stand over the plain pool: each request is answered by the same number, and keeps them
+-- beside each other.
 use Prim.Native.Nat.{ℕ, suc, _*_, _≤_, _<_}
 use mathlib.Core.Path.{_≡_, refl, sym, ap, subst, _∙_}
 use mathlib.Core.List.{[], _∷_}
@@ -8,6 +8,7 @@ use native.Mathlib.Decide.{ℕ-discrete}
 use borrow.Author.Tests.{eq-eqb, ne-eqb, le-ltb}
 use borrow.Rule.Slice.PartMut.{midOf}
 use lib.ListN.{length}
+use Rattle.limits.specs.Limits.{CONTROL-BYTES, REGION-BYTES, TAGS}
 use Rattle.fields.specs.Columns.{View}
 use Rattle.links.specs.Link.{link}
 use Rattle.links.proofs.Links.{length-linked}
@@ -29,6 +30,7 @@ use Rattle.agreement.proofs.Reaching.{reached-tied}
 use Rattle.agreement.proofs.Theorem.{reached-agrees}
 use Rattle.demands.specs.Runs.{own, eventOf, Number}
 use Rattle.demands.proofs.Acting.{shows}
+use Rattle.schedule.specs.Stand.{STAND-REGIONS, STAND-AREA}
 use Rattle.schedule.specs.Stand.{as-started}
 use Rattle.schedule.specs.Bytes.{lentRegions, onPart, onBytes}
 use Rattle.schedule.specs.Plain.{numberIn, feeding, startedRegions, onPlain}
@@ -37,12 +39,12 @@ use Rattle.stand_agreement.proofs.Fed.{SameStart, allocate-keeps, free-
 
 -- the memories that a call is lent with n regions
 abbrev pub partOf : ℕ → Memories → Memories
-partOf n s = record { control = s .control; area = midOf 0 (4096 * n) (s .area) }
+partOf n s = record { control = s .control; area = midOf 0 (REGION-BYTES * n) (s .area) }
 
 -- No list has won more than n exchanges.
 pub record Beside (n : ℕ) (s : Memories) (p : Pool) : Type 0 where
-  pub area-is : length (s .area) ≡ 16384
-  pub few : startedRegions p ≤ 4
+  pub area-is : length (s .area) ≡ STAND-AREA
+  pub few : startedRegions p ≤ STAND-REGIONS
   pub history : History
   pub reached : Reached history (partOf (startedRegions p) s) p
   pub most-won : AtMost n p
@@ -53,7 +55,15 @@ tied B = reached-tied (B .reached)
 
 -- after more calls
 pub later : {n m : ℕ} {s : Memories} {p : Pool} → n ≤ m → Beside n s p → Beside m s p
-later h B = record { area-is = B .area-is; few = B .few; history = B .history; reached = B .reached; most-won = λ k ℓ. omega (arith, h, B .most-won k ℓ) }
+later h B =
+    record {
+      area-is = B .area-is;
+      few = B .few;
+      history = B .history;
+      reached = B .reached;
+      most-won = λ k ℓ. omega
+          (arith, h, B .most-won k ℓ);
+    }
 
 -- a number is its code and 256 times its value
 pub sum : {n : ℕ} {y : Answer} → Number n y → n ≡ numberIn y
@@ -64,7 +74,7 @@ pub record SameAnswer (n : ℕ) (x : Memories × ℕ) (y : Pool × ℕ) : Type 0
   pub number : x .1 ≡ y .1
   pub beside : Beside n (x .0) (y .0)
 
-module _ {n : ℕ} {s : Memories} {p : Pool} (B : Beside n s p) (small : n < 4294967296) where
+module _ {n : ℕ} {s : Memories} {p : Pool} (B : Beside n s p) (small : n < TAGS) where
   abbrev regions : ℕ
   regions = startedRegions p
 
@@ -79,23 +89,29 @@ module _ {n : ℕ} {s : Memories} {p : Pool} (B : Beside n s p) (small : n < 429
       by (yes e) = rw (eq-eqb (seen (s .control) Tasks) 0 (tied B .tasks ∙ e), eq-eqb (p .tasks) 0 e) refl
       by (no k) =
           let q : startedRegions p ≡ p .regions = rw (ne-eqb (p .tasks) 0 k) refl in
-          rw (ne-eqb (seen (s .control) Tasks) 0 (λ e. k (sym (tied B .tasks) ∙ e)), tied B .regions (omega arith), le-ltb 4 (p .regions) (omega (arith, B .few, q)), ne-eqb (p .tasks) 0 k) refl
+          rw (
+            ne-eqb (seen (s .control) Tasks) 0 (λ e. k (sym (tied B .tasks) ∙ e)),
+            tied B .regions (omega arith),
+            le-ltb STAND-REGIONS (p .regions) (omega (arith, B .few, q)),
+            ne-eqb (p .tasks) 0 k,
+          ) refl
 
-  part-is : length (lent .area) ≡ 4096 * regions
-  part-is = part-length (4096 * regions) (s .area) (omega (arith, B .few, B .area-is))
+  part-is : length (lent .area) ≡ REGION-BYTES * regions
+  part-is = part-length (REGION-BYTES * regions) (s .area) (omega (arith, B .few, B .area-is))
 
   -- what the plain pool is fed
   abbrev fed : Lengths
-  fed = record { control = 8192; area = 4096 * regions }
+  fed = record { control = CONTROL-BYTES; area = REGION-BYTES * regions }
 
   as-fed : (q : Call) → whole (eventOf q lent) p ≡ Calls.call q fed p
   as-fed q =
       ap (λ (k : ℕ). Calls.call q (record { control = k; area = length (lent .area) }) p) (tied B .length)
-      ∙ ap (λ (k : ℕ). Calls.call q (record { control = 8192; area = k }) p) part-is
+      ∙ ap (λ (k : ℕ). Calls.call q (record { control = CONTROL-BYTES; area = k }) p) part-is
 
   -- ---- a call that is no start, by its own effect
 
-  module _ (q : Call) (premise : Premise (eventOf q lent) p) (long : length (effectOf q lent .area) ≡ length (lent .area))
+  module _ (q : Call) (premise : Premise (eventOf q lent) p)
+      (long : length (effectOf q lent .area) ≡ length (lent .area))
       (keeps : SameStart p (Calls.call q fed p .0)) where
     abbrev e : Effect
     e = effectOf q lent
@@ -103,19 +119,27 @@ module _ {n : ℕ} {s : Memories} {p : Pool} (B : Beside n s p) (small : n < 429
     abbrev left : Memories
     left = record { control = e .control; area = e .area }
 
-    same-call : SameAnswer (suc n) (onPart q (4096 * regions) s) (feeding q (4096 * regions) p)
+    same-call : SameAnswer (suc n) (onPart q (REGION-BYTES * regions) s) (feeding q (REGION-BYTES * regions) p)
     same-call =
-        let S = shows (own q left (numberOf (e .answer))) lent (record { number = refl; control-is = refl; area-is = refl }) in
+        let S =
+        shows (own q left (numberOf (e .answer))) lent (record { number = refl; control-is = refl; area-is = refl }) in
         let H = happened (eventOf q lent) lent p ∷ B .history in
         let A = reached-agrees (B .history) lent p (B .reached) (eventOf q lent) premise in
         let p′ = Calls.call q fed p .0 in
         let r = same-regions p p′ keeps in
-        let s′ : Memories = onPart q (4096 * regions) s .0 in
-        let back : partOf regions s′ ≡ left = λ i. record { control = e .control; area = part-back (4096 * regions) (s .area) (e .area) (long ∙ part-is) i } in
+        let s′ : Memories = onPart q (REGION-BYTES * regions) s .0 in
+        let back : partOf regions s′ ≡ left =
+        λ i. record {
+          control = e .control;
+          area = part-back (REGION-BYTES * regions) (s .area) (e .area)
+              (long ∙ part-is) i;
+        } in
         record {
           number = sum (S .answers) ∙ ap numberIn (A .0 .says) ∙ ap (λ x. numberIn (x .1)) (as-fed q);
           beside = record {
-            area-is = back-length (4096 * regions) (s .area) (e .area) (omega (arith, B .few, B .area-is)) (long ∙ part-is) ∙ B .area-is;
+            area-is =
+                back-length (REGION-BYTES * regions) (s .area) (e .area) (omega (arith, B .few, B .area-is))
+                (long ∙ part-is) ∙ B .area-is;
             few = omega (arith, B .few, r);
             history = H;
             reached =
@@ -129,7 +153,8 @@ module _ {n : ℕ} {s : Memories} {p : Pool} (B : Beside n s p) (small : n < 429
     -- the call is lent so many regions as the stand's definition says
     same-lent : SameAnswer (suc n) (onBytes q as-started s) (onPlain q as-started p)
     same-lent =
-        subst (λ (k : ℕ). SameAnswer (suc n) (onPart q (4096 * k) s) (feeding q (4096 * regions) p)) (sym lent-same) same-call
+        subst (λ (k : ℕ). SameAnswer (suc n) (onPart q (REGION-BYTES * k) s) (feeding q (REGION-BYTES * regions) p))
+        (sym lent-same) same-call
 
   -- ---- the calls
 
@@ -147,7 +172,8 @@ module _ {n : ℕ} {s : Memories} {p : Pool} (B : Beside n s p) (small : n < 429
   abbrev v : View
   v = seen (lent .control)
 
-  pub same-allocate : (t size : ℕ) → SameAnswer (suc n) (onBytes (allocate t size) as-started s) (onPlain (allocate t size) as-started p)
+  pub same-allocate : (t size : ℕ) → SameAnswer (suc n) (onBytes (allocate t size) as-started s)
+      (onPlain (allocate t size) as-started p)
   same-allocate t size =
       same-lent (allocate t size) tt (length-linked (Stepped.allocateOutcome c a v t size .links) (lent .area))
       (allocate-keeps fed t p size)

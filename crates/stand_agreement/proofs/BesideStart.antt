@@ -10,6 +10,7 @@ use borrow.Author.Tests.{eq-eqb, ne-eqb, lt-ltb, le-ltb}
 use borrow.Rule.Slice.PartMut.{putMid, put-same}
 use lib.Dec.{eqb}
 use lib.ListN.{length}
+use Rattle.limits.specs.Limits.{CONTROL-BYTES, REGION-BYTES}
 use Rattle.plain.specs.Moves.{Answer}
 use Rattle.plain.specs.Calls.{Pool, Start, start, Lengths}
 use Rattle.plain.specs.Calls as Calls
@@ -28,6 +29,7 @@ use Rattle.agreement.specs.Reached.{History, happened, Reached, by-event}
 use Rattle.agreement.proofs.Theorem.{reached-agrees}
 use Rattle.demands.specs.Runs.{other, eventOf}
 use Rattle.demands.proofs.Acting.{shows}
+use Rattle.schedule.specs.Stand.{STAND-REGIONS}
 use Rattle.schedule.specs.Stand.{named}
 use Rattle.schedule.specs.Bytes.{onPart, onBytes}
 use Rattle.schedule.specs.Plain.{numberIn, feeding, startedRegions, onPlain}
@@ -56,7 +58,8 @@ refusal NoDescriptor b h = absurd b
 refusal NoRegion b h = absurd b
 refusal (Refused n) b h = (n, refl)
 
-module _ {n : ℕ} {s : Memories} {p : Pool} (B : Beside n s p) (b : Start) (regions : ℕ) (few : regions ≤ 4) where
+module _ {n : ℕ} {s : Memories} {p : Pool} (B : Beside n s p) (b : Start) (regions : ℕ)
+    (few : regions ≤ STAND-REGIONS) where
   abbrev lent : Memories
   lent = partOf regions s
 
@@ -73,20 +76,21 @@ module _ {n : ℕ} {s : Memories} {p : Pool} (B : Beside n s p) (b : Start) (reg
   before = partOf (startedRegions p) s
 
   abbrev lengths : Lengths
-  lengths = record { control = 8192; area = 4096 * regions }
+  lengths = record { control = CONTROL-BYTES; area = REGION-BYTES * regions }
 
-  part-is : length (lent .area) ≡ 4096 * regions
-  part-is = part-length (4096 * regions) (s .area) (omega (arith, few, B .area-is))
+  part-is : length (lent .area) ≡ REGION-BYTES * regions
+  part-is = part-length (REGION-BYTES * regions) (s .area) (omega (arith, few, B .area-is))
 
   fed : whole (eventOf (start b) lent) p ≡ Calls.call (start b) lengths p
   fed =
       ap (λ (k : ℕ). Calls.call (start b) (record { control = k; area = length (lent .area) }) p) (tied B .length)
-      ∙ ap (λ (k : ℕ). Calls.call (start b) (record { control = 8192; area = k }) p) part-is
+      ∙ ap (λ (k : ℕ). Calls.call (start b) (record { control = CONTROL-BYTES; area = k }) p) part-is
 
   -- what the stepped run and the whole run have of it
   number-same : r ≡ numberIn (Calls.call (start b) lengths p .1)
   number-same =
-      let S = shows (other (start b) lent left r) before (record { number = refl; control-is = refl; area-is = refl }, tt) in
+      let S =
+      shows (other (start b) lent left r) before (record { number = refl; control-is = refl; area-is = refl }, tt) in
       let A = reached-agrees (B .history) before p (B .reached) (eventOf (start b) lent) tt in
       sum (S .answers) ∙ ap numberIn (A .0 .says) ∙ ap (λ x. numberIn (x .1)) fed
 
@@ -95,7 +99,8 @@ module _ {n : ℕ} {s : Memories} {p : Pool} (B : Beside n s p) (b : Start) (reg
 
   reached-after : Reached H (cond (eqb r 0) left before) (Calls.call (start b) lengths p .0)
   reached-after =
-      let S = shows (other (start b) lent left r) before (record { number = refl; control-is = refl; area-is = refl }, tt) in
+      let S =
+      shows (other (start b) lent left r) before (record { number = refl; control-is = refl; area-is = refl }, tt) in
       subst (λ (z : Memories). Reached H z (Calls.call (start b) lengths p .0)) (S .leaves)
       (subst (λ x. Reached H (stepped (eventOf (start b) lent) before .0) (x .0)) fed
       (by-event (B .reached) (eventOf (start b) lent) tt))
@@ -104,46 +109,58 @@ module _ {n : ℕ} {s : Memories} {p : Pool} (B : Beside n s p) (b : Start) (reg
   answers = start-ends (length (lent .control)) (lent .area) (b .tasks) (lent .control) (lent .area) .answers
 
   abbrev s′ : Memories
-  s′ = onPart (start b) (4096 * regions) s .0
+  s′ = onPart (start b) (REGION-BYTES * regions) s .0
 
   abbrev p′ : Pool
   p′ = Calls.call (start b) lengths p .0
 
   accepted-beside : r ≡ 0 → 1 ≤ p′ .tasks → p′ .regions ≡ regions → Beside (suc n) s′ p′
   accepted-beside h k g =
-      let kept : e .area ≡ lent .area = start-leaves (lent .area) (b .tasks) (length (lent .control)) (lent .control) (lent .area) (sym (number-code (e .answer) answers) ∙ h) in
-      let long : length (e .area) ≡ 4096 * regions = ap length kept ∙ part-is in
-      let q : startedRegions p′ ≡ regions = ap (λ (b : Bool). cond b 0 (p′ .regions)) (ne-eqb (p′ .tasks) 0 (λ z. omega arith)) ∙ g in
-      let back : partOf regions s′ ≡ left = λ i. record { control = e .control; area = part-back (4096 * regions) (s .area) (e .area) long i } in
+      let kept : e .area ≡ lent .area =
+      start-leaves (lent .area) (b .tasks) (length (lent .control)) (lent .control) (lent .area)
+      (sym (number-code (e .answer) answers) ∙ h) in
+      let long : length (e .area) ≡ REGION-BYTES * regions = ap length kept ∙ part-is in
+      let q : startedRegions p′ ≡ regions =
+      ap (λ (b : Bool). cond b 0 (p′ .regions)) (ne-eqb (p′ .tasks) 0 (λ z. omega arith)) ∙ g in
+      let back : partOf regions s′ ≡ left =
+      λ i. record { control = e .control; area = part-back (REGION-BYTES * regions) (s .area) (e .area) long i } in
       record {
-        area-is = back-length (4096 * regions) (s .area) (e .area) (omega (arith, few, B .area-is)) long ∙ B .area-is;
+        area-is =
+            back-length (REGION-BYTES * regions) (s .area) (e .area) (omega (arith, few, B .area-is)) long ∙ B .area-is;
         few = omega (arith, few, q);
         history = H;
         reached =
             subst (λ (z : Memories). Reached H z p′)
-            (ap (λ (b : Bool). cond b left before) (eq-eqb r 0 h) ∙ sym (ap (λ (k : ℕ). partOf k s′) q ∙ back)) reached-after;
+            (ap (λ (b : Bool). cond b left before) (eq-eqb r 0 h) ∙ sym (ap (λ (k : ℕ). partOf k s′) q ∙ back))
+            reached-after;
         most-won = most n (start b) lengths p (B .most-won);
       }
 
   refused-beside : r ≢ 0 → p′ ≡ p → Beside (suc n) s′ p′
   refused-beside h k =
       let R = refusal (e .answer) answers h in
-      let L = start-ends (length (lent .control)) (lent .area) (b .tasks) (lent .control) (lent .area) .leaves (R .0) (R .1) in
-      let same : s ≡ s′ = sym ((λ i. record { control = L .0 i; area = putMid 0 (4096 * regions) (s .area) (L .1 i) }) ∙ (λ i. record { control = s .control; area = put-same 0 (4096 * regions) (s .area) i })) in
-      subst (λ (z : Memories). Beside (suc n) z p′) same (subst (λ (z : Pool). Beside (suc n) s z) (sym k) (later (omega arith) B))
+      let L =
+      start-ends (length (lent .control)) (lent .area) (b .tasks) (lent .control) (lent .area) .leaves (R .0) (R .1) in
+      let same : s ≡ s′ =
+      sym ((λ i. record { control = L .0 i; area = putMid 0 (REGION-BYTES * regions) (s .area) (L .1 i) })
+      ∙ (λ i. record { control = s .control; area = put-same 0 (REGION-BYTES * regions) (s .area) i })) in
+      subst (λ (z : Memories). Beside (suc n) z p′) same
+      (subst (λ (z : Pool). Beside (suc n) s z) (sym k) (later (omega arith) B))
 
   by : StartIs regions p (Calls.call (start b) lengths p) → Beside (suc n) s′ p′
   by (accepted z k g) = accepted-beside (number-same ∙ z) k g
   by (refused z k) = refused-beside (λ h. z (code-zero (Calls.call (start b) lengths p .1) (sym number-same ∙ h))) k
 
-  pub same-lent : SameAnswer (suc n) (onPart (start b) (4096 * regions) s) (feeding (start b) (4096 * regions) p)
+  pub same-lent : SameAnswer (suc n) (onPart (start b) (REGION-BYTES * regions) s)
+      (feeding (start b) (REGION-BYTES * regions) p)
   same-lent = record { number = number-same; beside = by (start-is b regions p) }
 
 -- "more than 4 regions is 2", in both
 pub same-start : {n : ℕ} {s : Memories} {p : Pool} → Beside n s p → (b : Start) (regions : ℕ)
     → SameAnswer (suc n) (onBytes (start b) (named regions) s) (onPlain (start b) (named regions) p)
-same-start {n} {s} {p} B b regions = by-regions (decLt 4 regions)
+same-start {n} {s} {p} B b regions = by-regions (decLt STAND-REGIONS regions)
   where
-    by-regions : Dec (4 < regions) → SameAnswer (suc n) (onBytes (start b) (named regions) s) (onPlain (start b) (named regions) p)
-    by-regions (yes h) = rw (lt-ltb 4 regions h) (record { number = refl; beside = later (omega arith) B })
-    by-regions (no h) = rw (le-ltb 4 regions (omega arith)) (same-lent B b regions (omega arith))
+    by-regions : Dec (STAND-REGIONS < regions)
+        → SameAnswer (suc n) (onBytes (start b) (named regions) s) (onPlain (start b) (named regions) p)
+    by-regions (yes h) = rw (lt-ltb STAND-REGIONS regions h) (record { number = refl; beside = later (omega arith) B })
+    by-regions (no h) = rw (le-ltb STAND-REGIONS regions (omega arith)) (same-lent B b regions (omega arith))

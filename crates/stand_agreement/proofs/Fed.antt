@@ -4,6 +4,7 @@ use mathlib.Core.Path.{_≡_, refl}
 use mathlib.Core.Logic.{_≢_}
 use native.Mathlib.Omega.{arith}
 use native.Mathlib.Decide.{ℕ-discrete, decLt}
+use Rattle.limits.specs.Limits.{CONTROL-BYTES, REGION-BYTES}
 use Rattle.plain.specs.Moves.{Answer}
 use Rattle.plain.specs.Steps.{Result}
 use Rattle.plain.specs.Calls.{Pool, Start, Lengths}
@@ -19,9 +20,9 @@ SameStart p p′ = (p′ .tasks ≡ p .tasks) × (p′ .regions ≡ p .regions)
 tested-keeps : (t : ℕ) (lent : Lengths) (p : Pool) (x : Result) → SameStart p (Calls.tested t lent p x .0)
 tested-keeps t lent p x =
     let Q : Pool × Answer → Type 0 = λ z. SameStart p (z .0) in
-    either Q (ℕ-discrete (lent .control) 8192) _ _
+    either Q (ℕ-discrete (lent .control) CONTROL-BYTES) _ _
     (λ a. either Q (ℕ-discrete (p .tasks) 0) _ _ (λ b. (refl, refl))
-    (λ b. either Q (ℕ-discrete (lent .area) (4096 * p .regions)) _ _
+    (λ b. either Q (ℕ-discrete (lent .area) (REGION-BYTES * p .regions)) _ _
     (λ c. either Q (decLt t (p .tasks)) _ _ (λ d. (refl, refl)) (λ d. (refl, refl)))
     (λ c. (refl, refl))))
     (λ a. (refl, refl))
@@ -50,12 +51,14 @@ pub data StartIs (regions : ℕ) (p : Pool) (x : Pool × Answer) : Type 0 where
   refused : x .1 .code ≢ 0 → x .0 ≡ p → StartIs regions p x
 
 pub start-is : (b : Start) (regions : ℕ) (p : Pool)
-    → StartIs regions p (Calls.call (Calls.start b) (record { control = 8192; area = 4096 * regions }) p)
+    → StartIs regions p
+    (Calls.call (Calls.start b) (record { control = CONTROL-BYTES; area = REGION-BYTES * regions }) p)
 unfolding Calls.call
 start-is b regions p =
     let Q = StartIs regions p in
-    either Q (ℕ-discrete 8192 8192) _ _
-    (λ a. either Q (Calls.area? (4096 * regions)) _ _
-    (λ b. either Q (Calls.tasks? (b .tasks)) _ _ (λ c. accepted refl (c .0) (omega arith)) (λ c. refused (λ e. absurd (omega arith)) refl))
-    (λ b. refused (λ e. absurd (omega arith)) refl))
+    either Q (ℕ-discrete CONTROL-BYTES CONTROL-BYTES) _ _
+    (λ a. either Q (Calls.area? (REGION-BYTES * regions)) _ _
+    (λ d. either Q (Calls.tasks? (b .tasks)) _ _ (λ c. accepted refl (c .0) (omega arith))
+    (λ c. refused (λ e. absurd (omega arith)) refl))
+    (λ d. refused (λ e. absurd (omega arith)) refl))
     (λ a. refused (λ e. absurd (omega arith)) refl)

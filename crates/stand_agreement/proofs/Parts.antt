@@ -1,4 +1,4 @@
--- The first bytes of the area, lent and taken back. Assumes nothing.
+-- The first bytes of the area, lent and taken back.
 use Prim.Native.Nat.{ℕ, _≤_}
 use mathlib.Core.Path.{_≡_, sym, ap, _∙_}
 use mathlib.Core.List.{List, _++_}

@@ -8,6 +8,7 @@ use native.Mathlib.Decide.{ℕ-discrete, decLt}
 use borrow.Author.Tests.{eq-eqb, ne-eqb, lt-ltb, le-ltb, leb-true}
 use lib.Dec.{eqb, leb}
 use lib.ListN.{length, getD, length-replicate}
+use Rattle.limits.specs.Limits.{CONTROL-BYTES, TAGS}
 use Rattle.fields.specs.Little.{Bytes, getLE}
 use Rattle.fields.proofs.Numbers.{getLE-lt}
 use Rattle.plain.specs.Calls.{Pool, step, unstarted}
@@ -23,6 +24,7 @@ use Rattle.schedule.specs.declared.tally.Tally.{Tally}
 use Rattle.schedule.specs.declared.treat.Line.{Line}
 use Rattle.schedule.specs.Records.{wideOf, recordAt, entryAt, endOf}
 use Rattle.schedule.specs.Tally.{none, counted}
+use Rattle.schedule.specs.Stand.{STAND-AREA}
 use Rattle.schedule.specs.Stand.{as-started, lineOf, runs, treated, table}
 use Rattle.schedule.specs.Bytes.{zeros, onBytes}
 use Rattle.schedule.specs.Plain.{onPlain}
@@ -64,40 +66,54 @@ record-fits input at b l =
     branch P (leb 1 kind)
     (λ e. branch P (leb kind 5)
     (λ f. branch P (eqb kind 4)
-    (λ g. branch P (leb 2 left) (λ h. record { most = omega arith; from = omega arith; to = omega (arith, leb-true 2 left h) }) (λ h. bad))
+    (λ g. branch P (leb 2 left)
+    (λ h. record { most = omega arith; from = omega arith; to = omega (arith, leb-true 2 left h) }) (λ h. bad))
     (λ g. branch P (eqb kind 1)
-    (λ h. branch P (leb 3 left) (λ i. record { most = omega arith; from = omega arith; to = omega (arith, leb-true 3 left i) }) (λ i. bad))
+    (λ h. branch P (leb 3 left)
+    (λ i. record { most = omega arith; from = omega arith; to = omega (arith, leb-true 3 left i) }) (λ i. bad))
     (λ h. branch P (leb 4 left)
-    (λ i. wide-fits at (length input) kind (getD input (at + 1) 0) (getLE input (at + 2) 2) (omega (arith, leb-true 4 left i)) (getLE-lt input (at + 2) 2 b))
+    (λ i. wide-fits at (length input) kind (getD input (at + 1) 0) (getLE input (at + 2) 2)
+    (omega (arith, leb-true 4 left i)) (getLE-lt input (at + 2) 2 b))
     (λ i. bad))))
     (λ f. bad))
     (λ e. bad)
 
 -- ---- runs and records
 
-same-runs : (m n a t : ℕ) (s : Memories) (p : Pool) → Beside n s p → n + m < 4294967296
+same-runs : (m n a t : ℕ) (s : Memories) (p : Pool) → Beside n s p → n + m < TAGS
     → SameAnswer (n + m) (runs onBytes a t m s) (runs onPlain a t m p)
 unfolding runs
 same-runs zero n a t s p B l = record { number = refl; beside = later (omega arith) B }
 same-runs (suc m) n a t s p B l =
     let one = same-step B (omega arith) t in
-    by one (same-runs m (suc n) 0 t (onBytes (step t) as-started s .0) (onPlain (step t) as-started p .0) (one .beside) (omega arith))
+    by one (same-runs m (suc n) 0 t (onBytes (step t) as-started s .0) (onPlain (step t) as-started p .0) (one .beside)
+    (omega arith))
     (ℕ-discrete (onPlain (step t) as-started p .1) 0)
   where
     by : SameAnswer (suc n) (onBytes (step t) as-started s) (onPlain (step t) as-started p)
-        → SameAnswer (suc n + m) (runs onBytes 0 t m (onBytes (step t) as-started s .0)) (runs onPlain 0 t m (onPlain (step t) as-started p .0))
-        → Dec (onPlain (step t) as-started p .1 ≡ 0) → SameAnswer (n + suc m) (runs onBytes a t (suc m) s) (runs onPlain a t (suc m) p)
+        → SameAnswer (suc n + m) (runs onBytes 0 t m (onBytes (step t) as-started s .0))
+        (runs onPlain 0 t m (onPlain (step t) as-started p .0))
+        → Dec (onPlain (step t) as-started p .1 ≡ 0)
+        → SameAnswer (n + suc m) (runs onBytes a t (suc m) s) (runs onPlain a t (suc m) p)
     by one rest (yes e) =
-        rw (eq-eqb (onBytes (step t) as-started s .1) 0 (one .number ∙ e), eq-eqb (onPlain (step t) as-started p .1) 0 e)
+        rw (
+          eq-eqb (onBytes (step t) as-started s .1) 0 (one .number ∙ e),
+          eq-eqb (onPlain (step t) as-started p .1) 0
+              e,
+        )
         (record { number = rest .number; beside = later (omega arith) (rest .beside) })
     by one rest (no k) =
-        rw (ne-eqb (onBytes (step t) as-started s .1) 0 (λ e. k (sym (one .number) ∙ e)), ne-eqb (onPlain (step t) as-started p .1) 0 k)
+        rw (
+          ne-eqb (onBytes (step t) as-started s .1) 0 (λ e. k (sym (one .number) ∙ e)),
+          ne-eqb
+              (onPlain (step t) as-started p .1) 0 k,
+        )
         (record { number = one .number; beside = later (omega arith) (one .beside) })
 
 after : {n : ℕ} {x : Memories × ℕ} {y : Pool × ℕ} → SameAnswer (suc n) x y → SameAnswer (n + 65535) x y
 after S = record { number = S .number; beside = later (omega arith) (S .beside) }
 
-same-treated : {n : ℕ} {s : Memories} {p : Pool} (r : Record) → mostOf r ≤ 65535 → Beside n s p → n + 65535 < 4294967296
+same-treated : {n : ℕ} {s : Memories} {p : Pool} (r : Record) → mostOf r ≤ 65535 → Beside n s p → n + 65535 < TAGS
     → SameAnswer (n + 65535) (treated onBytes r s) (treated onPlain r p)
 same-treated (Start tasks regions) m B l = after (same-start B (record { tasks = tasks }) regions)
 same-treated (Allocate t size) m B l = after (same-allocate B (omega arith) t size)
@@ -118,7 +134,8 @@ module _ (input : List ℕ) (bytes : Bytes input) (long : length input ≤ 65536
   same-table (suc f) at n k y s p h l B =
       by (λ at′ y′ s′ p′ h′ l′ B′. same-table f at′ (n + 1) (k + 65535) y′ s′ p′ h′ l′ B′) (decLt at (length input))
     where
-      by : ((at′ : ℕ) (y′ : Tally) (s′ : Memories) (p′ : Pool) → at′ ≤ length input → k + 65535 ≤ 65535 * at′ → Beside (k + 65535) s′ p′
+      by : ((at′ : ℕ) (y′ : Tally) (s′ : Memories) (p′ : Pool) → at′ ≤ length input → k + 65535 ≤ 65535 * at′
+          → Beside (k + 65535) s′ p′
           → table onBytes f input at′ (n + 1) y′ s′ ≡ table onPlain f input at′ (n + 1) y′ p′)
           → Dec (at < length input) → table onBytes (suc f) input at n y s ≡ table onPlain (suc f) input at n y p
       by rest (no g) = rw (le-ltb at (length input) (omega arith)) refl
@@ -132,27 +149,29 @@ module _ (input : List ℕ) (bytes : Bytes input) (long : length input ≤ 65536
           let row : ℕ → List Line × Tally → List Line × Tally = λ m w. (lineOf (entryAt input at n) m ∷ w .0, w .1) in
           rw (lt-ltb at (length input) g)
           (ap (λ (m : ℕ). row m (table onBytes f input next (n + 1) (counted y (m % 256)) (x .0))) (S .number)
-          ∙ ap (row (z .1)) (rest next (counted y (z .1 % 256)) (x .0) (z .0) (F .to) (omega (arith, l, F .from)) (S .beside)))
+          ∙ ap (row (z .1))
+          (rest next (counted y (z .1 % 256)) (x .0) (z .0) (F .to) (omega (arith, l, F .from)) (S .beside)))
 
 -- the stand's memories before the first record, and the plain pool that is not started
 zeros-beside : Beside 0 zeros unstarted
 unfolding unstarted
 zeros-beside = record {
-  area-is = length-replicate {A = ℕ} 16384 0;
+  area-is = length-replicate {A = ℕ} STAND-AREA 0;
   few = omega arith;
   history = [];
   reached =
       from-unstarted {s₁ = partOf 0 zeros}
       (record {
-        length = length-replicate {A = ℕ} 8192 0;
-        bytes = λ i. rw (zeros-are 8192 i) (omega arith);
-        tasks = getLE-zeros 8192 (atColumn layout Tasks) (width layout Tasks);
+        length = length-replicate {A = ℕ} CONTROL-BYTES 0;
+        bytes = λ i. rw (zeros-are CONTROL-BYTES i) (omega arith);
+        tasks = getLE-zeros CONTROL-BYTES (atColumn layout Tasks) (width layout Tasks);
       });
   most-won = λ h ℓ. absurd (omega arith);
 }
 
--- On every input of at most 65,536 bytes the stand's lines and totals are those of the plain pool fed the same records. There is no
--- premise: no user writes, the control memory is zero at first, and the input bounds the number of exchanges.
+-- On every input of at most 65,536 bytes the stand's lines and totals are those of the plain pool fed the same records.
+-- There is no premise: no user writes, the control memory is zero at first, and the input bounds the number of
+-- exchanges.
 pub stand-table : (input : List ℕ) → Bytes input → length input ≤ 65536
     → table onBytes (length input) input 0 0 none zeros ≡ table onPlain (length input) input 0 0 none unstarted
 stand-table input bytes long =

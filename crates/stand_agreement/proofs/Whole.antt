@@ -1,4 +1,4 @@
--- The whole output against the plain pool. Assumes nothing.
+-- The whole output against the plain pool.
 use Prim.Native.Nat.{ℕ, _≤_}
 use mathlib.Core.Path.{_≡_, ap}
 use mathlib.Core.List.{List}
@@ -9,7 +9,8 @@ use Rattle.stand_agreement.proofs.Table.{stand-table}
 use Rattle.text.specs.Numbers.{Appended}
 use Rattle.table.specs.Output.{tableText, output, plainOutput}
 
--- From memories that are zero, on every input of at most 65,536 bytes, the output is that of the plain pool fed the same records.
+-- From memories that are zero, on every input of at most 65,536 bytes, the output is that of the plain pool fed the
+-- same records.
 pub output-is-plain : (input : List ℕ) → Bytes input → length input ≤ 65536 → output input zeros ≡ plainOutput input
 unfolding output plainOutput
 output-is-plain input b l = ap tableText (stand-table input b l)

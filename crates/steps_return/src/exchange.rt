@@ -18,46 +18,56 @@ ghost use Rattle.stepped.specs.Done.{Given, Done};
 ghost use Rattle.stepped.specs.Lists.{f5};
 ghost use Rattle.stepped.specs.Free.{f3ExchangeOf, f3Won, f3Exchange};
 
-// What every won exchange stores: the anchor, and the state in which it was found. Callers: `won` and `go_on`.
-fn store(control: &mut [u8], task: usize, descriptor: usize, anchor: u64, state: u8)
-    requires { ⌜ Control (now control) × (task < TASKS) × (descriptor < DESCRIPTORS) ⌝ }
-    ensures { λ r. ⌜ now (control .exit) ≡ changed (Anchor descriptor := anchor ∷ TaskState task := state ∷ [])
+// A group that is due to be returned, by the task's notes: the descriptor of its region, the word of its anchor, the
+// index of the group's first block, and how many blocks it has.
+struct Due {
+    pub descriptor: usize,
+    pub word: u64,
+    pub first: u16,
+    pub group: u16,
+}
+
+// What every won exchange stores: the descriptor's anchor, and the state in which it was found.
+struct Stored {
+    pub descriptor: usize,
+    pub anchor: u64,
+    pub state: u8,
+}
+
+// Stores it. Callers: `won` and `go_on`.
+fn store(control: &mut [u8], task: usize, stored: Stored)
+    requires { ⌜ Control (now control) × (task < TASKS) × (stored .descriptor < DESCRIPTORS) ⌝ }
+    ensures { λ r. ⌜ now (control .exit)
+        ≡ changed (Anchor (stored .descriptor) := stored .anchor ∷ TaskState task := stored .state ∷ [])
         (now (control .entry)) ⌝ }
 {
-    control::regions::set_anchor(control, descriptor, anchor);
-    control::tasks::set_task_state(control, task, state);
+    control::regions::set_anchor(control, stored.descriptor, stored.anchor);
+    control::tasks::set_task_state(control, task, stored.state);
 }
 
 // A won exchange after which the region is not EMPTY goes on by the state before: step 5, else 6. Caller: `won`.
-fn go_on(
-    control: &mut [u8],
-    regions: usize,
-    task: usize,
-    class: usize,
-    descriptor: usize,
-    anchor: u64,
-    state: u8,
-) -> Answer
-    requires { ⌜ Given (now control) regions task class × (descriptor < DESCRIPTORS) ⌝ }
-    ensures { λ r. ⌜ Done (f5 (seen (now (control .entry))) regions task class state (gave descriptor)
-        (Anchor descriptor := anchor ∷ TaskState task := state ∷ []))
+fn go_on(control: &mut [u8], regions: usize, task: usize, class: usize, stored: Stored) -> Answer
+    requires { ⌜ Given (now control) regions task class × (stored .descriptor < DESCRIPTORS) ⌝ }
+    ensures { λ r. ⌜ Done
+        (f5 (seen (now (control .entry))) regions task class (stored .state) (gave (stored .descriptor))
+        (Anchor (stored .descriptor) := stored .anchor ∷ TaskState task := stored .state ∷ []))
         (now (control .entry)) (now (control .exit)) r ⌝ }
 {
-    let next = follow::five(control, task, class, state as u32);
+    let next = follow::five(control, task, class, stored.state as u32);
     match next {
         Follow::One => {
             control::tasks::set_task_place(control, task, places::F1);
-            store(control, task, descriptor, anchor, state);
+            store(control, task, stored);
             Answer::Accepted
         }
         Follow::Two => {
             group::begin(control, task);
-            store(control, task, descriptor, anchor, state);
+            store(control, task, stored);
             Answer::Accepted
         }
         Follow::Offer => {
             control::tasks::set_task_place(control, task, places::PUSH_OFFER);
-            store(control, task, descriptor, anchor, state);
+            store(control, task, stored);
             Answer::Accepted
         }
         Follow::Bad => Answer::Refused(14),
@@ -66,35 +76,33 @@ fn go_on(
 
 // The won exchange: step 4 if the region is now EMPTY, else by the state before. Caller: `exchange_of`, for an exchange
 // whose noted anchor has been found to have room for the group.
-fn won(
-    control: &mut [u8],
-    regions: usize,
-    task: usize,
-    class: usize,
-    descriptor: usize,
-    word: u64,
-    first: u16,
-    group: u16,
-) -> Answer
-    requires { ⌜ Given (now control) regions task class × (descriptor < DESCRIPTORS)
-        × Room (anchorOf word) group (perRegion class) ⌝ }
+fn won(control: &mut [u8], regions: usize, task: usize, class: usize, due: Due) -> Answer
+    requires { ⌜ Given (now control) regions task class × (due .descriptor < DESCRIPTORS)
+        × Room (anchorOf (due .word)) (due .group) (perRegion class) ⌝ }
     ensures { λ r. ⌜ ((link : ℕ → ℕ)
-        → Done (f3Won (seen (now (control .entry))) link regions task class descriptor word first group)
+        → Done (f3Won (seen (now (control .entry))) link regions task class
+        (due .descriptor) (due .word) (due .first) (due .group))
         (now (control .entry)) (now (control .exit)) r) ⌝ }
 {
     let n = classes::table::per_region(class) as u32;
-    let state = parts::state_of(word);
-    let next = parts::returned_word(word, first, group, n);
-    if parts::count_of(word) + (group as u32) == n {
+    let state = parts::state_of(due.word);
+    let next = parts::returned_word(due.word, due.first, due.group, n);
+    let stored = Stored {
+        descriptor: due.descriptor,
+        anchor: next,
+        state: state,
+    };
+    if parts::count_of(due.word) + (due.group as u32) == n {
         control::tasks::set_task_place(control, task, places::F4_CLEAR);
-        store(control, task, descriptor, next, state);
+        store(control, task, stored);
         return Answer::Accepted;
     }
-    go_on(control, regions, task, class, descriptor, next, state)
+    go_on(control, regions, task, class, stored)
 }
 
 // The exchange: won where the anchor is the noted one, else the anchor is read again. Caller: `exchange`, which has
-// tested the descriptor, and that the noted anchor has room for the group.
+// tested the descriptor, and that the noted anchor has room for the group. It takes the numbers one by one, since it is
+// a function of its own in the compiled code, and a struct would lie in memory.
 fn exchange_of(
     control: &mut [u8],
     regions: usize,
@@ -119,16 +127,13 @@ fn exchange_of(
         control::tasks::set_task_place(control, task, places::F3_READ);
         return Answer::Accepted;
     }
-    won(
-        control,
-        regions,
-        task,
-        class,
-        descriptor,
-        word,
-        first,
-        group,
-    )
+    let due = Due {
+        descriptor: descriptor,
+        word: word,
+        first: first,
+        group: group,
+    };
+    won(control, regions, task, class, due)
 }
 
 // Step 3, the exchange.

@@ -1,5 +1,4 @@
 -- The records treated one after the other: what is written and what is still ahead make up the whole output.
--- Assumes nothing.
 use Prim.Native.Nat.{ℕ, zero, suc, _+_, _*_, _-_, _^_, _≤_, _<_}
 use mathlib.Core.Path.{_≡_, refl, sym, ap, _∙_}
 use mathlib.Core.List.{List, _++_, append-assoc}
@@ -58,8 +57,8 @@ module _ (input : List ℕ) where
   unfolding table rowsText
   treats f at n y s h = rw (lt-ltb at (length input) h) refl
 
-  -- Before the record n at the byte `at`, with the counts y and the memories s: the first bytes of `out`, as many as are used, and
-  -- what is ahead make up the output from s₀.
+  -- Before the record n at the byte `at`, with the counts y and the memories s: the first bytes of `out`, as many as
+  -- are used, and what is ahead make up the output from s₀.
   pub record Ahead (s₀ : Memories) (used at n : ℕ) (y : Tally) (s : Memories) (out : List ℕ) : Type 0 where
     pub fuel : ℕ
     pub enough : length input - at ≤ fuel
@@ -69,12 +68,14 @@ module _ (input : List ℕ) where
     pub said : output input s₀ ≡ take used out ++ ahead fuel at n y s
 
   -- what is used lies within the room for the longest table
-  pub within : {s₀ s : Memories} {used at n : ℕ} {y : Tally} {out : List ℕ} → Ahead s₀ used at n y s out → length input ≤ 65536
+  pub within : {s₀ s : Memories} {used at n : ℕ} {y : Tally} {out : List ℕ} → Ahead s₀ used at n y s out
+      → length input ≤ 65536
       → 2293888 ≤ length out → used ≤ length out
   within A long room = omega (arith, A .room, A .most, long, room)
 
   -- the column names are written
-  pub begins : {before out : List ℕ} {used : ℕ} {y : Tally} (s : Memories) → Appended before out 0 columnsText used → y ≡ none
+  pub begins : {before out : List ℕ} {used : ℕ} {y : Tally} (s : Memories) → Appended before out 0 columnsText used
+      → y ≡ none
       → Ahead s used 0 0 y s out
   unfolding output tableText
   begins s w e = record {
@@ -98,7 +99,8 @@ module _ (input : List ℕ) where
       (omega (arith, value))
 
   -- a line more is written
-  module _ {s₀ s : Memories} {used at n : ℕ} {y : Tally} {out : List ℕ} (A : Ahead s₀ used at n y s out) (h : at < length input) where
+  module _ {s₀ s : Memories} {used at n : ℕ} {y : Tally} {out : List ℕ} (A : Ahead s₀ used at n y s out)
+      (h : at < length input) where
     pub goes-on : {e : Entry} → e ≡ entryAt input at n
         → {control area : List ℕ} {line : Line} → Does (shown onBytes e) (s .control) (s .area) control area line
         → {out′ : List ℕ} {used′ : ℕ} → Appended out out′ used (textOf line) used′ × (length (textOf line) ≤ 35)
@@ -117,7 +119,8 @@ module _ (input : List ℕ) where
           room = omega (arith, A .room, w .0 .end, w .1);
           said =
               let x = shown onBytes (entryAt input at n) s in
-              let rest = ahead f (endOf (recordAt input at) at (length input)) (n + 1) (counted y (x .1 .code)) (x .0) in
+              let rest =
+              ahead f (endOf (recordAt input at) at (length input)) (n + 1) (counted y (x .1 .code)) (x .0) in
               rw (end, counts, D .answer, D .control-is, D .area-is, is)
               (q
               ∙ ap (λ (t : List ℕ). take used out ++ t) (treats f at n y s h)
@@ -126,7 +129,8 @@ module _ (input : List ℕ) where
         }
 
   -- the last line is written
-  pub ends : {s₀ s : Memories} {used at n : ℕ} {y : Tally} {before out : List ℕ} → Ahead s₀ used at n y s out → length input ≤ at
+  pub ends : {s₀ s : Memories} {used at n : ℕ} {y : Tally} {before out : List ℕ} → Ahead s₀ used at n y s out
+      → length input ≤ at
       → length out ≡ length before → {last : List ℕ} {r : ℕ} → Appended out last used (lastText y) r
       → Appended before last 0 (output input s₀) r
   ends {s₀} {s} {used} {at} {n} {y} {before} {out} A h l {last} {r} w =

@@ -1,5 +1,4 @@
 -- What the stand writes: the text of the table of its input.
--- Assumes nothing.
 use Prim.Native.Nat.{ℕ}
 use mathlib.Core.List.{List, [], _∷_, _++_}
 use lib.ListN.{length}
@@ -13,7 +12,8 @@ use Rattle.schedule.specs.Bytes.{onBytes}
 use Rattle.schedule.specs.Plain.{onPlain}
 use Rattle.text.specs.Lines.{columnsText, lineText, totalText}
 
--- "each line, in decimal: record from 0, kind byte, code, value", and the last line, which "counts codes 20, codes 0 and the others"
+-- "each line, in decimal: record from 0, kind byte, code, value", and the last line, which "counts codes 20, codes 0
+-- and the others"
 unfoldable pub rowsText : List Line → Tally → List ℕ
 rowsText [] y = totalText (y .finished) (y .accepted) (y .others)
 rowsText (l ∷ ls) y = lineText (l .number) (l .kind) (l .code) (l .value) ++ rowsText ls y

@@ -1,4 +1,4 @@
--- The tests, then the beginning. Assumes nothing.
+-- The tests, then the beginning.
 use native.Mathlib.Omega.{arith}
 use Rattle.pool.proofs.Calling.{allocate-refused, allocate-does, control-is, task-is}
 use borrow.Author.Needs.{needs}
@@ -16,7 +16,8 @@ begin-requires c κs =
 returns-2 : tie.Need-returns-2
 returns-2 c =
     let began = c .before .before .before in
-    allocate-does _ _ _ _ (began .before .before .before .tests .ensures) _ (omega arith) (began .begin .ensures) (c .number .ensures)
+    allocate-does _ _ _ _ (began .before .before .before .tests .ensures) _ (omega arith) (began .begin .ensures)
+    (c .number .ensures)
 
 pub pool-begin-allocate-spec : {M : Type 1} → statement M
 pool-begin-allocate-spec =

@@ -1,4 +1,4 @@
--- One law for each way out. Assumes nothing.
+-- One law for each way out.
 use native.Mathlib.Omega.{arith}
 use Rattle.pool.proofs.Started.{wrong-control, uneven, no-area, large-area, no-tasks, many-tasks, started}
 use borrow.Author.Needs.{needs}
@@ -25,8 +25,10 @@ returns-6 c = many-tasks _ _ _ (omega arith) (omega arith) (omega arith) (omega 
 
 returns-7 : tie.Need-returns-7
 returns-7 c =
-    let args = c .before .before .before .before .before .before .before .before .before .before .before .before .args in
-    started (args .control .now) (args .area .now) (args .tasks) (omega arith) (omega arith) (omega arith) (omega arith) (omega arith) (omega arith) (c .before .before .image .ensures)
+    let args =
+    c .before .before .before .before .before .before .before .before .before .before .before .before .args in
+    started (args .control .now) (args .area .now) (args .tasks) (omega arith) (omega arith) (omega arith) (omega arith)
+    (omega arith) (omega arith) (c .before .before .image .ensures)
 
 pub pool-start-spec : {M : Type 1} → statement M
 pool-start-spec =

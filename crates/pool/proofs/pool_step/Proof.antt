@@ -1,4 +1,4 @@
--- The tests, then the step. Assumes nothing.
+-- The tests, then the step.
 use native.Mathlib.Omega.{arith}
 use Rattle.pool.proofs.Calling.{step-refused, step-does, control-is, task-is, regions-are, regions-some, area-is}
 use borrow.Author.Needs.{needs}
@@ -27,7 +27,8 @@ returns-2 : tie.Need-returns-2
 returns-2 c =
     let stepped = c .before .before .before .before in
     let read = stepped .before .before .before in
-    step-does _ _ _ _ (read .before .before .before .tests .ensures) _ (omega arith) (read .regions .ensures) (stepped .step .ensures)
+    step-does _ _ _ _ (read .before .before .before .tests .ensures) _ (omega arith) (read .regions .ensures)
+    (stepped .step .ensures)
 
 pub pool-step-spec : {M : Type 1} → statement M
 pool-step-spec =

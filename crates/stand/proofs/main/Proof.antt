@@ -1,4 +1,4 @@
--- The table lies within the bytes lent for it. Assumes nothing.
+-- The table lies within the bytes lent for it.
 use mathlib.Core.Path.{sym}
 use lib.Seq.{length-take-le}
 use borrow.Author.Needs.{needs}

@@ -1,4 +1,4 @@
--- From memories that are zero the table is the plain pool's. Assumes nothing.
+-- From memories that are zero the table is the plain pool's.
 use native.Mathlib.Omega.{arith}
 use borrow.Author.Needs.{needs}
 use Rattle.stand_agreement.proofs.Whole.{written-is-plain}
@@ -22,7 +22,8 @@ returns c =
     let written = c .before .before .before .before in
     let known = written .before .before .before .before .before in
     let start = known .before in
-    written-is-plain (start .args .input .now) (λ i. omega (arith, known .shared-slice-known .given i)) (start .pre .0) (written .write .ensures)
+    written-is-plain (start .args .input .now) (λ i. omega (arith, known .shared-slice-known .given i)) (start .pre .0)
+    (written .write .ensures)
 
 pub play-spec : {M : Type 1} → statement M
 play-spec =

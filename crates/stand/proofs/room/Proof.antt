@@ -1,4 +1,4 @@
--- As many zeros as the array has. Assumes nothing.
+-- As many zeros as the array has.
 use Prim.Native.Nat.{ℕ}
 use mathlib.Core.Path.{sym}
 use lib.ListN.{length-replicate}

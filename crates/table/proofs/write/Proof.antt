@@ -1,4 +1,4 @@
--- At the head of the loop what is written and what is still ahead make up the whole output. Assumes nothing.
+-- At the head of the loop what is written and what is still ahead make up the whole output.
 use Prim.Native.Nat.{_-_, _≤_}
 use mathlib.Core.Path.{_≡_, refl, _∙_}
 use native.Mathlib.Omega.{arith}
@@ -12,7 +12,8 @@ use Rattle.table.proofs.write.Tie as tie
 
 abbrev Inv-loop : tie.InvT-loop
 Inv-loop control₀ area₀ input out₀ used₀ counts₀ number₀ at₀ control area out used counts number at =
-    Ahead input (record { control = control₀; area = area₀ }) used at number counts (record { control = control; area = area }) out
+    Ahead input (record { control = control₀; area = area₀ }) used at number counts
+    (record { control = control; area = area }) out
     × (length control ≡ length control₀) × (length area ≡ length area₀) × (length out ≡ length out₀)
 
 abbrev μ-loop : tie.MeasureT-loop
@@ -41,14 +42,16 @@ sub-line c =
     let at-loop = c .before .before .before .before .before .before .before .before .before .before in
     let begun = at-loop .before .before .before .before in
     let start = begun .before .before .before .before .before .before in
-    within _ (at-loop .loop .inv .0) (start .pre .1) (omega (arith, at-loop .loop .inv .3, begun .columns .ensures .same-length, start .pre .2))
+    within _ (at-loop .loop .inv .0) (start .pre .1)
+    (omega (arith, at-loop .loop .inv .3, begun .columns .ensures .same-length, start .pre .2))
 
 part-line-start : tie.Need-part-line-start Inv-loop μ-loop
 part-line-start c =
     let at-loop = c .before .before .before .before .before .before .before .before .before .before in
     let begun = at-loop .before .before .before .before in
     let start = begun .before .before .before .before .before .before in
-    within _ (at-loop .loop .inv .0) (start .pre .1) (omega (arith, at-loop .loop .inv .3, begun .columns .ensures .same-length, start .pre .2))
+    within _ (at-loop .loop .inv .0) (start .pre .1)
+    (omega (arith, at-loop .loop .inv .3, begun .columns .ensures .same-length, start .pre .2))
 
 part-line-end : tie.Need-part-line-end Inv-loop μ-loop
 part-line-end c = omega arith
@@ -69,26 +72,45 @@ add-used c =
     let start = at-loop .before .before .before .before .before .before .before .before .before .before in
     let inv = at-loop .loop .inv in
     let short-is =
-    short (start .args .input .now) (at-loop .loop .at) (at-loop .loop .number) (read .numbered .ensures) (omega (arith, inv .0 .few, start .pre)) (treated .treat-with .ensures .0)
+    short (start .args .input .now) (at-loop .loop .at) (at-loop .loop .number) (read .numbered .ensures)
+    (omega (arith, inv .0 .few, start .pre)) (treated .treat-with .ensures .0)
     (omega (arith, treated .treat-with .ok)) (omega (arith, treated .treat-with .ok)) in
     omega (arith, short-is, c .before .before .line2 .ensures .end, inv .0 .room, inv .0 .most, start .pre)
 
 end-requires : tie.Need-end-requires Inv-loop μ-loop
 end-requires c κs =
-    let at-test = c .before .before .before .before .before .before .before .before .before .before .before .before .before .before .before in
-    omega (arith, at-test .loop-test .taken, at-test .before .before .before .before .before .before .before .before .before .before .before .pre .1)
+    let at-test =
+    c .before .before .before .before .before .before .before .before .before .before .before .before .before .before .before in
+    omega (
+      arith,
+      at-test .loop-test .taken,
+      at-test .before .before .before .before .before .before .before .before .before .before .before .pre .1,
+    )
 
 add-number : tie.Need-add-number Inv-loop μ-loop
 add-number c =
-    let at-loop = c .before .before .before .before .before .before .before .before .before .before .before .before .before .before .before .before .before in
-    omega (arith, at-loop .loop .inv .0 .few, at-loop .before .before .before .before .before .before .before .before .before .before .pre .1, c .before .before .before .before .before .before .before .before .before .before .before .before .before .before .before .before .loop-test .taken)
+    let at-loop =
+    c .before .before .before .before .before .before .before .before .before .before .before .before .before .before .before .before .before in
+    omega (
+      arith,
+      at-loop .loop .inv .0 .few,
+      at-loop .before .before .before .before .before .before .before .before .before .before .pre .1,
+      c .before .before .before .before .before .before .before .before .before .before .before .before .before .before .before .before .loop-test .taken,
+    )
 
 loop-less : tie.Need-loop-less Inv-loop μ-loop
 loop-less c =
-    let read = c .before .before .before .before .before .before .before .before .before .before .before .before .before .before .before in
+    let read =
+    c .before .before .before .before .before .before .before .before .before .before .before .before .before .before .before in
     let at-loop = read .before .before in
-    let input = at-loop .before .before .before .before .before .before .before .before .before .before .args .input .now in
-    omega (arith, c .end .ensures, further (read .numbered .result .body) (at-loop .loop .at) (length input) (omega arith))
+    let input =
+    at-loop .before .before .before .before .before .before .before .before .before .before .args .input .now in
+    omega (
+      arith,
+      c .end .ensures,
+      further (read .numbered .result .body) (at-loop .loop .at) (length input)
+          (omega arith),
+    )
 
 loop-again : tie.Need-loop-again Inv-loop μ-loop
 loop-again c =
@@ -100,7 +122,9 @@ loop-again c =
     let start = begun .before .before .before .before .before .before in
     let input = start .args .input .now in
     let inv = at-loop .loop .inv in
-    let fits = within input (inv .0) (start .pre .1) (omega (arith, inv .3, begun .columns .ensures .same-length, start .pre .2)) in
+    let fits =
+    within input (inv .0) (start .pre .1)
+    (omega (arith, inv .3, begun .columns .ensures .same-length, start .pre .2)) in
     let line-is = line .line2 in
     let written =
     at-part (at-loop .loop .out) (line-is .last .0) _ (at-loop .loop .used) (line-is .result) fits (line-is .ensures) in
@@ -134,7 +158,13 @@ add-result c =
     let at-loop = c .before .before .before .before .before in
     let written = c .before .before .total .ensures in
     let used = at-loop .loop .used in
-    omega (arith, written .within, written .same-length, mid-len used (length (at-loop .loop .out)) (at-loop .loop .out) (omega arith))
+    omega (
+      arith,
+      written .within,
+      written .same-length,
+      mid-len used (length (at-loop .loop .out)) (at-loop .loop .out)
+          (omega arith),
+    )
 
 same-length : tie.Need-same-length Inv-loop μ-loop
 same-length c = c .before .before .before .before .before .loop .inv .1

@@ -1,4 +1,4 @@
--- The started numbers tell how much is lent. Assumes nothing.
+-- The started numbers tell how much is lent.
 use native.Mathlib.Omega.{arith}
 use Rattle.control.specs.Layout.{seen}
 use Rattle.schedule.proofs.Lending.{none-lent, all-lent, some-lent}
@@ -24,4 +24,5 @@ returns-3 c =
 pub lent-spec : {M : Type 1} → statement M
 lent-spec =
     tie.close
-    (tie.spec (λ c κs. search needs) returns (λ c κs. search needs) (λ c. search needs) returns-2 (λ c. search needs) returns-3)
+    (tie.spec (λ c κs. search needs) returns (λ c κs. search needs) (λ c. search needs) returns-2 (λ c. search needs)
+    returns-3)

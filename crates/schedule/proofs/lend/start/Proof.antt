@@ -1,6 +1,7 @@
 -- The regions that the record names are lent.
 use Prim.Native.Nat.{_*_, _-_}
 use native.Mathlib.Omega.{arith}
+use Rattle.limits.specs.Limits.{REGION-BYTES}
 use Rattle.plain.specs.Calls.{start}
 use Rattle.schedule.proofs.Lending.{many-regions, named-does}
 use borrow.Author.Needs.{needs}
@@ -16,7 +17,7 @@ returns-2 : tie.Need-returns-2
 returns-2 c =
     let called = c .before .before in
     let a = called .before .before .before .before .before .before .before .args in
-    named-does (start (record { tasks = a .tasks })) (a .regions) _ _ _ (4096 * a .regions - 0) _
+    named-does (start (record { tasks = a .tasks })) (a .regions) _ _ _ (REGION-BYTES * a .regions - 0) _
     (called .pool-start .ensures) (omega arith) (omega arith)
 
 pub start-spec : {M : Type 1} → statement M

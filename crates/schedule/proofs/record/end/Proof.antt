@@ -1,4 +1,4 @@
--- One law for each kind. Assumes nothing.
+-- One law for each kind.
 use mathlib.Core.Path.{refl}
 use borrow.Author.Needs.{needs}
 use Rattle.schedule.proofs.record.end.Statement.{statement}

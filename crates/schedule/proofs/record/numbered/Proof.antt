@@ -1,4 +1,4 @@
--- The record is what `read` finds, and its kind is its first byte. Assumes nothing.
+-- The record is what `read` finds, and its kind is its first byte.
 use mathlib.Core.Path.{refl}
 use borrow.Author.Needs.{needs}
 use Rattle.schedule.proofs.record.numbered.Statement.{statement}

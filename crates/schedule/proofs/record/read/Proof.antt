@@ -1,7 +1,8 @@
--- One law for each way out. Assumes nothing.
+-- One law for each way out.
 use mathlib.Core.Path.{_∙_}
 use native.Mathlib.Omega.{arith}
-use Rattle.schedule.proofs.Reading.{no-kind, unknown, step-cut, step-whole, start-cut, start-whole, wide-cut, wide-whole}
+use Rattle.schedule.proofs.Reading.{no-kind, unknown, step-cut, step-whole, start-cut, start-whole, wide-cut}
+use Rattle.schedule.proofs.Reading.{wide-whole}
 use borrow.Author.Needs.{needs}
 use Rattle.schedule.proofs.record.read.Statement.{statement}
 use Rattle.schedule.proofs.record.read.Tie as tie
@@ -28,7 +29,8 @@ returns-7 : tie.Need-returns-7
 returns-7 c = wide-cut _ _ (omega arith) (omega arith) (λ e. omega arith) (λ e. omega arith) (omega arith)
 
 returns-8 : tie.Need-returns-8
-returns-8 c = c .wide .ensures ∙ wide-whole _ _ (omega arith) (omega arith) (λ e. omega arith) (λ e. omega arith) (omega arith)
+returns-8 c =
+    c .wide .ensures ∙ wide-whole _ _ (omega arith) (omega arith) (λ e. omega arith) (λ e. omega arith) (omega arith)
 
 pub read-spec : {M : Type 1} → statement M
 read-spec =

@@ -1,4 +1,4 @@
--- One law for each kind. Assumes nothing.
+-- One law for each kind.
 use native.Mathlib.Omega.{arith}
 use Rattle.schedule.proofs.Reading.{is-allocate, is-free, is-run}
 use borrow.Author.Needs.{needs}

@@ -1,4 +1,4 @@
--- One law for each code. Assumes nothing.
+-- One law for each code.
 use native.Mathlib.Omega.{arith}
 use Rattle.schedule.proofs.Counting.{finished, accepted, others}
 use borrow.Author.Needs.{needs}

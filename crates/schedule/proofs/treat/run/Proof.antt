@@ -1,4 +1,4 @@
--- At the head of the loop, what the run leaves is what is left to run. Assumes nothing.
+-- At the head of the loop, what the run leaves is what is left to run.
 use mathlib.Core.Path.{_≡_, refl, _∙_}
 use native.Mathlib.Omega.{arith}
 use lib.ListN.{length}

@@ -1,4 +1,4 @@
--- Each kind of record is treated by its own function. Assumes nothing.
+-- Each kind of record is treated by its own function.
 use borrow.Author.Needs.{needs}
 use Rattle.schedule.proofs.treat.treat.Statement.{statement}
 use Rattle.schedule.proofs.treat.treat.Tie as tie

@@ -29,7 +29,8 @@ returns-3 c =
     let anchor = c .before .before .before .before .before .before .before .anchor .ensures in
     does (anchor-noted _ link _ _ _ _ _ _ _ (passed-at isAnchor anchor
     (c .before .before .before .before .before .before .is-anchor .ensures)
-    (c .before .before .before .before .before .if1 .left)) (omega arith)) (c .before .before .won .ensures link)
+    (c .before .before .before .before .before .if1 .left)) (omega arith))
+    (c .before .before .won .ensures link)
 
 pub exchange-of-spec : {M : Type 1} → statement M
 exchange-of-spec =

@@ -11,10 +11,13 @@ returns : tie.Need-returns
 returns c =
     λ link.
     let per-region = c .before .before .before .before .before .before .before .before .before .before .before .before
+    .before
     .per-region .ensures in
-    let returned-word = c .before .before .before .before .before .before .before .before .before .before .returned-word
+    let returned-word = c .before .before .before .before .before .before .before .before .before .before .before
+    .returned-word
     .ensures in
-    let state-of = c .before .before .before .before .before .before .before .before .before .before .before .state-of
+    let state-of = c .before .before .before .before .before .before .before .before .before .before .before .before
+    .state-of
     .ensures in
     done
     (won-empty _ link _ _ _ _ _ _ _ per-region returned-word state-of (omega arith))
@@ -24,10 +27,10 @@ returns c =
 returns-2 : tie.Need-returns-2
 returns-2 c =
     λ link.
-    let per-region = c .before .before .before .before .before .before .before .before .per-region .ensures in
-    let state-of = c .before .before .before .before .before .before .before .state-of .ensures in
+    let per-region = c .before .before .before .before .before .before .before .before .before .per-region .ensures in
+    let state-of = c .before .before .before .before .before .before .before .before .state-of .ensures in
     does (won-partial _ link _ _ _ _ _ _ _ per-region
-    (c .before .before .before .before .before .before .returned-word .ensures) state-of (omega arith))
+    (c .before .before .before .before .before .before .before .returned-word .ensures) state-of (omega arith))
     (c .before .before .go-on .ensures)
 
 pub won-spec : {M : Type 1} → statement M
@@ -39,6 +42,7 @@ won-spec =
     (λ c κs. search needs)
     (λ c κs. search needs)
     (λ c κs. search needs)
+    (λ c. search needs)
     (λ c. search needs)
     (λ c κs. search needs)
     (λ c κs. search needs)
