@@ -1,4 +1,4 @@
--- The codes of a step, in every state: one pass over the step list.
+-- The codes of a step, in every state, by the kinds of steps.
 use mathlib.Core.Path.{_≡_, refl, sym, ap, _∙_}
 use mathlib.Core.Logic.{_≢_}
 use mathlib.Core.List.{List, _∷_, _++_, []}
@@ -13,13 +13,12 @@ use Rattle.rows.proofs.Update.{update-same, update-all}
 use Rattle.classes.specs.Classes.{perRegion}
 use Rattle.classes.specs.Geometry.{unitOf, regionOf}
 use Rattle.plain.specs.State.{State, EMPTY, PARTIAL, FULL, Phase, read, next, exchange, Pop, partial, spare}
-use Rattle.plain.specs.State.{region, Push, retire, back, release, offer, Place, idle, a1, popping, pushing}
-use Rattle.plain.specs.State.{a3-read, a3-exchange, a4, a7, a8, f1, f2, f3-read, f3-link, f3-exchange, f4-clear}
-use Rattle.plain.specs.State.{Task, Mem, Work, working}
+use Rattle.plain.specs.State.{region, Push, retire, back, release, offer, Place, idle, a1, popping, pushing, a4}
+use Rattle.plain.specs.State.{a8, f3-read, f3-link, f4-clear, Task, Mem, working, Note}
 use Rattle.plain.specs.Moves.{Decided, nothing, lost, Answer, going, finished, refused}
 use Rattle.plain.specs.Steps.{popList, pushList, f6, f5, moving, whenPopped, asNoted?, cached, popRead, popTake}
-use Rattle.plain.specs.Steps.{pushPut, a1Step, a3Read, closed, f2Step, f3Read, returned, stepAt, to, stepOf}
-use Rattle.plain.specs.Steps.{whenWorking}
+use Rattle.plain.specs.Steps.{pushPut, a1Step, a3Read, closed, f2Step, f3Read, returned, stepAt, to, popStep}
+use Rattle.plain.specs.Steps.{pushStep, a3Exchange, a7Step, a8Step, f1Step, f3Exchange}
 use Rattle.plain.specs.Codes.{StepCode, under-way, no-request, no-descriptor, no-region, finishes, WayBack, stays}
 use Rattle.plain.specs.Codes.{comes, StepFacts}
 use Rattle.plain.specs.Noted.{Noted, unnoted, pop-noted, push-noted, anchor-noted, entry-noted, noted}
@@ -195,28 +194,28 @@ module _ (t : ℕ) (k : ℕ → List ℕ) (m : Mem) where
 
   -- ---- the other steps
 
-  facts-a1 : (c : ℕ) (q : List ℕ) → StepFacts t m (a1Step t k c q m)
+  pub facts-a1 : (c : ℕ) (q : List ℕ) → StepFacts t m (a1Step t k c q m)
   facts-a1 c [] = goes t m _ refl refl none-won
   facts-a1 c (x ∷ q) = done t m _ refl refl none-won
 
-  facts-a3 : (c d : ℕ) (s : State) → StepFacts t m (a3Read t k c d s m)
+  pub facts-a3 : (c d : ℕ) (s : State) → StepFacts t m (a3Read t k c d s m)
   facts-a3 c d EMPTY = goes t m _ refl refl none-won
   facts-a3 c d PARTIAL = goes t m _ refl refl none-won
   facts-a3 c d FULL = goes t m _ refl refl none-won
 
-  facts-a8 : {P : Type 0} (e : Dec P) (c r i : ℕ) (q : List ℕ)
+  facts-carved : {P : Type 0} (e : Dec P) (c r i : ℕ) (q : List ℕ)
       → StepFacts t m (cached t k c q (working (if e (a1 c) (a8 c r (suc i)))) m, going nothing)
-  facts-a8 (yes e) c r i q = goes t m _ refl refl none-won
-  facts-a8 (no e) c r i q = goes t m _ refl refl none-won
+  facts-carved (yes e) c r i q = goes t m _ refl refl none-won
+  facts-carved (no e) c r i q = goes t m _ refl refl none-won
 
-  facts-f2 : (c u : ℕ) (q g : List ℕ) → StepFacts t m (f2Step t k c u q g m)
+  pub facts-f2 : (c u : ℕ) (q g : List ℕ) → StepFacts t m (f2Step t k c u q g m)
   facts-f2 c u [] g = goes t m _ refl (closed-back t k c u g) none-won
   facts-f2 c u (x ∷ q) [] = goes t m _ refl refl none-won
   facts-f2 c u (x ∷ q) (y ∷ g) =
       either (StepFacts t m) (ℕ-discrete (regionOf x) (regionOf y)) _ _
       (λ e. goes t m _ refl refl none-won) (λ e. goes t m _ refl refl none-won)
 
-  facts-f3 : (z c u y : ℕ) (g : List ℕ) → m .task t .place ≡ working (f3-read c u y g)
+  pub facts-f3 : (z c u y : ℕ) (g : List ℕ) → m .task t .place ≡ working (f3-read c u y g)
       → StepFacts t m (f3Read t k z c u y g m)
   facts-f3 zero c u y g h = nothing-done t m (going nothing) under-way plain-0 (ap backAt h)
   facts-f3 (suc d) c u y g h = goes t m _ refl refl none-won
@@ -226,44 +225,54 @@ module _ (t : ℕ) (k : ℕ → List ℕ) (m : Mem) where
   facts-returned (yes e) c u y g d w = goes t m _ refl refl none-won
   facts-returned (no e) c u y g d w = goes t m _ refl (f5-back w (k c) c u d) none-won
 
-  -- The step list.
-  facts-at : (w : Work) → m .task t .place ≡ working w → StepFacts t m (stepAt t k w m)
-  facts-at (a1 c) h = facts-a1 c (k c)
-  facts-at (popping p read) h = facts-popRead p (m .row (popList p)) h refl
-  facts-at (popping p (next n)) h = goes t m _ refl refl none-won
-  facts-at (popping p (exchange n)) h =
+  -- ---- the step list
+
+  pub facts-pop : (p : Pop) (φ : Phase) → m .task t .place ≡ working (popping p φ) → StepFacts t m (popStep t k p φ m)
+  facts-pop p read h = facts-popRead p (m .row (popList p)) h refl
+  facts-pop p (next n) h = goes t m _ refl refl none-won
+  facts-pop p (exchange n) h =
       either (StepFacts t m) (ℕ-discrete (m .won (popList p)) n) _ _
       (λ e. facts-popTake p (m .row (popList p))) (λ e. goes t m _ refl refl none-won)
-  facts-at (pushing p read) h = facts-pushOn p read (next (m .won (pushList p))) nothing h
-  facts-at (pushing p (next n)) h = facts-pushOn p (next n) (exchange n) nothing h
-  facts-at (pushing p (exchange n)) h =
+
+  pub facts-push : (p : Push) (φ : Phase) → m .task t .place ≡ working (pushing p φ)
+      → StepFacts t m (pushStep t k p φ m)
+  facts-push p read h = facts-pushOn p read (next (m .won (pushList p))) nothing h
+  facts-push p (next n) h = facts-pushOn p (next n) (exchange n) nothing h
+  facts-push p (exchange n) h =
       either (StepFacts t m) (ℕ-discrete (m .won (pushList p)) n) _ _
       (λ e. facts-pushPut p n h e) (λ e. facts-pushOn p (exchange n) read (lost (pushList p)) h)
-  facts-at (a3-read c d) h = facts-a3 c d (m .descriptor d .state)
-  facts-at (a3-exchange c d n) h =
+
+  pub facts-a3-exchange : (c d : ℕ) (n : Note) → StepFacts t m (a3Exchange t k c d n m)
+  facts-a3-exchange c d n =
       either (StepFacts t m) (asNoted? (m .descriptor d) n) _ _
       (λ e. goes t m _ refl (moving-back c (m .descriptor d .chain)) none-won) (λ e. goes t m _ refl refl none-won)
-  facts-at (a4 c x q) h = goes t m _ refl (moving-back c q) none-won
-  facts-at (a7 c d r) h = goes t m _ refl refl none-won
-  facts-at (a8 c r i) h = facts-a8 (ℕ-discrete (suc i) (perRegion c)) c r i (unitOf r c i ∷ k c)
-  facts-at (f1 c u) h =
+
+  pub facts-a4 : (c x : ℕ) (q : List ℕ) → StepFacts t m (stepAt t k (a4 c x q) m)
+  facts-a4 c x q = goes t m _ refl (moving-back c q) none-won
+
+  pub facts-a7 : (c d r : ℕ) → StepFacts t m (a7Step t k c d r m)
+  facts-a7 c d r = goes t m _ refl refl none-won
+
+  pub facts-a8 : (c r i : ℕ) → StepFacts t m (a8Step t k c r i m)
+  facts-a8 c r i = facts-carved (ℕ-discrete (suc i) (perRegion c)) c r i (unitOf r c i ∷ k c)
+
+  pub facts-f1 : (c u : ℕ) → StepFacts t m (f1Step t k c u m)
+  facts-f1 c u =
       either (StepFacts t m) (decLt (length (k c)) (perRegion c)) _ _
       (λ e. done t m _ refl refl none-won) (λ e. goes t m _ refl refl none-won)
-  facts-at (f2 c u g) h = facts-f2 c u (k c) g
-  facts-at (f3-read c u y g) h = facts-f3 (m .map (regionOf y)) c u y g h
-  facts-at (f3-link c u y g d n) h = goes t m _ refl refl none-won
-  facts-at (f3-exchange c u y g d n) h =
+
+  pub facts-f3-link : (c u y : ℕ) (g : List ℕ) (d : ℕ) (n : Note) → StepFacts t m (stepAt t k (f3-link c u y g d n) m)
+  facts-f3-link c u y g d n = goes t m _ refl refl none-won
+
+  pub facts-f3-exchange : (c u y : ℕ) (g : List ℕ) (d : ℕ) (n : Note) → StepFacts t m (f3Exchange t k c u y g d n m)
+  facts-f3-exchange c u y g d n =
       either (StepFacts t m) (asNoted? (m .descriptor d) n) _ _
       (λ e. facts-returned (ℕ-discrete (length (y ∷ (g ++ m .descriptor d .chain))) (perRegion c))
       c u y g d (n .state)) (λ e. goes t m _ refl refl none-won)
-  facts-at (f4-clear c u d w r) h = goes t m _ refl refl none-won
 
-  -- Every step; an idle task makes none.
-  facts-of : (p : Place) → m .task t .place ≡ p → StepFacts t m (whenWorking p (λ w. stepAt t k w m) m)
-  facts-of idle h = nothing-done t m (refused 7) no-request plain-7 (ap backAt h)
-  facts-of (working w) h = facts-at w h
+  pub facts-f4 : (c u d : ℕ) (w : State) (r : ℕ) → StepFacts t m (stepAt t k (f4-clear c u d w r) m)
+  facts-f4 c u d w r = goes t m _ refl refl none-won
 
--- What every step answers, in every state.
-pub step-facts : (t : ℕ) (m : Mem) → StepFacts t m (stepOf t m)
-unfolding stepOf
-step-facts t m = facts-of t (m .task t .cache) m (m .task t .place) refl
+  -- An idle task makes no step.
+  pub facts-idle : m .task t .place ≡ idle → StepFacts t m (m, refused 7)
+  facts-idle h = nothing-done t m (refused 7) no-request plain-7 (ap backAt h)

@@ -18,11 +18,11 @@ pub mod Takes
 pub mod Regions
 pub mod Groups
 pub mod Returns
+pub mod Codes
 pub mod Steps
 pub mod Starts
 pub mod Begins
 pub mod Always
-pub mod Codes
 pub mod Answers
 pub mod Never
 pub mod OnePlace

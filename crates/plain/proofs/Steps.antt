@@ -1,4 +1,4 @@
--- The invariant after every step.
+-- The step list, in one pass: what every step answers, in every state, and that it keeps the invariant.
 use mathlib.Core.Path.{_≡_, refl}
 use mathlib.Core.List.{List}
 use Prim.Native.Nat.{ℕ, zero, suc, _<_}
@@ -11,7 +11,11 @@ use Rattle.plain.specs.State.{Place, idle, a1, popping, pushing, a3-read
 use Rattle.plain.specs.State.{f3-read, f3-link, f3-exchange, f4-clear, Mem, Work, working}
 use Rattle.plain.specs.Steps.{f3Read, stepAt, stepOf, whenWorking}
 use Rattle.plain.specs.Invariant.{Invariant}
+use Rattle.plain.specs.Codes.{StepFacts}
 use Rattle.plain.proofs.Tests.{KeepsInvariant}
+use Rattle.plain.proofs.Codes.{facts-a1, facts-pop, facts-push, facts-a3, facts-a3-exchange, facts-a4, facts-a7}
+use Rattle.plain.proofs.Codes.{facts-a8, facts-f1, facts-f2, facts-f3, facts-f3-link, facts-f3-exchange}
+use Rattle.plain.proofs.Codes.{facts-f4, facts-idle}
 use Rattle.plain.proofs.Turn.{Turn}
 use Rattle.plain.proofs.Places.{taskOf, turnAt, placeHolds, placed, noteHolds}
 use Rattle.plain.proofs.Caches.{a1-inv, a4-inv, a8-inv, f1-inv, f2-inv}
@@ -34,28 +38,56 @@ module _ {area : ℕ} {m : Mem} {t : ℕ} (k : ℕ → List ℕ) where
       (o .0, o .1, o .2, omega (arith, group-fits w group, length-append g (m .descriptor d .chain)))
       (omega (arith, when-same y 1), e)
 
+module _ (t : ℕ) (k : ℕ → List ℕ) (m : Mem) where
+  -- what is shown of the step of a task at the place w
+  record Shown (w : Work) : Type 0 where
+    facts : m .task t .place ≡ working w → StepFacts t m (stepAt t k w m)
+    kept : (area : ℕ) → Turn area m t (taskOf (working w) k) → KeepsInvariant area (stepAt t k w m)
+
   -- The step list.
-  step-at : (p : Work) → Turn area m t (taskOf (working p) k) → KeepsInvariant area (stepAt t k p m)
-  step-at (a1 c) w = a1-inv c (k c) refl w
-  step-at (popping p φ) w = pop-inv p φ w
-  step-at (pushing p φ) w = push-inv p φ w
-  step-at (a3-read c d) w = a3-read-inv c d (m .descriptor d .state) refl w
-  step-at (a3-exchange c d n) w = a3-exchange-inv c d n w
-  step-at (a4 c x q) w = a4-inv c x q w
-  step-at (a7 c d r) w = open-inv c d r w
-  step-at (a8 c r i) w = a8-inv c r i w
-  step-at (f1 c u) w = f1-inv c u w
-  step-at (f2 c u g) w = f2-inv c u (k c) g refl w
-  step-at (f3-read c u y g) w = read-step c u y g (m .map (regionOf y)) refl w
-  step-at (f3-link c u y g d n) w = placed w _ refl (placeHolds w) (noteHolds w)
-  step-at (f3-exchange c u y g d n) w = f3-exchange-inv w
-  step-at (f4-clear c u d s r) w = clear-inv c u d s r w
+  step-at : (w : Work) → Shown w
+  step-at (a1 c) = record { facts = λ h. facts-a1 t k m c (k c); kept = λ area T. a1-inv c (k c) refl T }
+  step-at (popping p φ) = record { facts = facts-pop t k m p φ; kept = λ area T. pop-inv p φ T }
+  step-at (pushing p φ) = record { facts = facts-push t k m p φ; kept = λ area T. push-inv p φ T }
+  step-at (a3-read c d) = record {
+    facts = λ h. facts-a3 t k m c d (m .descriptor d .state);
+    kept = λ area T. a3-read-inv c d (m .descriptor d .state) refl T;
+  }
+  step-at (a3-exchange c d n) =
+      record { facts = λ h. facts-a3-exchange t k m c d n; kept = λ area T. a3-exchange-inv c d n T }
+  step-at (a4 c x q) = record { facts = λ h. facts-a4 t k m c x q; kept = λ area T. a4-inv c x q T }
+  step-at (a7 c d r) = record { facts = λ h. facts-a7 t k m c d r; kept = λ area T. open-inv c d r T }
+  step-at (a8 c r i) = record { facts = λ h. facts-a8 t k m c r i; kept = λ area T. a8-inv c r i T }
+  step-at (f1 c u) = record { facts = λ h. facts-f1 t k m c u; kept = λ area T. f1-inv c u T }
+  step-at (f2 c u g) = record { facts = λ h. facts-f2 t k m c u (k c) g; kept = λ area T. f2-inv c u (k c) g refl T }
+  step-at (f3-read c u y g) = record {
+    facts = facts-f3 t k m (m .map (regionOf y)) c u y g;
+    kept = λ area T. read-step k c u y g (m .map (regionOf y)) refl T;
+  }
+  step-at (f3-link c u y g d n) = record {
+    facts = λ h. facts-f3-link t k m c u y g d n;
+    kept = λ area T. placed T _ refl (placeHolds T) (noteHolds T);
+  }
+  step-at (f3-exchange c u y g d n) =
+      record { facts = λ h. facts-f3-exchange t k m c u y g d n; kept = λ area T. f3-exchange-inv T }
+  step-at (f4-clear c u d s r) = record { facts = λ h. facts-f4 t k m c u d s r; kept = λ area T. clear-inv c u d s r T }
 
-  -- Every step of one of the tasks, if it has a request.
-  step-of : (p : Place) → Turn area m t (taskOf p k) → KeepsInvariant area (whenWorking p (λ q. stepAt t k q m) m)
-  step-of idle w = w .inv
-  step-of (working q) w = step-at q w
+  -- Every step; an idle task makes none.
+  facts-of : (p : Place) → m .task t .place ≡ p → StepFacts t m (whenWorking p (λ w. stepAt t k w m) m)
+  facts-of idle h = facts-idle t k m h
+  facts-of (working w) h = step-at w .facts h
 
+  kept-of : {area : ℕ} (p : Place) → Turn area m t (taskOf p k)
+      → KeepsInvariant area (whenWorking p (λ w. stepAt t k w m) m)
+  kept-of idle T = T .inv
+  kept-of {area} (working w) T = step-at w .kept area T
+
+-- What every step answers, in every state.
+pub step-facts : (t : ℕ) (m : Mem) → StepFacts t m (stepOf t m)
+unfolding stepOf
+step-facts t m = facts-of t (m .task t .cache) m (m .task t .place) refl
+
+-- Every step of one of the tasks keeps the invariant.
 pub step-inv : {area : ℕ} {m : Mem} (t : ℕ) → t < TASKS → Invariant area m → KeepsInvariant area (stepOf t m)
 unfolding stepOf
-step-inv {m = m} t l I = step-of (m .task t .cache) (m .task t .place) (turnAt I l refl)
+step-inv {m = m} t l I = kept-of t (m .task t .cache) m (m .task t .place) (turnAt I l refl)
