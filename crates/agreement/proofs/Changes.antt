@@ -4,7 +4,7 @@ use mathlib.Core.List.{List}
 use Prim.Native.Nat.{ℕ, suc, _+_, _≤_, _<_}
 use native.Mathlib.Omega.{arith}
 use lib.ListN.{length}
-use Rattle.limits.specs.Limits.{TASKS, DESCRIPTORS, MOST-BLOCKS, SPARE-REGIONS}
+use Rattle.limits.specs.Limits.{TASKS, DESCRIPTORS, MOST-BLOCKS, SPARE-REGIONS, DESCRIPTOR-LISTS}
 use Rattle.words.specs.declared.anchor.Anchor.{Anchor}
 use Rattle.words.specs.declared.head.Head.{Head}
 use Rattle.rows.specs.Counting.{count}
@@ -45,7 +45,7 @@ module _ {regions : ℕ} {a : Contents} {m : Mem} {t : ℕ} {p : Place} {k : ℕ
 
   -- ---- a head
   pub heading : (ℓ : ℕ) (h : Head) (q : List ℕ) (s : Slot) (T : Task) → h .tag ≡ wrap (m .won ℓ + 1)
-      → (ℓ < SPARE-REGIONS → Linked (a .lists .descriptorNext) suc 0 (h .item) q)
+      → (ℓ < DESCRIPTOR-LISTS → Linked (a .lists .descriptorNext) suc 0 (h .item) q)
       → (ℓ ≡ SPARE-REGIONS → Linked (a .lists .regionNext) suc 0 (h .item) q)
       → SlotRelated regions (setSlot t s (setHead ℓ h a)) (setTask t T (setRow ℓ q m)) s T
       → Related regions (setSlot t s (setHead ℓ h a)) (setTask t T (setRow ℓ q m))
@@ -66,7 +66,7 @@ module _ {regions : ℕ} {a : Contents} {m : Mem} {t : ℕ} {p : Place} {k : ℕ
       (w .rel .slots)
 
   -- ---- the next of an item in hand
-  off-lists : (x ℓ : ℕ) → ℓ < SPARE-REGIONS → 1 ≤ holdsDescriptor x p → count x (m .row ℓ) ≡ 0
+  off-lists : (x ℓ : ℕ) → ℓ < DESCRIPTOR-LISTS → 1 ≤ holdsDescriptor x p → count x (m .row ℓ) ≡ 0
   off-lists x ℓ l h = omega (
     arith,
     w .turn .inv .descriptors x,

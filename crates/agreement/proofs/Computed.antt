@@ -27,7 +27,7 @@ use Rattle.agreement.specs.Events.{Event, call, write}
 use Rattle.agreement.proofs.Example.{schedule, events, answers, told}
 
 -- what stands in the fields, and each block's link
-pub record Contents : Type 0 where
+pub record Fields : Type 0 where
   pub view : View
   pub link : ℕ → ℕ
 
@@ -35,29 +35,29 @@ abbrev pub relinked : List LinkWrite → (ℕ → ℕ) → ℕ → ℕ
 relinked [] f = f
 relinked ((u ⇒ x) ∷ ls) f = relinked ls (λ y. cond (eqb y u) x (f y))
 
-abbrev pub becomes : Outcome → Contents → Contents
+abbrev pub becomes : Outcome → Fields → Fields
 becomes o s = record { view = assigned (o .writes) (s .view); link = relinked (o .links) (s .link) }
 
 abbrev pub says : Outcome → Answer
 says o = record { code = codeOf (o .answer); value = valueOf (o .answer); decided = o .decided }
 
 -- The start has been made.
-abbrev pub callOutcome : Call → Lent → Contents → Outcome
+abbrev pub callOutcome : Call → Lent → Fields → Outcome
 callOutcome (start b) lent s = refuse 1
 callOutcome (allocate t size) lent s = Calls.allocateOutcome (lent .control) (length (lent .area)) (s .view) t size
 callOutcome (free t u) lent s = Calls.freeOutcome (lent .control) (length (lent .area)) (s .view) t u
 callOutcome (step t) lent s = Calls.stepOutcome (lent .control) (length (lent .area)) (s .view) (s .link) t
 
 -- A user's write changes nothing here: no step reads the link of a held block.
-abbrev pub outcome : Event → Contents → Outcome
+abbrev pub outcome : Event → Fields → Outcome
 outcome (call k lent) s = callOutcome k lent s
 outcome (write at b) s = accept nothing [] []
 
-abbrev pub run : List Event → Contents → List Answer
+abbrev pub run : List Event → Fields → List Answer
 run [] s = []
 run (e ∷ es) s = says (outcome e s) ∷ run es (becomes (outcome e s) s)
 
-abbrev pub fresh : Contents
+abbrev pub fresh : Fields
 fresh = record { view = assigned (startWrites 3 2) (λ f. 0); link = λ u. 0 }
 
 pub computed : told (run (events schedule) fresh) ≡ answers schedule

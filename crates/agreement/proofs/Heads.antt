@@ -8,7 +8,7 @@ use native.Mathlib.Omega.{arith}
 use native.Mathlib.Decide.{ℕ-discrete}
 use borrow.Author.Tests.{eq-eqb, ne-eqb, eqb-true}
 use lib.Dec.{eqb}
-use Rattle.limits.specs.Limits.{DESCRIPTORS, TAGS, SPARE-REGIONS, LISTS}
+use Rattle.limits.specs.Limits.{DESCRIPTORS, TAGS, SPARE-REGIONS, LISTS, DESCRIPTOR-LISTS}
 use Rattle.rows.specs.Branch.{if}
 use Rattle.rows.specs.Linked.{Linked}
 use Rattle.fields.specs.Columns.{Field, View, Write, _:=_, assigned}
@@ -36,7 +36,8 @@ use Rattle.agreement.proofs.Sharing.{shares}
 
 -- The two kinds of list: its number, how many items there are, the field of an item's next, the column of the nexts.
 pub data Kind (regions : ℕ) : ℕ → ℕ → (ℕ → Field) → (Contents → ℕ → ℕ) → Type 0 where
-  descriptors : {ℓ : ℕ} → ℓ < SPARE-REGIONS → Kind regions ℓ DESCRIPTORS DescriptorNext (λ a. a .lists .descriptorNext)
+  descriptors : {ℓ : ℕ} → ℓ < DESCRIPTOR-LISTS
+      → Kind regions ℓ DESCRIPTORS DescriptorNext (λ a. a .lists .descriptorNext)
   spare-regions : Kind regions SPARE-REGIONS regions RegionNext (λ a. a .lists .regionNext)
 
 -- what the relation says of a list
@@ -57,7 +58,8 @@ pub record Won (v : View) (m : Mem) (t ℓ : ℕ) (nx : ℕ → Field) (x : ℕ)
 -- a list of one kind is linked by the nexts of that kind
 module _ (v : View) {f : ℕ} {q : List ℕ} {regions : ℕ} where
   of-descriptors : {ℓ items : ℕ} {nx : ℕ → Field} {column : Contents → ℕ → ℕ} → Kind regions ℓ items nx column
-      → Linked (λ (y : ℕ). v (nx y)) suc 0 f q → ℓ < SPARE-REGIONS → Linked (λ (y : ℕ). v (DescriptorNext y)) suc 0 f q
+      → Linked (λ (y : ℕ). v (nx y)) suc 0 f q → ℓ < DESCRIPTOR-LISTS
+      → Linked (λ (y : ℕ). v (DescriptorNext y)) suc 0 f q
   of-descriptors (descriptors l) h b = h
   of-descriptors spare-regions h b = absurd (omega arith)
 

@@ -41,8 +41,8 @@ use Rattle.agreement.proofs.Couple.{Pair, mine}
 use Rattle.agreement.proofs.Blocks.{under-unit, below-tested, top-max}
 use Rattle.agreement.specs.Tied.{Tied}
 use Rattle.agreement.proofs.Simulation.{fitting}
-use Rattle.agreement.proofs.NotedStates.{NotedStates}
-use Rattle.agreement.proofs.Reaching.{reached-tied, reached-noted, along}
+use Rattle.agreement.proofs.FoundStates.{FoundStates}
+use Rattle.agreement.proofs.Reaching.{reached-tied, reached-found, along}
 use Rattle.agreement.proofs.Freeing.{Freeing, allocates, fills, frees, owes}
 use Rattle.agreement.proofs.TaskHands.{numbers-at}
 
@@ -150,7 +150,7 @@ module _ {regions : ℕ} (v : View) {area : List ℕ} {m : Mem} (R : Related reg
       })
 
 -- Once a pool is started, the relation between the bytes and the plain pool gives every field's range.
-pub in-range : {s₁ : Memories} {s : Pool} → Tied s₁ s → NotedStates (s₁ .control) → Ranged s₁
+pub in-range : {s₁ : Memories} {s : Pool} → Tied s₁ s → FoundStates (s₁ .control) → Ranged s₁
 in-range {s₁} {s} S noted started =
     let v = seen (s₁ .control) in
     let q : 1 ≤ s .tasks = omega (arith, S .tasks) in
@@ -186,7 +186,7 @@ in-range {s₁} {s} S noted started =
 
 -- wherever a run has come
 pub reached-ranged : {h : History} {s₁ : Memories} {s : Pool} → Reached h s₁ s → Ranged s₁
-reached-ranged R = in-range (reached-tied R) (reached-noted R)
+reached-ranged R = in-range (reached-tied R) (reached-found R)
 
 -- and after each event that meets its premise
 ranged-after : Wherever RangedAfter

@@ -1,6 +1,6 @@
 -- Calls that are lent other memories than the pool's: they answer as the calls on those do, and leave the pool's as
 -- they are.
-use mathlib.Core.Path.{_≡_, refl}
+use mathlib.Core.Path.{_≡_, refl, ap}
 use mathlib.Core.Logic.{_≢_, _⊎_, inl, inr}
 use mathlib.Core.Bool.{Bool, true, false, cond, _&&_}
 use mathlib.Core.List.{List}
@@ -11,8 +11,10 @@ use lib.Dec.{eqb}
 use lib.ListN.{length}
 use Rattle.limits.specs.Limits.{CONTROL-BYTES, REGION-BYTES, AREA-BYTES, TASKS}
 use Rattle.fields.specs.Columns.{View}
+use Rattle.links.specs.Link.{link}
 use Rattle.plain.specs.Moves.{nothing}
-use Rattle.control.specs.Layout.{Regions}
+use Rattle.plain.specs.Calls.{Call, start, allocate, free, step, Lengths}
+use Rattle.control.specs.Layout.{Regions, seen}
 use Rattle.control.specs.Answers.{codeOf}
 use Rattle.control.specs.declared.answer.Answer.{Answer}
 use Rattle.control.specs.declared.answer.Answer.the-variants.{Accepted, Allocated, Freed, NoDescriptor, NoRegion}
@@ -20,11 +22,28 @@ use Rattle.control.specs.declared.answer.Answer.the-variants.{Refused}
 use Rattle.stepped.specs.Outcome.{Outcome, Effect, effect, refuse, Memories}
 use Rattle.stepped.specs.Ranges.{oneTo}
 use Rattle.stepped.specs.Start.{startImage}
+use Rattle.stepped.specs.Calls.{Lent, lengths, effectIn}
 use Rattle.stepped.specs.Calls as Stepped
 use Rattle.agreement.specs.Ends.{WritesNothing, Leaves}
 use Rattle.agreement.specs.Agreement.{Unchanged}
 use Rattle.agreement.proofs.Ends.{leaves}
-use Rattle.agreement.specs.Events.{ran}
+use Rattle.agreement.specs.Events.{ran, NoStart}
+
+-- ---- what matters of the memories that a call is lent
+
+-- Of a call that is no start the lengths alone matter: the bytes are the pool's own.
+pub same-lengths : (k : Call) (l l′ : Lent) (s : Memories) → NoStart k → lengths l ≡ lengths l′
+    → effectIn k l s ≡ effectIn k l′ s
+same-lengths (start b) l l′ s n e = absurd n
+same-lengths (allocate t size) l l′ s n e =
+    ap (λ (z : Lengths). effect (Stepped.allocateOutcome (z .control) (z .area) (seen (s .control)) t size) (s .control)
+    (s .area)) e
+same-lengths (free t u) l l′ s n e =
+    ap (λ (z : Lengths). effect (Stepped.freeOutcome (z .control) (z .area) (seen (s .control)) t u) (s .control)
+    (s .area)) e
+same-lengths (step t) l l′ s n e =
+    ap (λ (z : Lengths). effect (Stepped.stepOutcome (z .control) (z .area) (seen (s .control)) (link (s .area)) t)
+    (s .control) (s .area)) e
 
 -- ---- other memories
 

@@ -54,7 +54,7 @@ pub mod SoundAllocate
 pub mod SoundFree
 pub mod SoundSteps
 pub mod SoundCalls
-pub mod NotedStates
+pub mod FoundStates
 pub mod Reaching
 pub mod Ends
 pub mod Theorem

@@ -3,7 +3,7 @@
 use mathlib.Core.Path.{_≡_, refl, sym, subst, _∙_}
 use Prim.Native.Nat.{ℕ, suc, _≤_, _<_}
 use mathlib.Core.List.{List}
-use Rattle.limits.specs.Limits.{UNITS, DESCRIPTORS, MOST-BLOCKS, SPARE-REGIONS, LISTS}
+use Rattle.limits.specs.Limits.{UNITS, DESCRIPTORS, MOST-BLOCKS, SPARE-REGIONS, LISTS, DESCRIPTOR-LISTS}
 use Rattle.words.specs.declared.anchor.Anchor.{Anchor}
 use Rattle.words.specs.declared.head.Head.{Head}
 use Rattle.rows.specs.Counting.{count}
@@ -23,12 +23,13 @@ use Rattle.agreement.proofs.Sets.{withMarks}
 module _ {regions : ℕ} {l : Lists} {won : ℕ → ℕ} {row : ℕ → List ℕ} (R : ListsRelated regions l won row) where
   -- a head, whose list has the row q after n won exchanges
   pub head-related : (ℓ : ℕ) (h : Head) (n : ℕ) (q : List ℕ) → h .tag ≡ wrap n
-      → (ℓ < SPARE-REGIONS → Linked (l .descriptorNext) suc 0 (h .item) q)
+      → (ℓ < DESCRIPTOR-LISTS → Linked (l .descriptorNext) suc 0 (h .item) q)
       → (ℓ ≡ SPARE-REGIONS → Linked (l .regionNext) suc 0 (h .item) q)
       → ListsRelated regions (withHeads (update (l .head) ℓ h) l) (update won ℓ n) (update row ℓ q)
   head-related ℓ h n q e f g = record {
     tags = update-all₂ (λ j x y. j < LISTS → x .tag ≡ wrap y) (l .head) won ℓ h n (λ i. e) (λ j d. R .tags j);
-    rows = update-all₂ (λ j x r. j < SPARE-REGIONS → Linked (l .descriptorNext) suc 0 (x .item) r) (l .head) row ℓ h q f
+    rows =
+        update-all₂ (λ j x r. j < DESCRIPTOR-LISTS → Linked (l .descriptorNext) suc 0 (x .item) r) (l .head) row ℓ h q f
         (λ j d. R .rows j);
     spareRow = update-all₂ (λ j x r. j ≡ SPARE-REGIONS → Linked (l .regionNext) suc 0 (x .item) r) (l .head) row ℓ h q g
         (λ j d i. subst (λ (z : ℕ). Linked (l .regionNext) suc 0 (l .head z .item) (row z)) (sym i) (R .spareRow))
@@ -38,7 +39,7 @@ module _ {regions : ℕ} {l : Lists} {won : ℕ → ℕ} {row : ℕ → List ℕ
   }
 
   -- the next of a descriptor that is in no list
-  pub descriptorNext-related : (x n : ℕ) → ((ℓ : ℕ) → ℓ < SPARE-REGIONS → count x (row ℓ) ≡ 0) → n ≤ DESCRIPTORS
+  pub descriptorNext-related : (x n : ℕ) → ((ℓ : ℕ) → ℓ < DESCRIPTOR-LISTS → count x (row ℓ) ≡ 0) → n ≤ DESCRIPTORS
       → ListsRelated regions (withDescriptorNexts (update (l .descriptorNext) x n) l) won row
   descriptorNext-related x n off b = record {
     tags = R .tags;

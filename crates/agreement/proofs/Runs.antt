@@ -93,8 +93,8 @@ blockAt at s =
     let c = classThere (at / UNIT-BYTES) s in unitOf (regionOf (at / UNIT-BYTES)) c (indexOf c (at / UNIT-BYTES))
 
 -- it is in a user's hands, and the byte lies in it
-abbrev pub HeldAt : ℕ → Pool → Type 0
-HeldAt at s =
+abbrev pub ByteHeld : ℕ → Pool → Type 0
+ByteHeld at s =
     let u = blockAt at s in
     (1 ≤ s .tasks) × ((1 ≤ s .mem .hands u) × ((UNIT-BYTES * u ≤ at) × (at < UNIT-BYTES * u + block (classThere u s))))
 
@@ -102,7 +102,7 @@ HeldAt at s =
 abbrev pub Writes : List Event → Pool → Type 0
 Writes [] s = Unit {0}
 Writes (call k lent ∷ es) s = Writes es (whole (call k lent) s .0)
-Writes (write at b ∷ es) s = HeldAt at s × Writes es s
+Writes (write at b ∷ es) s = ByteHeld at s × Writes es s
 
 -- whether it is so is found by running the plain pool
 unfoldable pub writes? : (es : List Event) (s : Pool) → Dec (Writes es s)

@@ -10,6 +10,7 @@ use borrow.Author.Tests.{eq-eqb, ne-eqb}
 use lib.Dec.{eqb}
 use lib.ListN.{length}
 use Rattle.limits.specs.Limits.{REGIONS, REGION-BYTES, UNITS, CLASSES, DESCRIPTORS, SPARE-DESCRIPTORS, SPARE-REGIONS}
+use Rattle.limits.specs.Limits.{DESCRIPTOR-LISTS}
 use Rattle.rows.specs.Branch.{if}
 use Rattle.rows.specs.Linked.{Linked, ends, links}
 use Rattle.rows.proofs.Branch.{if-yes}
@@ -116,7 +117,7 @@ module _ (tasks regions : ℕ) (few : 1 ≤ regions) where
   abbrev v : View
   v = startView tasks regions
 
-  row : (ℓ : ℕ) → ℓ < SPARE-REGIONS → (d : Dec (ℓ ≡ SPARE-DESCRIPTORS)) (e : Dec (ℓ ≡ SPARE-REGIONS))
+  row : (ℓ : ℕ) → ℓ < DESCRIPTOR-LISTS → (d : Dec (ℓ ≡ SPARE-DESCRIPTORS)) (e : Dec (ℓ ≡ SPARE-REGIONS))
       → Linked (λ (x : ℕ). v (DescriptorNext x)) suc 0 (itemOf (v (Head ℓ)))
       (if d (rising DESCRIPTORS 0) (if e (rising regions 0) []))
   row ℓ l (yes d) e =

@@ -3,7 +3,7 @@ use mathlib.Core.Path.{_≡_, sym, ap, _∙_}
 use mathlib.Core.List.{List, _∷_}
 use Prim.Native.Nat.{ℕ, suc, pred, _+_, _≤_, _<_}
 use native.Mathlib.Omega.{arith}
-use Rattle.limits.specs.Limits.{TASKS, DESCRIPTORS, TAGS, SPARE-REGIONS}
+use Rattle.limits.specs.Limits.{TASKS, DESCRIPTORS, TAGS, SPARE-REGIONS, DESCRIPTOR-LISTS}
 use Rattle.words.specs.declared.head.Head.{Head}
 use Rattle.rows.specs.Counting.{count}
 use Rattle.rows.specs.Linked.{Linked, ends, links}
@@ -45,7 +45,7 @@ next-of i (ends e) h l = absurd (omega arith)
 next-of {nx} i (links {u = u} {r = r} e k) h l = let z : pred i ≡ u = omega arith in ap nx z ∙ top-of k
 
 module _ {regions : ℕ} {m : Mem} (I : Invariant regions m) where
-  pub listed : (ℓ : ℕ) → ℓ < SPARE-REGIONS → (v : ℕ) → 1 ≤ count v (m .row ℓ) → v < DESCRIPTORS
+  pub listed : (ℓ : ℕ) → ℓ < DESCRIPTOR-LISTS → (v : ℕ) → 1 ≤ count v (m .row ℓ) → v < DESCRIPTORS
   listed ℓ l v h =
       below-is v DESCRIPTORS (omega (arith, I .descriptors v, total-one SPARE-REGIONS (rowWeight v) (m .row) ℓ l))
 

@@ -40,6 +40,7 @@ pub record TaskCaches : Type 0 where
   pub top : ℕ → ℕ
   pub count : ℕ → ℕ
 
+-- all of it: the place in the step list, the class of the request, and the block that is freed, with these
 pub record Slot : Type 0 where
   pub place : ℕ
   pub class : ℕ
@@ -68,6 +69,7 @@ pub record Entries : Type 0 where
   pub map : ℕ → ℕ
   pub mark : ℕ → ℕ
 
+-- what the two memories hold, part by part
 pub record Contents : Type 0 where
   pub lists : Lists
   pub descriptors : Descriptors
@@ -81,6 +83,7 @@ pub record Contents : Type 0 where
 abbrev pub byClass : (ℕ → ℕ) → ℕ → ℕ
 byClass f c = if (decLt c CLASSES) (f c) 0
 
+-- a task's part
 abbrev pub slotOf : View → ℕ → Slot
 slotOf v t = record {
   place = v (Layout.TaskPlace t);
@@ -113,6 +116,7 @@ slotOf v t = record {
 abbrev pub markOf : View → ℕ → ℕ
 markOf v u = bitAt (v (Layout.Marks (u / 64))) (u % 64)
 
+-- all parts, with the area
 abbrev pub contentsOf : View → List ℕ → Contents
 contentsOf v area = record {
   lists = record {

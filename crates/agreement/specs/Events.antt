@@ -1,4 +1,4 @@
--- The events of a run: calls, with the lengths that they are lent, and users' writes; the two runs; and the premises.
+-- The events of a run: calls, with what they are lent, and users' writes; the two runs; and the premises.
 use mathlib.Core.Path.{_≡_}
 use mathlib.Core.List.{List, [], _∷_}
 use Rattle.limits.specs.Limits.{CONTROL-BYTES, REGION-BYTES, UNIT-BYTES, TAGS}
@@ -20,10 +20,17 @@ use Rattle.stepped.specs.Calls.{Lent, lengths, effectIn}
 
 -- A call, with what it is lent. A call that is no start is lent the pool's memories if they have these lengths, else
 -- others, which it refuses and does not touch. A start is lent an area with any bytes, and a control memory with any
--- bytes of the length that is named. A user writes the byte b at the place `at` of the area.
+-- bytes of the length that is named. A user writes the byte b at the byte `at` of the area.
 pub data Event : Type 0 where
   call : (k : Call) (lent : Lent) → Event
   write : (at b : ℕ) → Event
+
+-- a call that is no start: of what it is lent the lengths alone matter (`same-lengths` of proofs/Lent.antt)
+abbrev pub NoStart : Call → Type 0
+NoStart (start b) = ⊥
+NoStart (allocate t size) = Unit {0}
+NoStart (free t u) = Unit {0}
+NoStart (step t) = Unit {0}
 
 -- ---- the stepped run: on the bytes of the two memories
 
@@ -34,13 +41,15 @@ ran e = (
   record { code = codeOf (e .answer); value = valueOf (e .answer); decided = e .decided },
 )
 
--- a start that is accepted takes the memories that it is lent for the pool's; one that is refused leaves the pool's
+-- An event of the stepped run. A start that is accepted takes the memories that it is lent for the pool's; one that is
+-- refused leaves the pool's.
 abbrev pub stepped : Event → Memories → Memories × Answer
 stepped (call k lent) s = ran (effectIn k lent s)
 stepped (write at b) s = (record { control = s .control; area = set (s .area) at b }, going nothing)
 
 -- ---- the whole run: the plain pool, "fed only each call's numbers and the lengths lent"; it sees no write
 
+-- an event of the whole run
 abbrev pub whole : Event → Pool → Pool × Answer
 whole (call k lent) s = Plain.call k (lengths lent) s
 whole (write at b) s = (s, going nothing)
@@ -74,7 +83,7 @@ Near won (entry-noted y d n) = Unit {0}
 abbrev pub classThere : ℕ → Pool → ℕ
 classThere u s = s .mem .descriptor (pred (s .mem .map (regionOf u))) .class
 
--- "users write only in blocks they hold" (the demands): the place `at` lies in the block `unit`, which is in a user's
+-- "users write only in blocks they hold" (the demands): the byte `at` lies in the block `unit`, which is in a user's
 -- hands; in whose, is not asked. The pool is then started, for nothing is in hands before; it is said so that proofs
 -- have it at once.
 pub record InHands (at : ℕ) (s : Pool) : Type 0 where
@@ -84,13 +93,14 @@ pub record InHands (at : ℕ) (s : Pool) : Type 0 where
   pub from : UNIT-BYTES * unit ≤ at
   pub to : at < UNIT-BYTES * unit + block (classThere unit s)
 
--- of calls, a step's alone
+-- of calls a step alone has a premise
 abbrev pub CallPremise : Call → Lengths → Pool → Type 0
 CallPremise (start b) lent s = Unit {0}
 CallPremise (allocate t size) lent s = Unit {0}
 CallPremise (free t u) lent s = Unit {0}
 CallPremise (step t) lent s = Taken lent t s → Near (s .mem .won) (noted (s .mem .task t .place))
 
+-- the premise of an event, in the plain pool before it
 abbrev pub Premise : Event → Pool → Type 0
 Premise (call k lent) s = CallPremise k (lengths lent) s
 Premise (write at b) s = InHands at s

@@ -4,6 +4,7 @@ use Prim.Native.Nat.{ℕ, _+_, _^_, _≤_, _<_}
 use mathlib.Core.Path.{_≡_}
 use mathlib.Core.Bool.{true}
 use Rattle.limits.specs.Limits.{REGIONS, UNITS, TASKS, CLASSES, DESCRIPTORS, MOST-BLOCKS, SPARE-REGIONS}
+use Rattle.limits.specs.Limits.{DESCRIPTOR-LISTS}
 use Rattle.fields.specs.Columns.{Field, View, Has, width}
 use Rattle.words.specs.Head.{itemOf}
 use Rattle.words.specs.Anchor.{PARTIAL, FULL, anchorOf}
@@ -69,7 +70,7 @@ pub record TaskChains (v : View) (t : ℕ) : Type 0 where
   pub anchor-count : At v t A3-EXCHANGE A3-EXCHANGE
       (OneTo (perRegion (v (TaskClass t))) (anchorOf (v (TaskAnchor t)) .count))
   -- and that before whose chain a free puts its group: n as avail is none
-  pub returns-state : At v t F3-LINK F3-EXCHANGE (anchorOf (v (TaskAnchor t)) .state ≤ 2)
+  pub returns-state : At v t F3-LINK F3-EXCHANGE (anchorOf (v (TaskAnchor t)) .state ≤ FULL)
   pub returns-avail : At v t F3-LINK F3-EXCHANGE (anchorOf (v (TaskAnchor t)) .avail ≤ perRegion (v (TaskClass t)))
   pub returns-count : At v t F3-LINK F3-EXCHANGE
       (anchorOf (v (TaskAnchor t)) .count + v (GroupCount t) ≤ perRegion (v (TaskClass t)))
@@ -114,13 +115,13 @@ pub record InRange (v : View) : Type 0 where
   pub tasks : OneTo TASKS (v Tasks)
   pub regions : OneTo REGIONS (v Regions)
   -- the item of each head: a number plus one, or 0
-  pub heads : (ℓ : ℕ) → ℓ < SPARE-REGIONS → itemOf (v (Head ℓ)) ≤ DESCRIPTORS
+  pub heads : (ℓ : ℕ) → ℓ < DESCRIPTOR-LISTS → itemOf (v (Head ℓ)) ≤ DESCRIPTORS
   pub head-regions : itemOf (v (Head SPARE-REGIONS)) ≤ v Regions
   -- each item's next: a number plus one, or 0
   pub descriptor-nexts : (d : ℕ) → d < DESCRIPTORS → v (DescriptorNext d) ≤ DESCRIPTORS
   pub region-nexts : (r : ℕ) → r < v Regions → v (RegionNext r) ≤ v Regions
   -- each anchor: EMPTY, PARTIAL or FULL; an index and a count as large as any class has
-  pub states : (d : ℕ) → d < DESCRIPTORS → anchorOf (v (Anchor d)) .state ≤ 2
+  pub states : (d : ℕ) → d < DESCRIPTORS → anchorOf (v (Anchor d)) .state ≤ FULL
   pub avails : (d : ℕ) → d < DESCRIPTORS → anchorOf (v (Anchor d)) .avail ≤ MOST-BLOCKS
   pub chain-counts : (d : ℕ) → d < DESCRIPTORS → anchorOf (v (Anchor d)) .count ≤ MOST-BLOCKS
   -- and as large as its own class has, unless it is EMPTY: n as avail is none

@@ -7,7 +7,7 @@ use Prim.Native.Nat.{ℕ, zero, suc, _+_, _-_, _≤_, _<_}
 use mathlib.Core.Bool.{cond, _&&_}
 use native.Mathlib.Decide.{ℕ-discrete, decLe}
 use lib.Dec.{leb}
-use Rattle.limits.specs.Limits.{DESCRIPTORS, CLASSES, TASKS, UNITS, SPARE-REGIONS}
+use Rattle.limits.specs.Limits.{DESCRIPTORS, CLASSES, TASKS, UNITS, SPARE-REGIONS, DESCRIPTOR-LISTS}
 use Rattle.rows.specs.Branch.{if, both}
 use Rattle.rows.specs.Counting.{count}
 use Rattle.rows.specs.Totals.{total}
@@ -129,6 +129,7 @@ holderOf (suc n) has inChain t = if (decLe 1 (has t)) (task t) (holderOf n has i
 abbrev pub holder : ℕ → (ℕ → ℕ) → ℕ → Holder
 holder mark has inChain = if (decLe 1 mark) hands (holderOf TASKS has inChain 0)
 
+-- the holder of the block v with regard to the region r: in the memories, and in the plain pool
 abbrev pub holderIn : Contents → ℕ → ℕ → Holder
 holderIn a r v = holder (a .entries .mark v) (λ t. withTask a t v) (count v (chainBy (a .entries .map r) r a))
 
@@ -137,8 +138,9 @@ plainHolder m r v = holder (m .hands v) (λ t. blockWeight v t (m .task t)) (cou
 
 -- ---- the comparison, in an area of so many regions
 
+-- what is compared is the same in the memories and in the plain pool
 pub record SameObserved (regions : ℕ) (a : Contents) (m : Mem) : Type 0 where
-  pub lists : (ℓ : ℕ) → ℓ < SPARE-REGIONS → listOf a ℓ ≡ m .row ℓ
+  pub lists : (ℓ : ℕ) → ℓ < DESCRIPTOR-LISTS → listOf a ℓ ≡ m .row ℓ
   pub spares : spareRegions a regions ≡ m .row SPARE-REGIONS
   pub classes : (r : ℕ) → r < regions → classBy (a .entries .map r) r a ≡ plainClass m r
   pub chains : (r : ℕ) → r < regions → chainBy (a .entries .map r) r a ≡ plainChain m r

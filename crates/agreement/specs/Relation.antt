@@ -4,6 +4,7 @@ use mathlib.Core.List.{List, [], _∷_, _++_}
 use Prim.Native.Nat.{ℕ, zero, suc, _+_, _*_, _%_, _≤_, _<_}
 use lib.ListN.{length}
 use Rattle.limits.specs.Limits.{REGION-BYTES, UNITS, TASKS, CLASSES, DESCRIPTORS, MOST-BLOCKS, TAGS, SPARE-DESCRIPTORS}
+use Rattle.limits.specs.Limits.{DESCRIPTOR-LISTS}
 use Rattle.limits.specs.Limits.{SPARE-REGIONS, LISTS}
 use Rattle.rows.specs.Counting.{count}
 use Rattle.rows.specs.Linked.{Linked}
@@ -180,7 +181,7 @@ pub record DescriptorRelated (nx : ℕ → ℕ) (a : Anchor) (r c : ℕ) (D : De
 pub record ListsRelated (regions : ℕ) (l : Lists) (won : ℕ → ℕ) (row : ℕ → List ℕ) : Type 0 where
   pub tags : (ℓ : ℕ) → ℓ < LISTS → l .head ℓ .tag ≡ wrap (won ℓ)
   -- the lists of descriptors, and that of spare regions
-  pub rows : (ℓ : ℕ) → ℓ < SPARE-REGIONS → Linked (l .descriptorNext) suc 0 (l .head ℓ .item) (row ℓ)
+  pub rows : (ℓ : ℕ) → ℓ < DESCRIPTOR-LISTS → Linked (l .descriptorNext) suc 0 (l .head ℓ .item) (row ℓ)
   pub spareRow : Linked (l .regionNext) suc 0 (l .head SPARE-REGIONS .item) (row SPARE-REGIONS)
   pub descriptorNexts : (d : ℕ) → d < DESCRIPTORS → l .descriptorNext d ≤ DESCRIPTORS
   pub regionNexts : (r : ℕ) → r < regions → l .regionNext r ≤ regions
@@ -206,6 +207,7 @@ pub record Core (regions : ℕ) (a : Contents) (m : Mem) : Type 0 where
   pub entries : EntriesRelated regions (a .entries) (m .map) (m .hands)
   pub length : lib.ListN.length (a .area) ≡ REGION-BYTES * regions
 
+-- the two pools in relation: what the tasks share, and each task
 pub record Related (regions : ℕ) (a : Contents) (m : Mem) : Type 0 where
   pub core : Core regions a m
   pub slots : (t : ℕ) → t < TASKS → SlotRelated regions a m (a .slot t) (m .task t)

@@ -23,7 +23,7 @@ use Rattle.agreement.specs.Events.{ran, stepped}
 use Rattle.agreement.proofs.Ways.{tests}
 use Rattle.agreement.proofs.Ends.{start-ends}
 use Rattle.agreement.proofs.Lent.{other-control, other-area, start-elsewhere}
-use Rattle.pool.specs.Call.{CallIs}
+use Rattle.pool.specs.Call.{EffectIs}
 use Rattle.demands.specs.Runs.{Act, own, other, write, Contract, OtherLength, Happens, after, event, Number}
 use Rattle.demands.specs.Runs.{Answered}
 use Rattle.demands.proofs.Numbers.{code-small, told-as}
@@ -35,7 +35,7 @@ pub record Shows (a : Act) (s : Memories) : Type 0 where
 
 -- ---- calls on the pool's memories
 
-left-is : {e : Effect} {left : Memories} {r : ℕ} → CallIs e (left .control) (left .area) r → ran e .0 ≡ left
+left-is : {e : Effect} {left : Memories} {r : ℕ} → EffectIs e (left .control) (left .area) r → ran e .0 ≡ left
 left-is C = sym (λ i. record { control = C .control-is i; area = C .area-is i })
 
 own-shows : (k : Call) (left : Memories) (r : ℕ) (s : Memories) → Contract k s left r → Shows (own k left r) s

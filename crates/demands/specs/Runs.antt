@@ -20,7 +20,7 @@ use Rattle.pool.specs.Call.{Ensures}
 use Rattle.demands.specs.Answers.{Refusal}
 
 -- What happens to a pool: a call on its memories leaves the memories `left` and answers `number`; a call on other
--- memories, lent as `lent`; a user writes the byte b at the place `at` of the area.
+-- memories, lent as `lent`; a user writes the byte b at the byte `at` of the area.
 pub data Act : Type 0 where
   own : (call : Call) (left : Memories) (number : ℕ) → Act
   other : (call : Call) (lent left : Memories) (number : ℕ) → Act

@@ -1,11 +1,11 @@
--- How many there are of each thing in the paper. A number of this list stands nowhere else.
+-- How many there are of each thing in the paper. What follows from others is tied to them in proofs/Ties.antt.
 use Prim.Native.Nat.{ℕ, _+_}
 
 -- "Control memory is 8,192 bytes"
 abbrev pub CONTROL-BYTES : ℕ
 CONTROL-BYTES = 8192
 
--- "The area is 1 to 16 regions of 4,096 bytes"
+-- "The area is 1 to 16 regions of 4,096 bytes": the most regions, and the bytes of one
 abbrev pub REGIONS : ℕ
 REGIONS = 16
 
@@ -58,6 +58,10 @@ SPARE-DESCRIPTORS = CLASSES
 
 abbrev pub SPARE-REGIONS : ℕ
 SPARE-REGIONS = CLASSES + 1
+
+-- how many lists there are of descriptors, and in all
+abbrev pub DESCRIPTOR-LISTS : ℕ
+DESCRIPTOR-LISTS = CLASSES + 1
 
 abbrev pub LISTS : ℕ
 LISTS = CLASSES + 2

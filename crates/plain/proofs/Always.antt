@@ -8,7 +8,7 @@ use Rattle.limits.specs.Limits.{CONTROL-BYTES, REGION-BYTES, TASKS}
 use Rattle.classes.specs.Geometry.{regionOf}
 use Rattle.plain.specs.State.{Place, idle, Mem, working}
 use Rattle.plain.specs.Moves.{Answer}
-use Rattle.plain.specs.Steps.{Result, stepOf, stepOf}
+use Rattle.plain.specs.Steps.{Result, stepOf}
 use Rattle.plain.specs.Calls.{Pool, Call, start, allocate, free, area?, tasks?, beginAllocate, beginFree}
 use Rattle.plain.specs.Calls.{whenIdle, tested, call, Lengths, step}
 use Rattle.plain.specs.Invariant.{Invariant, Good, run}

@@ -19,7 +19,7 @@ use Rattle.plain.specs.Held.{Held, held, blockIn, classBlockIn, descript
 use Rattle.plain.specs.Held.{unmappedIn}
 use Rattle.plain.specs.Weights.{insideWeight, insideClassWeight, chainWeight, chainClassWeight, openWeight}
 use Rattle.plain.specs.Weights.{fullWeight, descriptorWeight, descriptorClassWeight, spareWeight}
-use Rattle.plain.specs.Places.{NoteHolds, Holds}
+use Rattle.plain.specs.Places.{NoteHolds, PlaceHolds}
 use Rattle.plain.specs.Invariant.{OpenDescriptor, ClosedDescriptor, Invariant}
 use Rattle.plain.proofs.States.{open-holds, open-asks, open-not-empty, empty-is}
 use Rattle.plain.proofs.Notes.{as-before}
@@ -90,7 +90,7 @@ pub record Anchored (m : Mem) (d : ℕ) (E : Descriptor) (h h′ : Held) : Type 
 module _ {area : ℕ} {m : Mem} {t : ℕ} {p : Place} {k : ℕ → List ℕ} (w : Turn area m t (taskOf p k)) where
   -- Such an exchange keeps the invariant.
   pub anchored : {h′ : Held} (p′ : Place) (d : ℕ) (E : Descriptor) → held p′ ≡ h′ → Anchored m d E (held p) h′
-      → Holds k p′ → NoteHolds (m .row) (m .won) (m .map) p′
+      → PlaceHolds k p′ → NoteHolds (m .row) (m .won) (m .map) p′
       → Invariant area (at t k p′ (setDescriptor d E m))
   anchored p′ d E e a o n = turn-inv w _ (taskOf p′ k) refl (record {
     descriptors = λ x. omega (

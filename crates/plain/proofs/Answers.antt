@@ -13,7 +13,7 @@ use Rattle.rows.proofs.Update.{update-same}
 use Rattle.classes.specs.Geometry.{regionOf}
 use Rattle.plain.specs.State.{read, spare, region, back, Place, idle, pushing, Task, Mem, working}
 use Rattle.plain.specs.Moves.{found-empty, pushed, Answer, ended, refused}
-use Rattle.plain.specs.Steps.{Result, popRead, pushPut, stepAt, stepOf, stepOf, whenWorking}
+use Rattle.plain.specs.Steps.{Result, popRead, pushPut, stepAt, stepOf, whenWorking}
 use Rattle.plain.specs.Calls.{Pool, Call, start, allocate, free, startMem, area?, tasks?, opens?, first?, freeBy}
 use Rattle.plain.specs.Calls.{whenIdle, refuse, became, tested, call, Lengths, step}
 use Rattle.plain.specs.Codes.{StepCode, under-way, no-request, no-descriptor, no-region, finishes, ReadsNoSpare}

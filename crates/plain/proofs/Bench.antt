@@ -9,7 +9,7 @@ use Rattle.rows.specs.Update.{update}
 use Rattle.classes.specs.Classes.{units, perRegion}
 use Rattle.classes.specs.Sizes.{classOf}
 use Rattle.plain.specs.Moves.{Answer, going, finished, nothing}
-use Rattle.plain.specs.Steps.{stepOf, stepOf}
+use Rattle.plain.specs.Steps.{stepOf}
 use Rattle.plain.specs.Calls.{Pool, start, allocate, startMem, rising, unstarted, call, Lengths, step}
 
 -- the control memory, and an area of one region

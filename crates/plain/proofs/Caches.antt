@@ -25,7 +25,7 @@ use Rattle.plain.specs.Blocks.{blocksFrom}
 use Rattle.plain.specs.Held.{hold, held, blockIn, classBlockIn, descriptorIn, spareIn, listedIn, regionIn}
 use Rattle.plain.specs.Held.{unmappedIn, underWay}
 use Rattle.plain.specs.Weights.{rowWeight, blockWeight}
-use Rattle.plain.specs.Places.{Together, NoteHolds, Holds}
+use Rattle.plain.specs.Places.{Together, NoteHolds, PlaceHolds}
 use Rattle.plain.specs.Invariant.{Invariant}
 use Rattle.plain.proofs.Tests.{either, KeepsInvariant}
 use Rattle.plain.proofs.Homes.{inside-open}
@@ -47,7 +47,7 @@ module _ {area : ℕ} {m : Mem} {t : ℕ} {p : Place} {k : ℕ → List ℕ} (w 
   -- the invariant if each block is as often in both together as before.
   pub recached : {b b′ : List ℕ} (p′ : Place) (c : ℕ) (q : List ℕ) → HoldsBlocks c b p → HoldsBlocks c b′ p′
       → c < CLASSES → ((v : ℕ) → count v q + count v b′ ≡ count v (k c) + count v b) → length q ≤ perRegion c
-      → Holds (update k c q) p′ → NoteHolds (m .row) (m .won) (m .map) p′
+      → PlaceHolds (update k c q) p′ → NoteHolds (m .row) (m .won) (m .map) p′
       → Invariant area (cached t k c q p′ m)
   recached {b} {b′} p′ c q e e′ l h n o z = within w (taskOf p′ (update k c q)) (record {
     blocks = λ v. omega (arith, total-update CLASSES (rowWeight v) k c q l, h v, blocks v);

@@ -3,7 +3,7 @@ use mathlib.Core.Path.{_≡_, refl, ap}
 use mathlib.Core.List.{List}
 use Prim.Native.Nat.{ℕ, _+_, _≤_, _<_}
 use native.Mathlib.Omega.{arith}
-use Rattle.limits.specs.Limits.{CLASSES, SPARE-DESCRIPTORS, SPARE-REGIONS}
+use Rattle.limits.specs.Limits.{CLASSES, SPARE-DESCRIPTORS, SPARE-REGIONS, DESCRIPTOR-LISTS}
 use Rattle.rows.specs.Update.{update}
 use Rattle.rows.specs.Weights.{when}
 use Rattle.rows.specs.Counting.{count}
@@ -15,7 +15,7 @@ use Rattle.plain.specs.Steps.{at}
 use Rattle.plain.specs.Held.{Held, held, blockIn, classBlockIn, descriptorIn, spareIn, listedIn, regionIn}
 use Rattle.plain.specs.Held.{unmappedIn}
 use Rattle.plain.specs.Weights.{rowWeight}
-use Rattle.plain.specs.Places.{NoteHolds, Holds}
+use Rattle.plain.specs.Places.{NoteHolds, PlaceHolds}
 use Rattle.plain.specs.Invariant.{Invariant}
 use Rattle.plain.proofs.Notes.{Exchanges, as-before, one-more}
 use Rattle.plain.proofs.Turn.{Turn, fewer, as-mapped, turn-inv}
@@ -51,8 +51,8 @@ pub record Released (r q : List ℕ) (h h′ : Held) : Type 0 where
 
 module _ {area : ℕ} {m : Mem} {t : ℕ} {p : Place} {k : ℕ → List ℕ} (w : Turn area m t (taskOf p k)) where
   -- An exchange of a list of descriptors keeps the invariant.
-  pub relisted : {h′ : Held} (p′ : Place) (ℓ : ℕ) (q : List ℕ) → held p′ ≡ h′ → ℓ < SPARE-REGIONS
-      → Listed ℓ (m .row ℓ) q (held p) h′ → Holds k p′
+  pub relisted : {h′ : Held} (p′ : Place) (ℓ : ℕ) (q : List ℕ) → held p′ ≡ h′ → ℓ < DESCRIPTOR-LISTS
+      → Listed ℓ (m .row ℓ) q (held p) h′ → PlaceHolds k p′
       → NoteHolds (update (m .row) ℓ q) (update (m .won) ℓ (m .won ℓ + 1)) (m .map) p′
       → Invariant area (at t k p′ (setRow ℓ q m))
   relisted p′ ℓ q e l s o n = turn-inv w _ (taskOf p′ k) refl (record {
@@ -88,7 +88,7 @@ module _ {area : ℕ} {m : Mem} {t : ℕ} {p : Place} {k : ℕ → List ℕ} (w 
 
   -- So does one of the list of spare regions.
   pub released : {h′ : Held} (p′ : Place) (q : List ℕ) → held p′ ≡ h′ → Released (m .row SPARE-REGIONS) q (held p) h′
-      → Holds k p′
+      → PlaceHolds k p′
       → NoteHolds (update (m .row) SPARE-REGIONS q)
       (update (m .won) SPARE-REGIONS (m .won SPARE-REGIONS + 1)) (m .map) p′
       → Invariant area (at t k p′ (setRow SPARE-REGIONS q m))

@@ -11,7 +11,7 @@ use Rattle.plain.specs.State.{Place, Task, Mem}
 use Rattle.plain.specs.Steps.{at}
 use Rattle.plain.specs.Held.{hold, held, blockIn, classBlockIn, descriptorIn, spareIn, listedIn, regionIn}
 use Rattle.plain.specs.Held.{unmappedIn}
-use Rattle.plain.specs.Places.{NoteHolds, Holds}
+use Rattle.plain.specs.Places.{NoteHolds, PlaceHolds}
 use Rattle.plain.specs.Invariant.{Invariant}
 use Rattle.plain.proofs.Turn.{Turn, taskHolds, within}
 
@@ -29,7 +29,7 @@ turnAt {m = m} {t = t} I l e =
 
 module _ {area : ℕ} {m : Mem} {t : ℕ} {p : Place} {k : ℕ → List ℕ} (w : Turn area m t (taskOf p k)) where
   -- What holds at the place.
-  pub placeHolds : Holds k p
+  pub placeHolds : PlaceHolds k p
   placeHolds = taskHolds w .place
 
   -- What holds of the task's note.
@@ -41,7 +41,7 @@ module _ {area : ℕ} {m : Mem} {t : ℕ} {p : Place} {k : ℕ → List ℕ} (w 
   lengths = taskHolds w .lengths
 
   -- A step to a place that holds the same keeps the invariant.
-  pub placed : (p′ : Place) → held p′ ≡ held p → Holds k p′ → NoteHolds (m .row) (m .won) (m .map) p′
+  pub placed : (p′ : Place) → held p′ ≡ held p → PlaceHolds k p′ → NoteHolds (m .row) (m .won) (m .map) p′
       → Invariant area (at t k p′ m)
   placed p′ e h n = within w (taskOf p′ k) (record {
     blocks = λ v. omega (arith, ap (blockIn v) e);
@@ -55,7 +55,7 @@ module _ {area : ℕ} {m : Mem} {t : ℕ} {p : Place} {k : ℕ → List ℕ} (w 
 
   -- So does a step between places that hold nothing, of whatever class.
   pub placed-empty : {c e : ℕ} (p′ : Place) → held p ≡ hold c [] [] [] [] → held p′ ≡ hold e [] [] [] []
-      → Holds k p′ → NoteHolds (m .row) (m .won) (m .map) p′ → Invariant area (at t k p′ m)
+      → PlaceHolds k p′ → NoteHolds (m .row) (m .won) (m .map) p′ → Invariant area (at t k p′ m)
   placed-empty {c} {e} p′ a b h n = within w (taskOf p′ k) (record {
     blocks = λ v. omega (arith, ap (blockIn v) a, ap (blockIn v) b);
     blockClasses = λ f v.

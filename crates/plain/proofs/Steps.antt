@@ -70,7 +70,8 @@ module _ (t : ℕ) (k : ℕ → List ℕ) (m : Mem) where
   }
   step-at (f3-exchange c u y g d n) =
       record { facts = λ h. facts-f3-exchange t k m c u y g d n; kept = λ area T. f3-exchange-inv T }
-  step-at (f4-clear c u d s r) = record { facts = λ h. facts-f4 t k m c u d s r; kept = λ area T. clear-inv c u d s r T }
+  step-at (f4-clear c u d s r) =
+      record { facts = λ h. facts-f4 t k m c u d s r; kept = λ area T. clear-inv c u d s r T }
 
   -- Every step; an idle task makes none.
   facts-of : (p : Place) → m .task t .place ≡ p → StepFacts t m (whenWorking p (λ w. stepAt t k w m) m)

@@ -3,7 +3,7 @@ use mathlib.Core.Path.{_≡_, refl, sym, ap, subst, _∙_}
 use mathlib.Core.Logic.{_≢_}
 use Prim.Native.Nat.{ℕ, suc, _+_, _≤_, _<_}
 use native.Mathlib.Omega.{arith}
-use Rattle.limits.specs.Limits.{TASKS, CLASSES, DESCRIPTORS, SPARE-DESCRIPTORS, SPARE-REGIONS}
+use Rattle.limits.specs.Limits.{TASKS, CLASSES, DESCRIPTORS, SPARE-DESCRIPTORS, SPARE-REGIONS, DESCRIPTOR-LISTS}
 use Rattle.rows.specs.Update.{update}
 use Rattle.rows.specs.Weights.{one}
 use Rattle.rows.specs.Counting.{count}
@@ -48,9 +48,9 @@ pub data Unmapped (n n′ z z′ o′ : ℕ) : Type 0 where
 -- what a step has to show, after which the memory is m′, and the task T′
 pub record Balanced (m : Mem) (t : ℕ) (T : Task) (m′ : Mem) (T′ : Task) : Type 0 where
   pub descriptors : (x : ℕ)
-      → total SPARE-REGIONS (rowWeight x) (m′ .row) + descriptorWeight x t T′
+      → total DESCRIPTOR-LISTS (rowWeight x) (m′ .row) + descriptorWeight x t T′
       + total DESCRIPTORS (fullWeight x) (m′ .descriptor)
-      ≡ total SPARE-REGIONS (rowWeight x) (m .row) + descriptorWeight x t T
+      ≡ total DESCRIPTOR-LISTS (rowWeight x) (m .row) + descriptorWeight x t T
       + total DESCRIPTORS (fullWeight x) (m .descriptor)
   pub regions : (r : ℕ)
       → count r (m′ .row SPARE-REGIONS) + regionWeight r t T′ + total DESCRIPTORS (openWeight r) (m′ .descriptor)
@@ -131,7 +131,7 @@ module _ {area : ℕ} {m : Mem} {t : ℕ} {T : Task} (w : Turn area m t T) where
       )
 
       -- A descriptor is on the list ℓ, or held, or FULL, but once; z is a way to hold it.
-      once : (z : ℕ → Task → ℕ) (x ℓ : ℕ) → ℓ < SPARE-REGIONS
+      once : (z : ℕ → Task → ℕ) (x ℓ : ℕ) → ℓ < DESCRIPTOR-LISTS
           → ((i : ℕ) → z i (m′ .task i) ≤ descriptorWeight x i (m′ .task i))
           → count x (m′ .row ℓ) + total TASKS z (m′ .task) + total DESCRIPTORS (fullWeight x) (m′ .descriptor) ≤ 1
       once z x ℓ l h = omega (

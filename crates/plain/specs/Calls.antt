@@ -13,7 +13,7 @@ use Rattle.classes.specs.Geometry.{regionOf, indexOf}
 use Rattle.plain.specs.State.{State, EMPTY, PARTIAL, FULL, Descriptor, Task, Mem, setTask, setHands, Place, idle}
 use Rattle.plain.specs.State.{a1, f1, working}
 use Rattle.plain.specs.Moves.{Answer, going, nothing, refused}
-use Rattle.plain.specs.Steps.{Result, stepOf, stepOf}
+use Rattle.plain.specs.Steps.{Result, stepOf}
 
 -- the pool: "the started number of tasks", 0 while it is not started, "and area length", in regions
 pub record Pool : Type 0 where

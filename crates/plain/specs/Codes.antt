@@ -6,7 +6,7 @@ use mathlib.Core.List.{[]}
 use Rattle.limits.specs.Limits.{SPARE-DESCRIPTORS, SPARE-REGIONS}
 use Rattle.plain.specs.State.{Phase, read, exchange, spare, region, back, popping, pushing, Mem, working}
 use Rattle.plain.specs.Moves.{found-empty, pushed, Answer}
-use Rattle.plain.specs.Steps.{Result, stepOf, stepOf}
+use Rattle.plain.specs.Steps.{Result, stepOf}
 use Rattle.plain.specs.Calls.{Pool, Call, became, step}
 
 -- the codes of a step: "Code 0 is accepted or still under way, 20 finished"; 7 without a request; 12 and 13 end one

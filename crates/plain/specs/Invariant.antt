@@ -4,6 +4,7 @@ use mathlib.Core.List.{List, _∷_, []}
 use Prim.Native.Nat.{ℕ, suc, _+_, _≤_, _<_}
 use lib.ListN.{length}
 use Rattle.limits.specs.Limits.{REGIONS, TASKS, CLASSES, DESCRIPTORS, SPARE-DESCRIPTORS, SPARE-REGIONS}
+use Rattle.limits.specs.Limits.{DESCRIPTOR-LISTS}
 use Rattle.rows.specs.Weights.{one, below}
 use Rattle.rows.specs.Counting.{count}
 use Rattle.rows.specs.Totals.{total}
@@ -40,7 +41,7 @@ pub data ClosedDescriptor (D : Descriptor) : Type 0 where
 pub record Invariant (area : ℕ) (m : Mem) : Type 0 where
   -- each of the 64 descriptors is once on a list of descriptors, or held by a task, or FULL; there is no other
   pub descriptors : (d : ℕ)
-      → total SPARE-REGIONS (rowWeight d) (m .row) + total TASKS (descriptorWeight d) (m .task)
+      → total DESCRIPTOR-LISTS (rowWeight d) (m .row) + total TASKS (descriptorWeight d) (m .task)
       + total DESCRIPTORS (fullWeight d) (m .descriptor) ≡ below d DESCRIPTORS
   -- each region of the area is once on the list of spare regions, or held by a task, or open; there is no other
   pub regions : (r : ℕ)

@@ -3,6 +3,7 @@ use Prim.Native.Nat.{ℕ}
 use Rattle.plain.specs.State.{Note, Phase, Pop, Push, Work, a1, popping, pushing, a3-read, a3-exchange, a4, a7}
 use Rattle.plain.specs.State.{a8, f1, f2, f3-read, f3-link, f3-exchange, f4-clear, Place, idle, working}
 
+-- "what it noted": of a list, by the phase of its move, which has noted nothing yet at the head read; or of an anchor
 pub data Noted : Type 0 where
   unnoted : Noted
   -- "A head read notes the list's number of won exchanges": the phase has it
@@ -13,6 +14,7 @@ pub data Noted : Type 0 where
   -- .. which is the one that the map names for the region of the block y
   entry-noted : (y d : ℕ) (n : Note) → Noted
 
+-- what each place of a task at work has noted
 abbrev pub notedAt : Work → Noted
 notedAt (a1 c) = unnoted
 notedAt (popping p φ) = pop-noted p φ

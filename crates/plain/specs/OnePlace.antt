@@ -2,7 +2,7 @@
 use mathlib.Core.Path.{_≡_}
 use mathlib.Core.Logic.{_≢_}
 use Prim.Native.Nat.{ℕ, suc, _+_, _≤_, _<_}
-use Rattle.limits.specs.Limits.{TASKS, DESCRIPTORS, SPARE-REGIONS}
+use Rattle.limits.specs.Limits.{TASKS, DESCRIPTORS, SPARE-REGIONS, DESCRIPTOR-LISTS}
 use Rattle.rows.specs.Counting.{count}
 use Rattle.rows.specs.Totals.{total}
 use Rattle.classes.specs.Geometry.{regionOf}
@@ -34,11 +34,11 @@ pub record OnePlace (m : Mem) (v : ℕ) : Type 0 where
 -- the items of the lists, in an area of `area` regions
 pub record OnceListed (area : ℕ) (m : Mem) : Type 0 where
   -- a descriptor is at most once on all the lists of descriptors together
-  pub descriptors : (d : ℕ) → total SPARE-REGIONS (rowWeight d) (m .row) ≤ 1
+  pub descriptors : (d : ℕ) → total DESCRIPTOR-LISTS (rowWeight d) (m .row) ≤ 1
   -- .. and so on each
-  pub descriptor : (ℓ d : ℕ) → ℓ < SPARE-REGIONS → count d (m .row ℓ) ≤ 1
+  pub descriptor : (ℓ d : ℕ) → ℓ < DESCRIPTOR-LISTS → count d (m .row ℓ) ≤ 1
   -- it is one of the 64
-  pub below : (ℓ d : ℕ) → ℓ < SPARE-REGIONS → 1 ≤ count d (m .row ℓ) → d < DESCRIPTORS
+  pub below : (ℓ d : ℕ) → ℓ < DESCRIPTOR-LISTS → 1 ≤ count d (m .row ℓ) → d < DESCRIPTORS
   -- a region is at most once on the list of spare regions, ..
   pub region : (r : ℕ) → count r (m .row SPARE-REGIONS) ≤ 1
   -- .. and one of the area's

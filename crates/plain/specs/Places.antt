@@ -64,9 +64,10 @@ HoldsAt k (f3-exchange c u y g d n) =
     × (n .length + suc (length g) ≤ perRegion c)
 HoldsAt k (f4-clear c u d w r) = RoomInCache k c
 
-abbrev pub Holds : (ℕ → List ℕ) → Place → Type 0
-Holds k idle = Unit {0}
-Holds k (working w) = HoldsAt k w
+-- the same of an idle task, too, of which nothing is asked
+abbrev pub PlaceHolds : (ℕ → List ℕ) → Place → Type 0
+PlaceHolds k idle = Unit {0}
+PlaceHolds k (working w) = HoldsAt k w
 
 -- What a pop noted at its head read, n, is a number of won exchanges that the list had or has; and if it still has
 -- that number, the row q, which was not empty then, is not empty now.
@@ -90,11 +91,12 @@ NotedHolds row won map h (push-noted p φ) = PushNote (won (pushList p)) φ
 NotedHolds row won map h (anchor-noted d n) = 1 ≤ descriptorIn d h
 NotedHolds row won map h (entry-noted y d n) = (1 ≤ blockIn y h) × (map (regionOf y) ≡ suc d)
 
+-- the note of a task, by its place
 abbrev pub NoteHolds : (ℕ → List ℕ) → (won map : ℕ → ℕ) → Place → Type 0
 NoteHolds row won map p = NotedHolds row won map (held p) (noted p)
 
 -- a task T of the memory m: each cache has at most n blocks, and what holds at its place and of its note
 pub record TaskHolds (m : Mem) (T : Task) : Type 0 where
   pub lengths : (c : ℕ) → length (T .cache c) ≤ perRegion c
-  pub place : Holds (T .cache) (T .place)
+  pub place : PlaceHolds (T .cache) (T .place)
   pub note : NoteHolds (m .row) (m .won) (m .map) (T .place)

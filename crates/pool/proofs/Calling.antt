@@ -20,19 +20,19 @@ use Rattle.stepped.specs.Calls.{tested, whenIdle, beginAllocate, beginFree, all
 use Rattle.stepped.specs.Done.{Done, NumberIn}
 use Rattle.stepped.proofs.Doing.{lends, numbers}
 use Rattle.begins.specs.Tests.{TestsAre}
-use Rattle.pool.specs.Call.{CallIs, Ensures}
+use Rattle.pool.specs.Call.{EffectIs, Ensures}
 
 -- a call that the number r refuses
-pub refused-is : {o : Outcome} (c a : List ℕ) {r : ℕ} → o ≡ refuse r → CallIs (effect o c a) c a r
+pub refused-is : {o : Outcome} (c a : List ℕ) {r : ℕ} → o ≡ refuse r → EffectIs (effect o c a) c a r
 refused-is c a {r} e =
-    subst (λ (x : Outcome). CallIs (effect x c a) c a r) (sym e)
+    subst (λ (x : Outcome). EffectIs (effect x c a) c a r) (sym e)
     (record { number = refl; control-is = refl; area-is = refl })
 
 -- a call that does the outcome x
 pub does-is : {o x : Outcome} {c a c′ a′ : List ℕ} {r : ℕ} → o ≡ x → NumberIn x c a c′ a′ r
-    → CallIs (effect o c a) c′ a′ r
+    → EffectIs (effect o c a) c′ a′ r
 does-is {c = c} {a = a} {c′ = c′} {a′ = a′} {r = r} e d =
-    subst (λ (z : Outcome). CallIs (effect z c a) c′ a′ r) (sym e)
+    subst (λ (z : Outcome). EffectIs (effect z c a) c′ a′ r) (sym e)
     (record { number = d .number; control-is = d .control; area-is = d .area })
 
 module _ (c a : List ℕ) (t r : ℕ) (T : TestsAre (length c) (length a) (seen c) t r) where

@@ -9,7 +9,7 @@ use Rattle.stepped.specs.Calls.{effectOf}
 
 -- "For every input, the answer and each byte of both memories afterwards": the answer as one number, and the two
 -- memories, are those of the definition's effect.
-pub record CallIs (e : Effect) (control area : List ℕ) (r : ℕ) : Type 0 where
+pub record EffectIs (e : Effect) (control area : List ℕ) (r : ℕ) : Type 0 where
   pub number : r ≡ numberOf (e .answer)
   pub control-is : control ≡ e .control
   pub area-is : area ≡ e .area
@@ -19,4 +19,4 @@ pub record CallIs (e : Effect) (control area : List ℕ) (r : ℕ) : Type 0 wher
 -- slices": pool_start, pool_begin_allocate, pool_begin_free and pool_step.
 abbrev pub Ensures : Call → List ℕ → List ℕ → List ℕ → List ℕ → ℕ → Type 0
 Ensures k control area control′ area′ r =
-    CallIs (effectOf k (record { control = control; area = area })) control′ area′ r
+    EffectIs (effectOf k (record { control = control; area = area })) control′ area′ r

@@ -43,7 +43,8 @@ pub extern "C" fn pool_start(control: &mut [u8], area: &[u8], tasks: u64) -> u64
 #[no_mangle]
 pub extern "C" fn pool_begin_allocate(control: &mut [u8], area: &[u8], task: u64, size: u64) -> u64
     ensures { λ r.
-        ⌜ Ensures (allocated task size) (now (control .entry)) (now (area .entry)) (now (control .exit)) (now (area .entry))
+        ⌜ Ensures (allocated task size) (now (control .entry)) (now (area .entry)) (now (control .exit))
+        (now (area .entry))
         r ⌝ }
 {
     let refused = tests::tests(control, area.len(), task);
@@ -72,7 +73,8 @@ pub extern "C" fn pool_begin_free(control: &mut [u8], area: &[u8], task: u64, un
 #[no_mangle]
 pub extern "C" fn pool_step(control: &mut [u8], area: &mut [u8], task: u64) -> u64
     ensures { λ r.
-        ⌜ Ensures (stepped task) (now (control .entry)) (now (area .entry)) (now (control .exit)) (now (area .exit)) r ⌝ }
+        ⌜ Ensures (stepped task) (now (control .entry)) (now (area .entry)) (now (control .exit)) (now (area .exit))
+        r ⌝ }
 {
     let refused = tests::tests(control, area.len(), task);
     if refused != 0 {

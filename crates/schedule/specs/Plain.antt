@@ -20,10 +20,10 @@ feeding k area p =
     (x .0, numberIn (x .1))
 
 -- how many regions the last accepted start was lent: none before the first
-abbrev pub startedRegions : Pool → ℕ
-startedRegions p = cond (eqb (p .tasks) 0) 0 (p .regions)
+abbrev pub regionsFed : Pool → ℕ
+regionsFed p = cond (eqb (p .tasks) 0) 0 (p .regions)
 
 -- "more than 4 regions is 2"
 abbrev pub onPlain : Call → Lends → Pool → Pool × ℕ
 onPlain k (named regions) p = cond (ltb STAND-REGIONS regions) (p, 2) (feeding k (REGION-BYTES * regions) p)
-onPlain k as-started p = feeding k (REGION-BYTES * startedRegions p) p
+onPlain k as-started p = feeding k (REGION-BYTES * regionsFed p) p

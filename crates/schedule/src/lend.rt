@@ -46,7 +46,8 @@ pub fn start(control: &mut [u8], area: &mut [u8], tasks: u8, regions: u8) -> u64
 pub fn allocate(control: &mut [u8], area: &mut [u8], task: u8, size: u16) -> u64
     requires { ⌜ StandMemories (now control) (now area) ⌝ }
     ensures { λ r.
-        ⌜ Does (onBytes (allocated task size) as-started) (now (control .entry)) (now (area .entry)) (now (control .exit))
+        ⌜ Does (onBytes (allocated task size) as-started) (now (control .entry)) (now (area .entry))
+        (now (control .exit))
         (now (area .exit)) r ⌝ }
 {
     let n = lent(control);

@@ -21,7 +21,8 @@ pub fn count_in(tally: &mut Tally, code: u64)
 pub fn treat_counted(control: &mut [u8], area: &mut [u8], entry: Entry, tally: &mut Tally) -> Line
     requires { ⌜ StandMemories (now control) (now area) ⌝ }
     ensures { λ r.
-        ⌜ Does (shown onBytes entry) (now (control .entry)) (now (area .entry)) (now (control .exit)) (now (area .exit)) r
+        ⌜ Does (shown onBytes entry) (now (control .entry)) (now (area .entry)) (now (control .exit)) (now (area .exit))
+        r
         × (now (tally .exit) ≡ counted (now (tally .entry)) (r .code)) ⌝ }
 {
     let line = treat::show(control, area, entry);

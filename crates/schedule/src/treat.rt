@@ -37,7 +37,8 @@ fn run(control: &mut [u8], area: &mut [u8], task: u8, most: u16) -> u64
 pub fn treat(control: &mut [u8], area: &mut [u8], body: Record) -> u64
     requires { ⌜ StandMemories (now control) (now area) ⌝ }
     ensures { λ r.
-        ⌜ Does (treated onBytes body) (now (control .entry)) (now (area .entry)) (now (control .exit)) (now (area .exit))
+        ⌜ Does (treated onBytes body) (now (control .entry)) (now (area .entry)) (now (control .exit))
+        (now (area .exit))
         r ⌝ }
 {
     match body {

@@ -33,7 +33,7 @@ use Rattle.demands.proofs.Acting.{shows}
 use Rattle.schedule.specs.Stand.{STAND-REGIONS, STAND-AREA}
 use Rattle.schedule.specs.Stand.{as-started}
 use Rattle.schedule.specs.Bytes.{lentRegions, onPart, onBytes}
-use Rattle.schedule.specs.Plain.{numberIn, feeding, startedRegions, onPlain}
+use Rattle.schedule.specs.Plain.{numberIn, feeding, regionsFed, onPlain}
 use Rattle.stand_agreement.proofs.Parts.{part-length, part-back, back-length}
 use Rattle.stand_agreement.proofs.Fed.{SameStart, allocate-keeps, free-keeps, step-keeps, same-regions}
 
@@ -44,13 +44,13 @@ partOf n s = record { control = s .control; area = midOf 0 (REGION-BYTES * n) (s
 -- No list has won more than n exchanges.
 pub record Beside (n : ℕ) (s : Memories) (p : Pool) : Type 0 where
   pub area-is : length (s .area) ≡ STAND-AREA
-  pub few : startedRegions p ≤ STAND-REGIONS
+  pub few : regionsFed p ≤ STAND-REGIONS
   pub history : History
-  pub reached : Reached history (partOf (startedRegions p) s) p
+  pub reached : Reached history (partOf (regionsFed p) s) p
   pub most-won : AtMost n p
 
 -- so the bytes that are lent are tied to the plain pool
-pub tied : {n : ℕ} {s : Memories} {p : Pool} → Beside n s p → Tied (partOf (startedRegions p) s) p
+pub tied : {n : ℕ} {s : Memories} {p : Pool} → Beside n s p → Tied (partOf (regionsFed p) s) p
 tied B = reached-tied (B .reached)
 
 -- after more calls
@@ -76,19 +76,19 @@ pub record SameAnswer (n : ℕ) (x : Memories × ℕ) (y : Pool × ℕ) : Type 0
 
 module _ {n : ℕ} {s : Memories} {p : Pool} (B : Beside n s p) (small : n < TAGS) where
   abbrev regions : ℕ
-  regions = startedRegions p
+  regions = regionsFed p
 
   abbrev lent : Memories
   lent = partOf regions s
 
   -- the stand lends what the plain pool is fed
-  lent-same : lentRegions (seen (s .control)) ≡ startedRegions p
+  lent-same : lentRegions (seen (s .control)) ≡ regionsFed p
   lent-same = by (ℕ-discrete (p .tasks) 0)
     where
-      by : Dec (p .tasks ≡ 0) → lentRegions (seen (s .control)) ≡ startedRegions p
+      by : Dec (p .tasks ≡ 0) → lentRegions (seen (s .control)) ≡ regionsFed p
       by (yes e) = rw (eq-eqb (seen (s .control) Tasks) 0 (tied B .tasks ∙ e), eq-eqb (p .tasks) 0 e) refl
       by (no k) =
-          let q : startedRegions p ≡ p .regions = rw (ne-eqb (p .tasks) 0 k) refl in
+          let q : regionsFed p ≡ p .regions = rw (ne-eqb (p .tasks) 0 k) refl in
           rw (
             ne-eqb (seen (s .control) Tasks) 0 (λ e. k (sym (tied B .tasks) ∙ e)),
             tied B .regions (omega arith),

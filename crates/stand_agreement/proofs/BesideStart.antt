@@ -32,7 +32,7 @@ use Rattle.demands.proofs.Acting.{shows}
 use Rattle.schedule.specs.Stand.{STAND-REGIONS}
 use Rattle.schedule.specs.Stand.{named}
 use Rattle.schedule.specs.Bytes.{onPart, onBytes}
-use Rattle.schedule.specs.Plain.{numberIn, feeding, startedRegions, onPlain}
+use Rattle.schedule.specs.Plain.{numberIn, feeding, regionsFed, onPlain}
 use Rattle.stand_agreement.proofs.Parts.{part-length, part-back, back-length}
 use Rattle.stand_agreement.proofs.Fed.{StartIs, accepted, refused, start-is}
 use Rattle.stand_agreement.proofs.Beside.{partOf, Beside, tied, later, sum, SameAnswer}
@@ -73,7 +73,7 @@ module _ {n : ℕ} {s : Memories} {p : Pool} (B : Beside n s p) (b : Start) (reg
   left = record { control = e .control; area = e .area }
 
   abbrev before : Memories
-  before = partOf (startedRegions p) s
+  before = partOf (regionsFed p) s
 
   abbrev lengths : Lengths
   lengths = record { control = CONTROL-BYTES; area = REGION-BYTES * regions }
@@ -120,7 +120,7 @@ module _ {n : ℕ} {s : Memories} {p : Pool} (B : Beside n s p) (b : Start) (reg
       start-leaves (lent .area) (b .tasks) (length (lent .control)) (lent .control) (lent .area)
       (sym (number-code (e .answer) answers) ∙ h) in
       let long : length (e .area) ≡ REGION-BYTES * regions = ap length kept ∙ part-is in
-      let q : startedRegions p′ ≡ regions =
+      let q : regionsFed p′ ≡ regions =
       ap (λ (b : Bool). cond b 0 (p′ .regions)) (ne-eqb (p′ .tasks) 0 (λ z. omega arith)) ∙ g in
       let back : partOf regions s′ ≡ left =
       λ i. record { control = e .control; area = part-back (REGION-BYTES * regions) (s .area) (e .area) long i } in

@@ -10,7 +10,7 @@ use Rattle.plain.specs.Steps.{Result}
 use Rattle.plain.specs.Calls.{Pool, Start, Lengths}
 use Rattle.plain.specs.Calls as Calls
 use Rattle.plain.proofs.Tests.{either}
-use Rattle.schedule.specs.Plain.{numberIn, startedRegions}
+use Rattle.schedule.specs.Plain.{numberIn, regionsFed}
 
 -- the same number of tasks and of regions
 abbrev pub SameStart : Pool → Pool → Type 0
@@ -40,7 +40,7 @@ module _ (lent : Lengths) (t : ℕ) (p : Pool) where
   unfolding Calls.call
   step-keeps = tested-keeps t lent p _
 
-pub same-regions : (p p′ : Pool) → SameStart p p′ → startedRegions p′ ≡ startedRegions p
+pub same-regions : (p p′ : Pool) → SameStart p p′ → regionsFed p′ ≡ regionsFed p
 same-regions p p′ h = rw (h .0, h .1) refl
 
 -- ---- a start

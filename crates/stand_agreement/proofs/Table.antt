@@ -1,5 +1,4 @@
 -- The table of a schedule: the stand on bytes writes the lines and the totals of the stand over the plain pool.
---
 use Prim.Native.Nat.{ℕ, zero, suc, _+_, _*_, _%_, _-_, _≤_, _<_}
 use mathlib.Core.Path.{_≡_, refl, sym, ap, _∙_}
 use mathlib.Core.List.{List, [], _∷_}

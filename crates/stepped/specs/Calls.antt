@@ -138,6 +138,7 @@ pub record Lent : Type 0 where
   pub control : ℕ
   pub area : List ℕ
 
+-- "the lengths lent"
 abbrev pub lengths : Lent → Lengths
 lengths lent = record { control = lent .control; area = length (lent .area) }
 

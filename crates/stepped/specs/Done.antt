@@ -20,7 +20,7 @@ pub record Given (memory : List ℕ) (r t c : ℕ) : Type 0 where
   pub class : c < CLASSES
 
 -- the same, with an area of so many regions
-pub record Lent (memory blocks : List ℕ) (r t c : ℕ) : Type 0 where
+pub record GivenArea (memory blocks : List ℕ) (r t c : ℕ) : Type 0 where
   pub given : Given memory r t c
   pub area : length blocks ≡ REGION-BYTES * r
 

@@ -8,7 +8,7 @@ ghost use Prim.Native.Nat.{_≤_, _<_};
 ghost use Rattle.links.specs.Link.{link};
 ghost use Rattle.control.specs.Layout.{seen};
 ghost use Rattle.control.specs.Places.{A3-READ, F1};
-ghost use Rattle.stepped.specs.Done.{Lent, DoneIn};
+ghost use Rattle.stepped.specs.Done.{GivenArea, DoneIn};
 ghost use Rattle.stepped.specs.Steps.{stepAt};
 
 // The steps at the places from the read of an anchor to the carving of a region. Caller: the step of a task at one of
@@ -21,7 +21,7 @@ pub fn fill(
     class: usize,
     place: u8,
 ) -> Answer
-    requires { ⌜ Lent (now control) (now area) regions task class × (A3-READ ≤ place) × (place < F1) ⌝ }
+    requires { ⌜ GivenArea (now control) (now area) regions task class × (A3-READ ≤ place) × (place < F1) ⌝ }
     ensures { λ r. ⌜ DoneIn (stepAt (seen (now (control .entry))) (link (now (area .entry))) regions task class place)
         (now (control .entry)) (now (area .entry)) (now (control .exit)) (now (area .exit)) r ⌝ }
 {

@@ -9,7 +9,7 @@ ghost use Prim.Native.Nat.{_≤_};
 ghost use Rattle.links.specs.Link.{link};
 ghost use Rattle.control.specs.Layout.{seen};
 ghost use Rattle.control.specs.Places.{F2};
-ghost use Rattle.stepped.specs.Done.{Lent, DoneIn};
+ghost use Rattle.stepped.specs.Done.{GivenArea, DoneIn};
 ghost use Rattle.stepped.specs.Steps.{stepAt};
 
 // The steps at the places from the taking of a group to the clearing of its map entry; a place past them is outside its
@@ -22,7 +22,7 @@ pub fn empty(
     class: usize,
     place: u8,
 ) -> Answer
-    requires { ⌜ Lent (now control) (now area) regions task class × (F2 ≤ place) ⌝ }
+    requires { ⌜ GivenArea (now control) (now area) regions task class × (F2 ≤ place) ⌝ }
     ensures { λ r. ⌜ DoneIn (stepAt (seen (now (control .entry))) (link (now (area .entry))) regions task class place)
         (now (control .entry)) (now (area .entry)) (now (control .exit)) (now (area .exit)) r ⌝ }
 {

@@ -14,7 +14,7 @@ ghost use Rattle.limits.specs.Limits.{REGION-BYTES, TASKS, REGIONS};
 ghost use Rattle.links.specs.Link.{link};
 ghost use Rattle.control.specs.Layout.{Control, seen};
 ghost use Rattle.control.specs.Places.{A1, POP-PARTIAL, F1};
-ghost use Rattle.stepped.specs.Done.{Lent, DoneIn, NumberIn};
+ghost use Rattle.stepped.specs.Done.{GivenArea, DoneIn, NumberIn};
 ghost use Rattle.stepped.specs.Steps.{stepAt, step as stepOf};
 
 // The step at a place that is not the first of a request. Caller: `at`.
@@ -26,7 +26,7 @@ fn later(
     class: usize,
     place: u8,
 ) -> Answer
-    requires { ⌜ Lent (now control) (now area) regions task class × (POP-PARTIAL ≤ place) × (place ≢ F1) ⌝ }
+    requires { ⌜ GivenArea (now control) (now area) regions task class × (POP-PARTIAL ≤ place) × (place ≢ F1) ⌝ }
     ensures { λ r. ⌜ DoneIn (stepAt (seen (now (control .entry))) (link (now (area .entry))) regions task class place)
         (now (control .entry)) (now (area .entry)) (now (control .exit)) (now (area .exit)) r ⌝ }
 {
@@ -52,7 +52,7 @@ fn at(
     class: usize,
     place: u8,
 ) -> u64
-    requires { ⌜ Lent (now control) (now area) regions task class × (A1 ≤ place) ⌝ }
+    requires { ⌜ GivenArea (now control) (now area) regions task class × (A1 ≤ place) ⌝ }
     ensures { λ r. ⌜ NumberIn (stepAt (seen (now (control .entry))) (link (now (area .entry))) regions task class place)
         (now (control .entry)) (now (area .entry)) (now (control .exit)) (now (area .exit)) r ⌝ }
 {

@@ -9,18 +9,18 @@ use lib.ListN.{length}
 use Rattle.limits.specs.Limits.{UNIT-BYTES, UNITS}
 use Rattle.words.specs.Anchor.{anchorOf}
 use Rattle.words.specs.declared.anchor.Anchor.{Anchor}
-use Rattle.stepped.specs.Done.{Given, Lent}
+use Rattle.stepped.specs.Done.{Given, GivenArea}
 use Rattle.stepped.specs.Ranges.{isBlock, isTop, isAnchor}
 use Rattle.ranges.proofs.Ranges.{parts}
 use Rattle.ranges.proofs.Passed.{passed, block-passed, top-passed, anchor-passed}
 
 -- a block's link lies in the area
-pub block-link : (regions c u : ℕ) {m a : List ℕ} {t : ℕ} → Lent m a regions t c → isBlock regions c u ≡ true
+pub block-link : (regions c u : ℕ) {m a : List ℕ} {t : ℕ} → GivenArea m a regions t c → isBlock regions c u ≡ true
     → UNIT-BYTES * u + UNIT-BYTES ≤ length a
 block-link regions c u l e = omega (arith, block-passed regions c u e, l .area)
 
 -- its unit has a mark
-pub block-unit : (regions c u : ℕ) {m a : List ℕ} {t : ℕ} → Lent m a regions t c → isBlock regions c u ≡ true
+pub block-unit : (regions c u : ℕ) {m a : List ℕ} {t : ℕ} → GivenArea m a regions t c → isBlock regions c u ≡ true
     → u < UNITS
 block-unit regions c u l e = omega (arith, block-passed regions c u e, l .given)
 

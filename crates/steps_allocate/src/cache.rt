@@ -17,7 +17,7 @@ ghost use Rattle.plain.specs.Moves.{nothing};
 ghost use Rattle.control.specs.Layout.{Control, seen, Marks, CacheTop, CacheCount, TaskPlace};
 ghost use Rattle.control.specs.Places.{IDLE};
 ghost use Rattle.stepped.specs.Outcome.{over};
-ghost use Rattle.stepped.specs.Done.{Lent, Done};
+ghost use Rattle.stepped.specs.Done.{GivenArea, Done};
 ghost use Rattle.stepped.specs.Allocate.{a1, a1Take};
 
 // The marks of the 64 units among which a unit is, with its own mark set. Caller: `finish`.
@@ -61,7 +61,7 @@ fn take_top(
     class: usize,
     top: Top,
 ) -> Answer
-    requires { ⌜ Lent (now control) (now area) regions task class × (1 ≤ top .count) ⌝ }
+    requires { ⌜ GivenArea (now control) (now area) regions task class × (1 ≤ top .count) ⌝ }
     ensures { λ r. ⌜ Done
         (a1Take (seen (now (control .entry))) (link (now (area .entry))) regions task class (top .count) (top .unit))
         (now (control .entry)) (now (control .exit)) r ⌝ }
@@ -82,7 +82,7 @@ fn take_top(
 
 // The step. Caller: the step of a task at that place.
 pub fn take(control: &mut [u8], area: &[u8], regions: usize, task: usize, class: usize) -> Answer
-    requires { ⌜ Lent (now control) (now area) regions task class ⌝ }
+    requires { ⌜ GivenArea (now control) (now area) regions task class ⌝ }
     ensures { λ r. ⌜ Done (a1 (seen (now (control .entry))) (link (now (area .entry))) regions task class)
         (now (control .entry)) (now (control .exit)) r ⌝ }
 {

@@ -15,7 +15,7 @@ ghost use Rattle.links.specs.Link.{link, _⇒_};
 ghost use Rattle.plain.specs.Moves.{nothing};
 ghost use Rattle.control.specs.Layout.{Control, seen, changed, CacheTop, CacheCount, TaskIndex, TaskLeft};
 ghost use Rattle.stepped.specs.Outcome.{accept};
-ghost use Rattle.stepped.specs.Done.{Lent, DoneIn};
+ghost use Rattle.stepped.specs.Done.{GivenArea, DoneIn};
 ghost use Rattle.steps_fill.specs.Chains.{Moving};
 ghost use Rattle.stepped.specs.Allocate.{a4, a4Move};
 
@@ -125,7 +125,7 @@ fn move_at(
     class: usize,
     next: Next,
 ) -> Answer
-    requires { ⌜ Lent (now control) (now area) regions task class
+    requires { ⌜ GivenArea (now control) (now area) regions task class
         × Moving (seen (now control)) regions task class (next .unit) (next .left)
         × (UNIT-BYTES * (next .unit) + UNIT-BYTES ≤ length (now area)) ⌝ }
     ensures { λ r. ⌜ DoneIn (a4 (seen (now (control .entry))) (link (now (area .entry))) regions task class)
@@ -158,7 +158,7 @@ pub fn step(
     task: usize,
     class: usize,
 ) -> Answer
-    requires { ⌜ Lent (now control) (now area) regions task class ⌝ }
+    requires { ⌜ GivenArea (now control) (now area) regions task class ⌝ }
     ensures { λ r. ⌜ DoneIn (a4 (seen (now (control .entry))) (link (now (area .entry))) regions task class)
         (now (control .entry)) (now (area .entry)) (now (control .exit)) (now (area .exit)) r ⌝ }
 {

@@ -21,7 +21,7 @@ ghost use Rattle.control.specs.Layout.{Control, seen, changed, Anchor, CacheTop
 ghost use Rattle.control.specs.Layout.{DescriptorRegion, DescriptorClass, Map};
 ghost use Rattle.control.specs.Places.{A8};
 ghost use Rattle.stepped.specs.Outcome.{accept};
-ghost use Rattle.stepped.specs.Done.{Given, Lent, Done, DoneIn};
+ghost use Rattle.stepped.specs.Done.{Given, GivenArea, Done, DoneIn};
 ghost use Rattle.stepped.specs.Allocate.{a7, a8, a8Put};
 
 // Writes a descriptor, with the anchor `full`, and the map's entry of its region. Caller: `open`, which has tested
@@ -126,7 +126,7 @@ pub fn carve(
     task: usize,
     class: usize,
 ) -> Answer
-    requires { ⌜ Lent (now control) (now area) regions task class ⌝ }
+    requires { ⌜ GivenArea (now control) (now area) regions task class ⌝ }
     ensures { λ r. ⌜ DoneIn (a8 (seen (now (control .entry))) (link (now (area .entry))) regions task class)
         (now (control .entry)) (now (area .entry)) (now (control .exit)) (now (area .exit)) r ⌝ }
 {

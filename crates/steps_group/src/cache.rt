@@ -10,7 +10,7 @@ ghost use Rattle.fields.specs.Columns.{_:=_};
 ghost use Rattle.links.specs.Link.{link};
 ghost use Rattle.classes.specs.Classes.{perRegion};
 ghost use Rattle.control.specs.Layout.{Control, seen, changed, CacheTop, CacheCount};
-ghost use Rattle.stepped.specs.Done.{Lent, DoneIn};
+ghost use Rattle.stepped.specs.Done.{GivenArea, DoneIn};
 ghost use Rattle.stepped.specs.Free.{f1, f1Put};
 
 // A cache's top and count. Callers: `put_block`, and the steps that take a block into a group.
@@ -39,7 +39,7 @@ fn put_block(
     class: usize,
     freed: Freed,
 ) -> Answer
-    requires { ⌜ Lent (now control) (now area) regions task class × (freed .count < perRegion class) ⌝ }
+    requires { ⌜ GivenArea (now control) (now area) regions task class × (freed .count < perRegion class) ⌝ }
     ensures { λ r. ⌜ DoneIn
         (f1Put (seen (now (control .entry))) (link (now (area .entry))) regions task class
         (freed .unit) (freed .count) (freed .top))
@@ -62,7 +62,7 @@ fn put_block(
 
 // Step 1.
 pub fn put(control: &mut [u8], area: &mut [u8], regions: usize, task: usize, class: usize) -> Answer
-    requires { ⌜ Lent (now control) (now area) regions task class ⌝ }
+    requires { ⌜ GivenArea (now control) (now area) regions task class ⌝ }
     ensures { λ r. ⌜ DoneIn (f1 (seen (now (control .entry))) (link (now (area .entry))) regions task class)
         (now (control .entry)) (now (area .entry)) (now (control .exit)) (now (area .exit)) r ⌝ }
 {

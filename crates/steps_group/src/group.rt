@@ -11,7 +11,7 @@ ghost use Rattle.links.specs.Link.{link};
 ghost use Rattle.control.specs.Layout.{Control, seen, changed, GroupFirst, GroupLast, GroupCount, TaskPlace};
 ghost use Rattle.control.specs.Layout.{TaskRegion};
 ghost use Rattle.control.specs.Places.{F2};
-ghost use Rattle.stepped.specs.Done.{Lent, Done, DoneIn};
+ghost use Rattle.stepped.specs.Done.{GivenArea, Done, DoneIn};
 ghost use Rattle.stepped.specs.Free.{f2, f2Top, f2First, f2More};
 
 // A new group is due: step 2, with none taken. Callers: step 1 with a full cache, and a won exchange that goes on to 2.
@@ -72,7 +72,7 @@ fn take_first(
     class: usize,
     top: Top,
 ) -> Answer
-    requires { ⌜ Lent (now control) (now area) regions task class × (1 ≤ top .count)
+    requires { ⌜ GivenArea (now control) (now area) regions task class × (1 ≤ top .count)
         × (top .unit < REGION-UNITS * regions) ⌝ }
     ensures { λ r. ⌜ Done
         (f2First (seen (now (control .entry))) (link (now (area .entry))) regions task class (top .count) (top .unit))
@@ -101,7 +101,7 @@ fn take_more(
     class: usize,
     top: TopIn,
 ) -> Answer
-    requires { ⌜ Lent (now control) (now area) regions task class × (1 ≤ top .count)
+    requires { ⌜ GivenArea (now control) (now area) regions task class × (1 ≤ top .count)
         × (top .unit < REGION-UNITS * regions) × (top .region < regions) ⌝ }
     ensures { λ r. ⌜ DoneIn
         (f2More (seen (now (control .entry))) (link (now (area .entry))) regions task class
@@ -142,7 +142,7 @@ fn take_top(
     class: usize,
     top: Top,
 ) -> Answer
-    requires { ⌜ Lent (now control) (now area) regions task class × (1 ≤ top .count) ⌝ }
+    requires { ⌜ GivenArea (now control) (now area) regions task class × (1 ≤ top .count) ⌝ }
     ensures { λ r. ⌜ DoneIn
         (f2Top (seen (now (control .entry))) (link (now (area .entry))) regions task class
         (top .count) (top .unit) (top .group))
@@ -182,7 +182,7 @@ pub fn take(
     task: usize,
     class: usize,
 ) -> Answer
-    requires { ⌜ Lent (now control) (now area) regions task class ⌝ }
+    requires { ⌜ GivenArea (now control) (now area) regions task class ⌝ }
     ensures { λ r. ⌜ DoneIn (f2 (seen (now (control .entry))) (link (now (area .entry))) regions task class)
         (now (control .entry)) (now (area .entry)) (now (control .exit)) (now (area .exit)) r ⌝ }
 {

@@ -6,7 +6,7 @@ ghost use Prim.Native.Nat.{ℕ, _<_};
 ghost use Rattle.limits.specs.Limits.{DESCRIPTORS};
 ghost use Rattle.links.specs.Link.{link};
 ghost use Rattle.control.specs.Layout.{seen};
-ghost use Rattle.stepped.specs.Done.{Given, Lent, Done, DoneIn};
+ghost use Rattle.stepped.specs.Done.{Given, GivenArea, Done, DoneIn};
 ghost use Rattle.stepped.specs.Free.{f3ReadOf, f3ReadBy, f3Read, f3Link};
 
 // The anchor of the descriptor is noted, if a group of so many blocks can be put before its chain. Caller: `read_by`.
@@ -87,7 +87,7 @@ pub fn write_last(
     task: usize,
     class: usize,
 ) -> Answer
-    requires { ⌜ Lent (now control) (now area) regions task class ⌝ }
+    requires { ⌜ GivenArea (now control) (now area) regions task class ⌝ }
     ensures { λ r. ⌜ DoneIn (f3Link (seen (now (control .entry))) (link (now (area .entry))) regions task class)
         (now (control .entry)) (now (area .entry)) (now (control .exit)) (now (area .exit)) r ⌝ }
 {

@@ -35,15 +35,15 @@ abbrev pub States : List ℕ → Type 0
 States b = (t : ℕ) → t < TASKS → seen b (TaskState t) ≤ FULL
 
 -- once it is started
-abbrev pub NotedStates : List ℕ → Type 0
-NotedStates b = 1 ≤ seen b Tasks → States b
+abbrev pub FoundStates : List ℕ → Type 0
+FoundStates b = 1 ≤ seen b Tasks → States b
 
 -- ---- writes
 
 module _ (t u : ℕ) where
-  write-noted : (f : Field) (x : ℕ) → Own t (f := x) → (v : View) → v (TaskState u) ≤ FULL
+  write-found : (f : Field) (x : ℕ) → Own t (f := x) → (v : View) → v (TaskState u) ≤ FULL
       → assign (f := x) v (TaskState u) ≤ FULL
-  write-noted f x own v h = by (eqb (f .column) (TaskPlace t .column)) refl own
+  write-found f x own v h = by (eqb (f .column) (TaskPlace t .column)) refl own
     where
       noted : (b c : Bool) → cond b (x ≤ FULL) (Unit {0}) → cond (b && c) x (v (TaskState u)) ≤ FULL
       noted true true o = o
@@ -56,10 +56,10 @@ module _ (t u : ℕ) where
       by true e o = rw (eqb-true (f .column) (TaskPlace t .column) e) h
       by false e o = noted (eqb (f .column) (TaskState t .column)) (eqb (f .index) u) o
 
-  writes-noted : (ws : List Write) → Owns t ws → (v : View) → v (TaskState u) ≤ FULL
+  writes-found : (ws : List Write) → Owns t ws → (v : View) → v (TaskState u) ≤ FULL
       → assigned ws v (TaskState u) ≤ FULL
-  writes-noted [] own v h = h
-  writes-noted ((f := x) ∷ ws) own v h = writes-noted ws (own .1) (assign (f := x) v) (write-noted f x (own .0) v h)
+  writes-found [] own v h = h
+  writes-found ((f := x) ∷ ws) own v h = writes-found ws (own .1) (assign (f := x) v) (write-found f x (own .0) v h)
 
 -- ---- calls
 
@@ -67,28 +67,28 @@ module _ (t u : ℕ) where
 abbrev left : List ℕ → Outcome → List ℕ
 left b o = changed (o .writes) b
 
-module _ (b : List ℕ) (long : length b ≡ CONTROL-BYTES) (old : NotedStates b) where
+module _ (b : List ℕ) (long : length b ≡ CONTROL-BYTES) (old : FoundStates b) where
   -- what follows the tests
-  tested-noted : (control area t : ℕ) (x : Outcome) → (Tested control area (seen b) t → Fit t x)
-      → NotedStates (left b (Calls.tested control area (seen b) t x))
-  tested-noted control area t x fit =
-      tests (λ o. NotedStates (left b o)) control area (seen b) t x (λ n h. old)
+  tested-found : (control area t : ℕ) (x : Outcome) → (Tested control area (seen b) t → Fit t x)
+      → FoundStates (left b (Calls.tested control area (seen b) t x))
+  tested-found control area t x fit =
+      tests (λ o. FoundStates (left b o)) control area (seen b) t x (λ n h. old)
       (λ T started u l. subst (λ (z : ℕ). z ≤ FULL)
       (sym (seen-changed (x .writes) b (TaskState u) long (fit T .sound) (omega (arith, l))))
-      (writes-noted t u (x .writes) (fit T .own) (seen b) (old (T .started) u l)))
+      (writes-found t u (x .writes) (fit T .own) (seen b) (old (T .started) u l)))
 
 -- ---- starts
 
 -- a start leaves every noted state 0
-image-noted : (tasks regions : ℕ) → tasks ≤ TASKS → regions ≤ REGIONS → NotedStates (startImage tasks regions)
-image-noted tasks regions few small started t l =
+image-found : (tasks regions : ℕ) → tasks ≤ TASKS → regions ≤ REGIONS → FoundStates (startImage tasks regions)
+image-found tasks regions few small started t l =
     omega (arith, image-view tasks regions few small (TaskState t) (omega (arith, l)), at-state tasks regions t)
 
-start-noted : (size : ℕ) (area : List ℕ) (tasks : ℕ) (b before : List ℕ) → NotedStates b
-    → NotedStates (Calls.startIn size area tasks b before .control)
+start-found : (size : ℕ) (area : List ℕ) (tasks : ℕ) (b before : List ℕ) → FoundStates b
+    → FoundStates (Calls.startIn size area tasks b before .control)
 unfolding Calls.startIn
-start-noted size area tasks b before old =
-    let P : Effect → Type 0 = λ e. NotedStates (e .control) in
+start-found size area tasks b before old =
+    let P : Effect → Type 0 = λ e. FoundStates (e .control) in
     let bytes = length area in
     branch P (eqb size CONTROL-BYTES) (λ e. branch P (eqb (bytes % REGION-BYTES) 0 && oneTo AREA-BYTES bytes)
     (λ f. branch P (oneTo TASKS tasks) (λ g.
@@ -96,15 +96,15 @@ start-noted size area tasks b before old =
     leb-true bytes AREA-BYTES
     (right-true (leb 1 bytes) (leb bytes AREA-BYTES)
     (right-true (eqb (bytes % REGION-BYTES) 0) (oneTo AREA-BYTES bytes) f)) in
-    image-noted tasks (bytes / REGION-BYTES) (leb-true tasks TASKS (right-true (leb 1 tasks) (leb tasks TASKS) g))
+    image-found tasks (bytes / REGION-BYTES) (leb-true tasks TASKS (right-true (leb 1 tasks) (leb tasks TASKS) g))
     (omega (arith, l)))
     (λ g. old)) (λ f. old)) (λ e. old)
 
 -- an accepted start, whatever was before
-pub accepted-noted : (s : Memories) (b : Start) (area : List ℕ) → Plain.Area (length area) → Plain.Tasks (b .tasks)
-    → NotedStates (stepped (starting b area) s .0 .control)
+pub accepted-found : (s : Memories) (b : Start) (area : List ℕ) → Plain.Area (length area) → Plain.Tasks (b .tasks)
+    → FoundStates (stepped (starting b area) s .0 .control)
 unfolding Calls.startIn
-accepted-noted s b area a t =
+accepted-found s b area a t =
     let tasks = b .tasks in
     rw (
       eq-eqb (length area % REGION-BYTES) 0 (a .0),
@@ -113,26 +113,26 @@ accepted-noted s b area a t =
       le-leb 1 tasks (t .0),
       le-leb tasks TASKS (t .1),
     )
-    (image-noted tasks (length area / REGION-BYTES) (t .1) (omega (arith, a)))
+    (image-found tasks (length area / REGION-BYTES) (t .1) (omega (arith, a)))
 
 -- ---- every event
 
-call-noted : (k : Call) (lent : Lent) (s : Memories) → length (s .control) ≡ CONTROL-BYTES → Bytes (s .control)
-    → NotedStates (s .control) → NotedStates (effectIn k lent s .control)
+call-found : (k : Call) (lent : Lent) (s : Memories) → length (s .control) ≡ CONTROL-BYTES → Bytes (s .control)
+    → FoundStates (s .control) → FoundStates (effectIn k lent s .control)
 unfolding Calls.allocateOutcome Calls.freeOutcome Calls.stepOutcome
-call-noted (start b) lent s long bytes old =
-    start-noted (lent .control) (lent .area) (b .tasks) (s .control) (s .area) old
-call-noted (allocate t size) lent s long bytes old =
-    tested-noted (s .control) long old (lent .control) (length (lent .area)) t _
+call-found (start b) lent s long bytes old =
+    start-found (lent .control) (lent .area) (b .tasks) (s .control) (s .area) old
+call-found (allocate t size) lent s long bytes old =
+    tested-found (s .control) long old (lent .control) (length (lent .area)) t _
     (λ T. allocate-fit (seen-fitting (s .control) bytes) T size)
-call-noted (free t u) lent s long bytes old =
-    tested-noted (s .control) long old (lent .control) (length (lent .area)) t _
+call-found (free t u) lent s long bytes old =
+    tested-found (s .control) long old (lent .control) (length (lent .area)) t _
     (λ T. free-fit (seen-fitting (s .control) bytes) T u)
-call-noted (step t) lent s long bytes old =
-    tested-noted (s .control) long old (lent .control) (length (lent .area)) t _
+call-found (step t) lent s long bytes old =
+    tested-found (s .control) long old (lent .control) (length (lent .area)) t _
     (λ T. step-fit (seen-fitting (s .control) bytes) _ T)
 
-pub event-noted : (e : Event) (s : Memories) → length (s .control) ≡ CONTROL-BYTES → Bytes (s .control)
-    → NotedStates (s .control) → NotedStates (stepped e s .0 .control)
-event-noted (call k lent) s long bytes old = call-noted k lent s long bytes old
-event-noted (write at b) s long bytes old = old
+pub event-found : (e : Event) (s : Memories) → length (s .control) ≡ CONTROL-BYTES → Bytes (s .control)
+    → FoundStates (s .control) → FoundStates (stepped e s .0 .control)
+event-found (call k lent) s long bytes old = call-found k lent s long bytes old
+event-found (write at b) s long bytes old = old

@@ -1,0 +1,2 @@
+-- The limits that follow from others.
+pub mod Ties
