@@ -11,7 +11,7 @@ use Rattle.rows.specs.Branch.{if}
 use Rattle.rows.specs.Update.{update}
 use Rattle.rows.proofs.Update.{update-same, update-all}
 use Rattle.classes.specs.Classes.{perRegion}
-use Rattle.classes.specs.Geometry.{unitOf, regionOf}
+use Rattle.classes.specs.Geometry.{regionOf}
 use Rattle.plain.specs.State.{State, EMPTY, PARTIAL, FULL, Phase, read, next, exchange, Pop, partial, spare}
 use Rattle.plain.specs.State.{region, Push, retire, back, release, offer, Place, idle, a1, popping, pushing, a4}
 use Rattle.plain.specs.State.{a8, f3-read, f3-link, f4-clear, Task, Mem, working, Note}
@@ -254,7 +254,7 @@ module _ (t : ℕ) (k : ℕ → List ℕ) (m : Mem) where
   facts-a7 c d r = goes t m _ refl refl none-won
 
   pub facts-a8 : (c r i : ℕ) → StepFacts t m (a8Step t k c r i m)
-  facts-a8 c r i = facts-carved (ℕ-discrete (suc i) (perRegion c)) c r i (unitOf r c i ∷ k c)
+  facts-a8 c r i = facts-carved (ℕ-discrete (suc i) (perRegion c)) c r i _
 
   pub facts-f1 : (c u : ℕ) → StepFacts t m (f1Step t k c u m)
   facts-f1 c u =
