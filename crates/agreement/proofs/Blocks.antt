@@ -8,7 +8,7 @@ use borrow.Author.Tests.{lt-ltb, eq-eqb, ne-eqb}
 use lib.ListN.{length}
 use Rattle.limits.specs.Limits.{UNITS, TASKS, CLASSES, DESCRIPTORS}
 use Rattle.rows.specs.Counting.{count}
-use Rattle.rows.specs.Linked.{Agree, Linked, ends, links}
+use Rattle.rows.specs.Linked.{LinksAgree, Linked, ends, links}
 use Rattle.rows.specs.Totals.{total}
 use Rattle.rows.specs.Update.{update}
 use Rattle.rows.proofs.Linked.{linked-frame}
@@ -79,14 +79,14 @@ module _ {regions : ℕ} {a : Contents} {m : Mem} {t : ℕ} {p : Place} {k : ℕ
   mine-under u h = omega (arith, own-block w u (omega arith))
 
   pub cache-agrees : (u x : ℕ) → 1 ≤ count u (underWay p) → (c : ℕ) → c < CLASSES
-      → Agree (link (a .area)) (link (withLink (a .area) u x)) (k c)
+      → LinksAgree (link (a .area)) (link (withLink (a .area) u x)) (k c)
   cache-agrees u x h c l =
       agrees w u x (k c) (mine-under u h .0) (λ v. omega (arith, total-one CLASSES (rowWeight v) k c l))
       (omega (arith, mine-under u h, total-one CLASSES (rowWeight u) k c l))
 
   -- a row under way that does not have u
   pub row-agrees : (u x : ℕ) (q : List ℕ) → 1 ≤ count u (underWay p) → ((v : ℕ) → count v q ≤ count v (underWay p))
-      → count u q ≡ 0 → Agree (link (a .area)) (link (withLink (a .area) u x)) q
+      → count u q ≡ 0 → LinksAgree (link (a .area)) (link (withLink (a .area) u x)) q
   row-agrees u x q h sub n = agrees w u x q (mine-under u h .0) (λ v. omega (arith, sub v)) n
 
   pub wrote : (u x : ℕ) → 1 ≤ count u (underWay p) → x ≤ UNITS → link (withLink (a .area) u x) u ≡ x
@@ -94,7 +94,7 @@ module _ {regions : ℕ} {a : Contents} {m : Mem} {t : ℕ} {p : Place} {k : ℕ
 
   -- the caches with a new one of the class c
   pub re-cache : (a′ : Contents) (m′ : Mem) (s : Slot) (p′ : Place) (c b n : ℕ) (q : List ℕ)
-      → ((e : ℕ) → e < CLASSES → Agree (link (a .area)) (link (a′ .area)) (k e)) → s .class ≡ a .slot t .class
+      → ((e : ℕ) → e < CLASSES → LinksAgree (link (a .area)) (link (a′ .area)) (k e)) → s .class ≡ a .slot t .class
       → s .caches ≡ toCache c b n (a .slot t) .caches → Linked (link (a′ .area)) (λ u. u) UNITS b q → n ≡ length q
       → PlaceRelated regions a′ m′ s p′ → SlotRelated regions a′ m′ s (taskOf p′ (update k c q))
   re-cache a′ m′ s p′ c b n q g f i l en pl = record {
@@ -112,7 +112,7 @@ module _ {regions : ℕ} {a : Contents} {m : Mem} {t : ℕ} {p : Place} {k : ℕ
 
   -- the caches as they were, after a link under way is written
   pub re-link : (a′ : Contents) (m′ : Mem) (s : Slot) (p′ : Place)
-      → ((e : ℕ) → e < CLASSES → Agree (link (a .area)) (link (a′ .area)) (k e)) → s .class ≡ a .slot t .class
+      → ((e : ℕ) → e < CLASSES → LinksAgree (link (a .area)) (link (a′ .area)) (k e)) → s .class ≡ a .slot t .class
       → s .caches ≡ a .slot t .caches → PlaceRelated regions a′ m′ s p′ → SlotRelated regions a′ m′ s (taskOf p′ k)
   re-link a′ m′ s p′ g f i pl = record {
     fits = rw f (mine w .fits);

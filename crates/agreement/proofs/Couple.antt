@@ -7,7 +7,7 @@ use native.Mathlib.Omega.{arith}
 use lib.ListN.{length}
 use Rattle.limits.specs.Limits.{REGIONS, REGION-BYTES, TASKS, DESCRIPTORS}
 use Rattle.rows.specs.Counting.{count}
-use Rattle.rows.specs.Linked.{Agree, links}
+use Rattle.rows.specs.Linked.{LinksAgree, links}
 use Rattle.rows.specs.Tests.{other, same, same?}
 use Rattle.rows.specs.Totals.{total}
 use Rattle.rows.specs.Weights.{one}
@@ -205,7 +205,7 @@ module _ {regions : ℕ} {a : Contents} {m : Mem} {t : ℕ} {p : Place} {k : ℕ
   -- ---- what a written link leaves of a row of the task
   pub agrees : (u x : ℕ) (q : List ℕ) → 1 ≤ blockWeight u t (taskOf p k)
       → ((v : ℕ) → count v q ≤ blockWeight v t (taskOf p k)) → count u q ≡ 0
-      → Agree (link (a .area)) (link (withLink (a .area) u x)) q
+      → LinksAgree (link (a .area)) (link (withLink (a .area) u x)) q
   agrees u x q o sub n v e =
       link-other (a .area) u x v (λ f. absurd (omega (arith, ap (λ (z : ℕ). count z q) f)))
 

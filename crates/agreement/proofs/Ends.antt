@@ -36,7 +36,7 @@ use Rattle.stepped.specs.Steps as Steps
 use Rattle.stepped.specs.Calls as Calls
 use Rattle.agreement.specs.Ends.{WritesNothing, Leaves, oneOf, testRefusals, allocateRefusals, freeRefusals}
 use Rattle.agreement.specs.Ends.{placeRefusals, stepRefusals, Begins, Goes, StartEnds, BeginEnds, StepEnds}
-use Rattle.agreement.specs.Ends.{FindsEmpty, WinsPush, InPush, placeAfter, IsEnd, Begun}
+use Rattle.agreement.specs.Ends.{FindsEmpty, WinsPush, InPush, placeAfter, IsEnd, BegunOutcome}
 use Rattle.stepped.specs.Calls.{Tested, Lent}
 use Rattle.agreement.proofs.Ways.{branch, accepted-no, more, tests, passed, Cause, Ending, CallEnding, refused}
 use Rattle.agreement.proofs.Ways.{going, ended, at-call, sent}
@@ -107,10 +107,10 @@ module _ (control area : ℕ) (v : View) (t : ℕ) where
 
   -- a size that is accepted has the smallest class that holds it, and that class is written
   pub smallest-class : (size : ℕ) → Calls.allocateOutcome control area v t size .answer ≡ Accepted
-      → Begun t size (Calls.allocateOutcome control area v t size)
+      → BegunOutcome t size (Calls.allocateOutcome control area v t size)
   unfolding Calls.allocateOutcome Calls.beginAllocate
   smallest-class size =
-      let P : Outcome → Type 0 = λ o. o .answer ≡ Accepted → Begun t size o in
+      let P : Outcome → Type 0 = λ o. o .answer ≡ Accepted → BegunOutcome t size o in
       begin-tests P control area v t _ [] (λ n h e. absurd (accepted-no (sym e)))
       (branch P (eqb size 0) (λ e f. absurd (accepted-no (sym f))) (λ e.
       branch P (ltb MOST-BYTES size) (λ f g. absurd (accepted-no (sym g))) (λ f g.

@@ -7,7 +7,7 @@ use Rattle.limits.specs.Limits.{UNITS, DESCRIPTORS, MOST-BLOCKS, SPARE-REGIONS,
 use Rattle.words.specs.declared.anchor.Anchor.{Anchor}
 use Rattle.words.specs.declared.head.Head.{Head}
 use Rattle.rows.specs.Counting.{count}
-use Rattle.rows.specs.Linked.{Agree, Linked}
+use Rattle.rows.specs.Linked.{LinksAgree, Linked}
 use Rattle.rows.specs.Update.{update}
 use Rattle.rows.proofs.Linked.{linked-frame, linked-update}
 use Rattle.rows.proofs.Update.{update-all, update-all₂}
@@ -84,7 +84,7 @@ module _ {regions : ℕ} {nx : ℕ → ℕ} {D : Descriptors} {P : ℕ → Descr
   }
 
   -- other links, which are as they were in the chains of open descriptors
-  pub links-related : (nx′ : ℕ → ℕ) → ((d : ℕ) → d < DESCRIPTORS → IsOpen (P d .state) → Agree nx nx′ (P d .chain))
+  pub links-related : (nx′ : ℕ → ℕ) → ((d : ℕ) → d < DESCRIPTORS → IsOpen (P d .state) → LinksAgree nx nx′ (P d .chain))
       → DescriptorsRelated regions nx′ D P
   links-related nx′ same = record {
     each = λ d l. record {

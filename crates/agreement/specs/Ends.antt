@@ -132,7 +132,7 @@ pub record StepEnds (v : View) (t : ℕ) (o : Outcome) : Type 0 where
 
 -- The allocation of `size` bytes has begun: nothing but the task's place and its class is written, and the class is the
 -- smallest whose block holds the size.
-pub record Begun (t size : ℕ) (o : Outcome) : Type 0 where
+pub record BegunOutcome (t size : ℕ) (o : Outcome) : Type 0 where
   pub from : 1 ≤ size
   pub to : size ≤ MOST-BYTES
   pub writes : o .writes ≡ (TaskPlace t := A1 ∷ TaskClass t := classOf size ∷ [])

@@ -30,18 +30,18 @@ OneTo most x = (1 ≤ x) × (x ≤ most)
 
 -- X where the task t is at a place from a to b, in the order of the table of places. A move has three: its head read,
 -- its next and its exchange.
-abbrev pub At : View → ℕ → ℕ → ℕ → Type 0 → Type 0
-At v t a b X = a ≤ v (TaskPlace t) → v (TaskPlace t) ≤ b → X
+abbrev pub AtPlaces : View → ℕ → ℕ → ℕ → Type 0 → Type 0
+AtPlaces v t a b X = a ≤ v (TaskPlace t) → v (TaskPlace t) ≤ b → X
 
 -- What the task t noted of a list, and what it has under way, is in its range at the places from its write to its last
 -- read; elsewhere it is left over.
 
 -- the noted head's item, where a pop has one, and the noted next: a number plus one, or 0
 pub record TaskLists (regions : ℕ) (v : View) (t : ℕ) : Type 0 where
-  pub pop-head : (p : Pop) → At v t (popPlace p + 1) (popPlace p + 2)
+  pub pop-head : (p : Pop) → AtPlaces v t (popPlace p + 1) (popPlace p + 2)
       (OneTo (popItems p regions) (itemOf (v (TaskHead t))))
-  pub pop-next : (p : Pop) → At v t (popPlace p + 2) (popPlace p + 2) (v (TaskNext t) ≤ popItems p regions)
-  pub push-head : (p : Push) → At v t (pushPlace p + 1) (pushPlace p + 2)
+  pub pop-next : (p : Pop) → AtPlaces v t (popPlace p + 2) (popPlace p + 2) (v (TaskNext t) ≤ popItems p regions)
+  pub push-head : (p : Push) → AtPlaces v t (pushPlace p + 1) (pushPlace p + 2)
       (itemOf (v (TaskHead t)) ≤ pushItems p regions)
 
 -- its place, and what it has in hand beside blocks
@@ -49,44 +49,44 @@ pub record TaskHands (regions : ℕ) (v : View) (t : ℕ) : Type 0 where
   -- idle, or a place of the step list
   pub place : v (TaskPlace t) < PLACES
   -- the descriptor, spare or for the partial list
-  pub descriptor-spare : At v t POP-REGION (PUSH-BACK + 2) (v (TaskDescriptor t) < DESCRIPTORS)
-  pub descriptor-listed : At v t PUSH-OFFER A3-EXCHANGE (v (TaskDescriptor t) < DESCRIPTORS)
-  pub descriptor-opens : At v t A7 A7 (v (TaskDescriptor t) < DESCRIPTORS)
+  pub descriptor-spare : AtPlaces v t POP-REGION (PUSH-BACK + 2) (v (TaskDescriptor t) < DESCRIPTORS)
+  pub descriptor-listed : AtPlaces v t PUSH-OFFER A3-EXCHANGE (v (TaskDescriptor t) < DESCRIPTORS)
+  pub descriptor-opens : AtPlaces v t A7 A7 (v (TaskDescriptor t) < DESCRIPTORS)
   -- the descriptor to whose chain the group returns
-  pub descriptor-group : At v t F3-LINK F3-EXCHANGE (v (TaskDescriptor t) < DESCRIPTORS)
+  pub descriptor-group : AtPlaces v t F3-LINK F3-EXCHANGE (v (TaskDescriptor t) < DESCRIPTORS)
   -- the region that is released, the one whose blocks are moved or carved, and the group's
-  pub region-released : At v t PUSH-RELEASE (PUSH-RELEASE + 2) (v (TaskRegion t) < regions)
-  pub region-filled : At v t A4 A8 (v (TaskRegion t) < regions)
-  pub region-grouped : At v t F2 F2 (1 ≤ v (GroupCount t) → v (TaskRegion t) < regions)
-  pub region-group : At v t F3-READ F4-CLEAR (v (TaskRegion t) < regions)
+  pub region-released : AtPlaces v t PUSH-RELEASE (PUSH-RELEASE + 2) (v (TaskRegion t) < regions)
+  pub region-filled : AtPlaces v t A4 A8 (v (TaskRegion t) < regions)
+  pub region-grouped : AtPlaces v t F2 F2 (1 ≤ v (GroupCount t) → v (TaskRegion t) < regions)
+  pub region-group : AtPlaces v t F3-READ F4-CLEAR (v (TaskRegion t) < regions)
   -- the state in which its last free found the anchor, 0 before: it is in its range at every place
   pub state : v (TaskState t) ≤ FULL
 
 -- what it noted of an anchor, and the blocks that it moves or groups
 pub record TaskChains (v : View) (t : ℕ) : Type 0 where
   -- the noted anchor from which an allocation takes the chain
-  pub anchor-state : At v t A3-EXCHANGE A3-EXCHANGE (anchorOf (v (TaskAnchor t)) .state ≡ PARTIAL)
-  pub anchor-avail : At v t A3-EXCHANGE A3-EXCHANGE (anchorOf (v (TaskAnchor t)) .avail < perRegion (v (TaskClass t)))
-  pub anchor-count : At v t A3-EXCHANGE A3-EXCHANGE
+  pub anchor-state : AtPlaces v t A3-EXCHANGE A3-EXCHANGE (anchorOf (v (TaskAnchor t)) .state ≡ PARTIAL)
+  pub anchor-avail : AtPlaces v t A3-EXCHANGE A3-EXCHANGE (anchorOf (v (TaskAnchor t)) .avail < perRegion (v (TaskClass t)))
+  pub anchor-count : AtPlaces v t A3-EXCHANGE A3-EXCHANGE
       (OneTo (perRegion (v (TaskClass t))) (anchorOf (v (TaskAnchor t)) .count))
   -- and that before whose chain a free puts its group: n as avail is none
-  pub returns-state : At v t F3-LINK F3-EXCHANGE (anchorOf (v (TaskAnchor t)) .state ≤ FULL)
-  pub returns-avail : At v t F3-LINK F3-EXCHANGE (anchorOf (v (TaskAnchor t)) .avail ≤ perRegion (v (TaskClass t)))
-  pub returns-count : At v t F3-LINK F3-EXCHANGE
+  pub returns-state : AtPlaces v t F3-LINK F3-EXCHANGE (anchorOf (v (TaskAnchor t)) .state ≤ FULL)
+  pub returns-avail : AtPlaces v t F3-LINK F3-EXCHANGE (anchorOf (v (TaskAnchor t)) .avail ≤ perRegion (v (TaskClass t)))
+  pub returns-count : AtPlaces v t F3-LINK F3-EXCHANGE
       (anchorOf (v (TaskAnchor t)) .count + v (GroupCount t) ≤ perRegion (v (TaskClass t)))
   -- the index of the block that is moved or carved next
-  pub index-moved : At v t A4 A4 (v (TaskIndex t) < perRegion (v (TaskClass t)))
-  pub index-carved : At v t A8 A8 (v (TaskIndex t) < perRegion (v (TaskClass t)))
+  pub index-moved : AtPlaces v t A4 A4 (v (TaskIndex t) < perRegion (v (TaskClass t)))
+  pub index-carved : AtPlaces v t A8 A8 (v (TaskIndex t) < perRegion (v (TaskClass t)))
   -- how many blocks of the chain are left to move
-  pub left : At v t A4 A4 (OneTo (perRegion (v (TaskClass t))) (v (TaskLeft t)))
+  pub left : AtPlaces v t A4 A4 (OneTo (perRegion (v (TaskClass t))) (v (TaskLeft t)))
   -- how many blocks the group has: 0 before its first
-  pub grouped : At v t F2 F2 (v (GroupCount t) ≤ perRegion (v (TaskClass t)))
-  pub group : At v t F3-READ F3-EXCHANGE (OneTo (perRegion (v (TaskClass t))) (v (GroupCount t)))
+  pub grouped : AtPlaces v t F2 F2 (v (GroupCount t) ≤ perRegion (v (TaskClass t)))
+  pub group : AtPlaces v t F3-READ F3-EXCHANGE (OneTo (perRegion (v (TaskClass t))) (v (GroupCount t)))
   -- the indexes of its first and its last block
-  pub first-grouped : At v t F2 F2 (1 ≤ v (GroupCount t) → v (GroupFirst t) < perRegion (v (TaskClass t)))
-  pub first : At v t F3-READ F3-EXCHANGE (v (GroupFirst t) < perRegion (v (TaskClass t)))
-  pub last-grouped : At v t F2 F2 (1 ≤ v (GroupCount t) → v (GroupLast t) < perRegion (v (TaskClass t)))
-  pub last : At v t F3-READ F3-EXCHANGE (v (GroupLast t) < perRegion (v (TaskClass t)))
+  pub first-grouped : AtPlaces v t F2 F2 (1 ≤ v (GroupCount t) → v (GroupFirst t) < perRegion (v (TaskClass t)))
+  pub first : AtPlaces v t F3-READ F3-EXCHANGE (v (GroupFirst t) < perRegion (v (TaskClass t)))
+  pub last-grouped : AtPlaces v t F2 F2 (1 ≤ v (GroupCount t) → v (GroupLast t) < perRegion (v (TaskClass t)))
+  pub last : AtPlaces v t F3-READ F3-EXCHANGE (v (GroupLast t) < perRegion (v (TaskClass t)))
 
 -- the fields of the task t
 pub record TaskInRange (regions : ℕ) (v : View) (t : ℕ) : Type 0 where
@@ -96,12 +96,12 @@ pub record TaskInRange (regions : ℕ) (v : View) (t : ℕ) : Type 0 where
   pub hands : TaskHands regions v t
   pub chains : TaskChains v t
   -- the unit that is freed: a block of the class
-  pub unit-pushing : At v t PUSH-RELEASE (PUSH-OFFER + 2) (isBlock regions (v (TaskClass t)) (v (TaskUnit t)) ≡ true)
-  pub unit : At v t F1 F4-CLEAR (isBlock regions (v (TaskClass t)) (v (TaskUnit t)) ≡ true)
+  pub unit-pushing : AtPlaces v t PUSH-RELEASE (PUSH-OFFER + 2) (isBlock regions (v (TaskClass t)) (v (TaskUnit t)) ≡ true)
+  pub unit : AtPlaces v t F1 F4-CLEAR (isBlock regions (v (TaskClass t)) (v (TaskUnit t)) ≡ true)
   -- the descriptor that a free has in hand where it found the anchor FULL
-  pub descriptor-released : At v t PUSH-RELEASE (PUSH-RELEASE + 2)
+  pub descriptor-released : AtPlaces v t PUSH-RELEASE (PUSH-RELEASE + 2)
       (v (TaskState t) ≡ FULL → v (TaskDescriptor t) < DESCRIPTORS)
-  pub descriptor-cleared : At v t F4-CLEAR F4-CLEAR (v (TaskState t) ≡ FULL → v (TaskDescriptor t) < DESCRIPTORS)
+  pub descriptor-cleared : AtPlaces v t F4-CLEAR F4-CLEAR (v (TaskState t) ≡ FULL → v (TaskDescriptor t) < DESCRIPTORS)
   -- each class's cache: how many blocks, and its top: a block of the class, or, where there is none, the number past
   -- all units
   pub counts : (c : ℕ) → c < CLASSES → v (CacheCount t c) ≤ perRegion c

@@ -1,4 +1,4 @@
--- The places of a class's blocks in a region.
+-- Where the blocks of a class lie in a region.
 use mathlib.Core.Path.{_≡_}
 use mathlib.Core.Bool.{Bool, _&&_}
 use Prim.Native.Nat.{ℕ, _+_, _*_, _/_, _%_, _<_}

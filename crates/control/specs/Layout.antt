@@ -19,7 +19,7 @@ field k index = record { column = k .start; index = index }
 abbrev pub MARK-WORDS : ℕ
 MARK-WORDS = UNITS / 64
 
--- the caches stand task by task, with so many places for the classes of a task
+-- the caches stand task by task, with room for so many classes of a task
 abbrev pub STRIDE : ℕ
 STRIDE = 16
 

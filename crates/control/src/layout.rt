@@ -61,5 +61,5 @@ pub const STARTED_TASKS: usize = 5944;
 
 pub const STARTED_REGIONS: usize = 5945;
 
-// The caches stand task by task, with so many places for the classes of a task.
+// The caches stand task by task, with room for so many classes of a task.
 pub const STRIDE: usize = 16;

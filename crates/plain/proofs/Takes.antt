@@ -24,7 +24,7 @@ use Rattle.plain.proofs.Places.{taskOf, placeHolds, lengths, placed}
 use Rattle.plain.proofs.Anchors.{in-hand, class-of, anchored}
 
 -- the descriptor whose chain is taken: it was noted as not EMPTY, and as it is held it is not FULL
-pub record Taken (m : Mem) (c d : ℕ) : Type 0 where
+pub record TakenChain (m : Mem) (c d : ℕ) : Type 0 where
   pub fits : d < DESCRIPTORS
   pub counts : IsOpen (m .descriptor d .state)
   pub state : m .descriptor d .state ≡ PARTIAL
@@ -34,7 +34,7 @@ pub record Taken (m : Mem) (c d : ℕ) : Type 0 where
 
 -- An exchange of an anchor that is as noted takes such a descriptor's chain.
 pub taken : {area : ℕ} {m : Mem} {t : ℕ} {k : ℕ → List ℕ} {c d : ℕ} {n : Note}
-    → Turn area m t (taskOf (working (a3-exchange c d n)) k) → AsNoted (m .descriptor d) n → Taken m c d
+    → Turn area m t (taskOf (working (a3-exchange c d n)) k) → AsNoted (m .descriptor d) n → TakenChain m c d
 taken {m = m} {c = c} {d = d} {n = n} w s = by (state? (m .descriptor d .state))
   where
     hand : (d < DESCRIPTORS) × (isFull (m .descriptor d .state) ≡ 0)
@@ -43,7 +43,7 @@ taken {m = m} {c = c} {d = d} {n = n} w s = by (state? (m .descriptor d .state))
     of-class : c ≡ m .descriptor d .class
     of-class = class-of w c d (placeHolds w .0) (omega (arith, when-same c (one d d + 0), when-same d 1))
 
-    by : IsState (m .descriptor d .state) → Taken m c d
+    by : IsState (m .descriptor d .state) → TakenChain m c d
     by (is-empty e) = absurd (omega (arith, s, placeHolds w .2, ap numberOf e))
     by (is-full e) = absurd (omega (arith, hand .1, ap isFull e))
     by (is-partial e) =

@@ -7,7 +7,7 @@ use native.Mathlib.Omega.{arith}
 use lib.ListN.{length}
 use Rattle.rows.specs.Update.{update}
 use Rattle.rows.specs.Counting.{count}
-use Rattle.rows.specs.Linked.{Linked, ends, links, Agree, walk}
+use Rattle.rows.specs.Linked.{Linked, ends, links, LinksAgree, walk}
 use Rattle.rows.proofs.Update.{update-same, update-other}
 use Rattle.rows.proofs.Counting.{count-first}
 
@@ -30,7 +30,7 @@ module _ {next code : ℕ → ℕ} {end f : ℕ} where
 
 -- A row stays linked if the links of its items stay.
 pub linked-frame : {next new code : ℕ → ℕ} {end f : ℕ} {r : List ℕ}
-    → Agree next new r → Linked next code end f r → Linked new code end f r
+    → LinksAgree next new r → Linked next code end f r → Linked new code end f r
 linked-frame a (ends p) = ends p
 linked-frame a (links {u = u} {r = r} p k) =
     links {r = r} p (rw (a u (count-first u r)) (linked-frame (λ v h. a v (omega arith)) k))

@@ -12,8 +12,8 @@ pub data Linked (next code : ℕ → ℕ) (end : ℕ) : ℕ → List ℕ → Typ
       → Linked next code end f (u ∷ r)
 
 -- The two functions have the same link at every item of the row.
-abbrev pub Agree : (ℕ → ℕ) → (ℕ → ℕ) → List ℕ → Type 0
-Agree next new r = (v : ℕ) → 1 ≤ count v r → new v ≡ next v
+abbrev pub LinksAgree : (ℕ → ℕ) → (ℕ → ℕ) → List ℕ → Type 0
+LinksAgree next new r = (v : ℕ) → 1 ≤ count v r → new v ≡ next v
 
 -- The row of n items that the links give from f on, where `item` gives the item that a link names.
 abbrev pub walk : (ℕ → ℕ) → (ℕ → ℕ) → ℕ → ℕ → List ℕ
