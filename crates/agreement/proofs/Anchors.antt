@@ -13,7 +13,7 @@ use Rattle.rows.specs.Linked.{Linked, ends}
 use Rattle.rows.specs.Weights.{one}
 use Rattle.rows.proofs.Weights.{when-same}
 use Rattle.fields.specs.Columns.{View, _:=_, assigned}
-use Rattle.words.specs.Anchor.{Fields, anchorOf, anchorWord, full}
+use Rattle.words.specs.Anchor.{AnchorFits, anchorOf, anchorWord, full}
 use Rattle.words.proofs.Anchors.{anchor-of-word, full-fits, anchor-below}
 use Rattle.words.specs.declared.anchor.Anchor.{Anchor}
 use Rattle.classes.specs.Classes.{perRegion}
@@ -21,14 +21,14 @@ use Rattle.classes.specs.Geometry.{indexOf}
 use Rattle.classes.proofs.BlockUnits.{index-below}
 use Rattle.classes.proofs.Tables.{perRegion-high}
 use Rattle.links.specs.Link.{link}
-use Rattle.plain.specs.State.{State, EMPTY, PARTIAL, FULL, numberOf, Note, read, retire, Place, pushing, a3-read}
+use Rattle.plain.specs.State.{State, EMPTY, PARTIAL, FULL, stateNumber, Note, read, retire, Place, pushing, a3-read}
 use Rattle.plain.specs.State.{a3-exchange, a4, Mem, setDescriptor, working}
 use Rattle.plain.specs.Moves.{going, took}
 use Rattle.plain.specs.Steps.{noteOf, chained, AsNoted, asNoted?, moving}
 use Rattle.plain.specs.Steps as Steps
-use Rattle.plain.specs.Blocks.{isBlock}
+use Rattle.plain.specs.Blocks.{countBlock}
 use Rattle.plain.specs.Invariant.{OpenDescriptor, ChainLength}
-use Rattle.plain.specs.States.{IsOpen, ifOpen, isFull}
+use Rattle.plain.specs.States.{IsOpen, ifOpen, oneIfFull}
 use Rattle.plain.proofs.Anchors.{in-hand, class-of}
 use Rattle.plain.proofs.Takes.{taken}
 use Rattle.plain.proofs.Blocks.{counts-block}
@@ -70,7 +70,7 @@ module _ {regions : ℕ} {v : View} {area : List ℕ} {m : Mem} {t : ℕ} {p : P
       (le-leb (b .count) MOST-BLOCKS (C .descriptors .chainCounts d l))
 
 -- the word of (FULL, n, 0) says so
-pub full-parts : (c : ℕ) → Fields (full (perRegion c))
+pub full-parts : (c : ℕ) → AnchorFits (full (perRegion c))
 full-parts c = full-fits (perRegion c) (omega (arith, perRegion-high c))
 
 pub full-read : (c : ℕ) → anchorOf (anchorWord (full (perRegion c))) ≡ full (perRegion c)
@@ -78,7 +78,7 @@ full-read c = anchor-of-word (full (perRegion c)) (full-parts c)
 
 -- a chain that has a block begins at an index below n
 pub first-below : {nx : ℕ → ℕ} {f : ℕ} (r c : ℕ) (q : List ℕ) → Linked nx (indexOf c) (perRegion c) f q → 1 ≤ length q
-    → ((y : ℕ) → count y q ≤ isBlock y r c) → f < perRegion c
+    → ((y : ℕ) → count y q ≤ countBlock y r c) → f < perRegion c
 first-below r c [] l h i = absurd (omega arith)
 first-below r c (x ∷ q) l h i =
     omega (arith, first-of l, index-below (counts-block r c x (omega (arith, i x, when-same x 1))))
@@ -107,7 +107,7 @@ module _ {regions : ℕ} {v : View} {area : List ℕ} {m : Mem} {t : ℕ} {k : �
       let b = anchorOf (v (Layout.Anchor d)) in
       pass (isAnchor (v (Layout.Anchor d))) (anchor-tested w d l)
       (meet _ (eqb (b .state) 0)
-      (eq-eqb (b .state) 0 (w .pair .rel .core .descriptors .each d l .state ∙ ap numberOf g)) (record {
+      (eq-eqb (b .state) 0 (w .pair .rel .core .descriptors .each d l .state ∙ ap stateNumber g)) (record {
         says = refl;
         keeps = (refl, refl);
         rel =
@@ -120,7 +120,7 @@ module _ {regions : ℕ} {v : View} {area : List ℕ} {m : Mem} {t : ℕ} {k : �
       }))
   read-state w l FULL g =
       let d = v (TaskDescriptor t) in
-      absurd (omega (arith, in-hand (w .pair .turn) d (omega (arith, when-same d 1)) .1, ap isFull g))
+      absurd (omega (arith, in-hand (w .pair .turn) d (omega (arith, when-same d 1)) .1, ap oneIfFull g))
   read-state w l PARTIAL g =
       let c = v (TaskClass t) in
       let d = v (TaskDescriptor t) in
@@ -135,7 +135,7 @@ module _ {regions : ℕ} {v : View} {area : List ℕ} {m : Mem} {t : ℕ} {k : �
       let C : ChainRelated (link area) b E = open-holds (E .state) opens (D .chain) in
       let L : OpenDescriptor E = open-holds (E .state) opens (w .pair .turn .inv .chains d l) in
       let sz : ChainLength PARTIAL (perRegion (E .class)) (length (E .chain)) = rw g at (L .sized) in
-      let st : b .state ≡ 1 = D .state ∙ ap numberOf g in
+      let st : b .state ≡ 1 = D .state ∙ ap stateNumber g in
       let low : 1 ≤ b .count = omega (arith, C .counts, sz) in
       let high : b .count ≤ perRegion c = omega (arith, C .counts, sz, en) in
       let first : b .avail < perRegion c =
@@ -179,7 +179,7 @@ module _ {regions : ℕ} {v : View} {area : List ℕ} {m : Mem} {t : ℕ} {k : �
       ∷ TaskLeft t := anchorOf (v (TaskAnchor t)) .count
       ∷ [])
       []) (
-        Steps.to t k (moving (v (TaskClass t)) (m .descriptor (v (TaskDescriptor t)) .chain))
+        Steps.atWork t k (moving (v (TaskClass t)) (m .descriptor (v (TaskDescriptor t)) .chain))
             (setDescriptor (v (TaskDescriptor t)) (chained (m .descriptor (v (TaskDescriptor t))) FULL []) m),
         going (took (v (TaskDescriptor t))),
       )
@@ -199,17 +199,17 @@ module _ {regions : ℕ} {v : View} {area : List ℕ} {m : Mem} {t : ℕ} {k : �
       subst (λ (z : ℕ). Linked (link area) (indexOf z) (perRegion z) (b .avail) (E .chain)) (sym (T .class))
       (subst (λ (z : ℕ). Linked (link area) (indexOf (E .class)) (perRegion (E .class)) z (E .chain)) (same .0 .1)
       (C .linked)) in
-      let inside : (y : ℕ) → count y (E .chain) ≤ isBlock y r c =
+      let inside : (y : ℕ) → count y (E .chain) ≤ countBlock y r c =
       λ y. omega (
         arith,
         T .opened .inside y,
-        ap (λ (z : ℕ). isBlock y z (E .class)) (D .region),
-        ap (isBlock y r)
+        ap (λ (z : ℕ). countBlock y z (E .class)) (D .region),
+        ap (countBlock y r)
             (T .class),
       ) in
       let own = TaskRegion t := r ∷ TaskIndex t := b .avail ∷ TaskLeft t := b .count ∷ [] in
       let S = slotOf (assigned (TaskPlace t := A4 ∷ own) v) in
-      has-top (λ q. (Steps.to t k (moving c q) (setDescriptor d (chained E FULL []) m), going (took d))) (E .chain)
+      has-top (λ q. (Steps.atWork t k (moving c q) (setDescriptor d (chained E FULL []) m), going (took d))) (E .chain)
       (λ i. omega (arith, T .chain, ap length i))
       (λ x q i. record {
         says = refl;
@@ -260,9 +260,9 @@ module _ {regions : ℕ} {v : View} {area : List ℕ} {m : Mem} {t : ℕ} {k : �
       class-of (w .pair .turn) c d (mine (w .pair) .fits) (omega (arith, when-same c (one d d + 0), when-same d 1)) in
       let D = w .pair .rel .core .descriptors .each d l in
       let N′ = re-note {m = m} {m′ = m} refl ec N in
-      let C : 1 ≤ numberOf (E .state) → ChainRelated (link area) (anchorOf (v (Layout.Anchor d))) E =
+      let C : 1 ≤ stateNumber (E .state) → ChainRelated (link area) (anchorOf (v (Layout.Anchor d))) E =
       λ h. open-holds (E .state) (number-open (E .state) h) (D .chain) in
-      let L : 1 ≤ numberOf (E .state) → OpenDescriptor E =
+      let L : 1 ≤ stateNumber (E .state) → OpenDescriptor E =
       λ h. open-holds (E .state) (number-open (E .state) h) (w .pair .turn .inv .chains d l) in
       pass (ltb d DESCRIPTORS && hasChain (perRegion c) word)
       (both-true (lt-ltb d DESCRIPTORS l) (chain-tested (perRegion c) word st low high first))
@@ -270,10 +270,10 @@ module _ {regions : ℕ} {v : View} {area : List ℕ} {m : Mem} {t : ℕ} {k : �
       (decide (eqb (v (Layout.Anchor d)) word) (asNoted? E n)
       (λ h.
       let same = anchor-word-same (v (Layout.Anchor d)) word (eqb-true (v (Layout.Anchor d)) word h) in
-      let z : 1 ≤ numberOf (E .state) = omega (arith, D .state, same) in
+      let z : 1 ≤ stateNumber (E .state) = omega (arith, D .state, same) in
       same-unmoved m d n D (C z) (L z) N′ same)
       (λ h.
-      let z : 1 ≤ numberOf (E .state) = omega (arith, h, N .state) in
+      let z : 1 ≤ stateNumber (E .state) = omega (arith, h, N .state) in
       eq-eqb (v (Layout.Anchor d)) word
       (same-anchor-word (v (Layout.Anchor d)) word (unmoved-same m d n D (C z) (L z) N′ h)))
       (λ g h.

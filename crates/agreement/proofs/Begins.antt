@@ -8,7 +8,7 @@ use native.Mathlib.Numerals.{sub-one}
 use native.Mathlib.Decide.{ℕ-discrete, decLt}
 use borrow.Author.Tests.{eq-eqb, ne-eqb, le-leb, lt-ltb, eqb-true, eqb-false, ltb-true}
 use lib.Dec.{eqb, ltb}
-use Rattle.limits.specs.Limits.{REGION-UNITS, CLASSES, DESCRIPTORS, MOST-BLOCKS, MOST-BYTES}
+use Rattle.limits.specs.Limits.{REGION-UNITS, CLASSES, DESCRIPTORS, MOST-BLOCKS, LARGEST-SIZE, WORD-MARKS}
 use Rattle.rows.specs.Branch.{if, both}
 use Rattle.fields.specs.Columns.{View, Write, _:=_, assigned}
 use Rattle.links.specs.Link.{link}
@@ -19,7 +19,8 @@ use Rattle.classes.specs.Classes.{units, perRegion}
 use Rattle.classes.specs.Sizes.{classOf}
 use Rattle.classes.specs.Geometry.{regionOf, indexOf, isFirst}
 use Rattle.classes.proofs.Sizes.{is-class}
-use Rattle.plain.specs.State.{State, EMPTY, PARTIAL, FULL, numberOf, Place, idle, a1, f1, Mem, Task, setTask, setHands}
+use Rattle.plain.specs.State.{State, EMPTY, PARTIAL, FULL, stateNumber, Place, idle, a1, f1, Mem, Task, setTask}
+use Rattle.plain.specs.State.{setHands}
 use Rattle.plain.specs.State.{working}
 use Rattle.plain.specs.Moves.{going, nothing, refused}
 use Rattle.plain.specs.Steps.{Result}
@@ -87,7 +88,8 @@ module _ {regions : ℕ} {v : View} {area : List ℕ} {m : Mem} {t : ℕ} {k : �
   unfolding Stepped.beginAllocate
   allocate-both size =
       decide (eqb size 0) (ℕ-discrete size 0) (eqb-true size 0) (eq-eqb size 0) (λ e f. refusal R 8)
-      (λ e f. decide (ltb MOST-BYTES size) (decLt MOST-BYTES size) (ltb-true MOST-BYTES size) (lt-ltb MOST-BYTES size)
+      (λ e f. decide (ltb LARGEST-SIZE size) (decLt LARGEST-SIZE size) (ltb-true LARGEST-SIZE size)
+      (lt-ltb LARGEST-SIZE size)
       (λ g h. refusal R 9)
       (λ g h.
       let l : classOf size < CLASSES = is-class size (omega arith) in
@@ -115,12 +117,12 @@ module _ {regions : ℕ} {v : View} {area : List ℕ} {m : Mem} {t : ℕ} {k : �
 -- ---- free
 
 -- a state is EMPTY exactly where its number is 0
-abbrev notEmpty : (z : State) → 1 ≤ numberOf z → Plain.NotEmpty z
+abbrev notEmpty : (z : State) → 1 ≤ stateNumber z → Plain.NotEmpty z
 notEmpty EMPTY h = absurd (omega arith)
 notEmpty PARTIAL h = tt
 notEmpty FULL h = tt
 
-numbered : (z : State) → Plain.NotEmpty z → 1 ≤ numberOf z
+numbered : (z : State) → Plain.NotEmpty z → 1 ≤ stateNumber z
 numbered EMPTY h = absurd h
 numbered PARTIAL h = omega arith
 numbered FULL h = omega arith
@@ -158,13 +160,15 @@ module _ {regions : ℕ} {v : View} {area : List ℕ} {m : Mem} {t : ℕ} {k : �
   marked : (c : ℕ) → c < CLASSES → (e : Dec (m .hands u ≡ 0))
       → Both regions v area m (Stepped.freeMarked v t u c) (if e (m, refused 11) (freed c))
   unfolding Stepped.freeMarked
-  marked c l (yes e) = rw (ne-eqb (bitAt (v (Marks (u / 64))) (u % 64)) 1 (λ i. omega (arith, mark))) (refusal (R w) 11)
+  marked c l (yes e) =
+      rw (ne-eqb (bitAt (v (Marks (u / WORD-MARKS))) (u % WORD-MARKS)) 1 (λ i. omega (arith, mark)))
+      (refusal (R w) 11)
     where
-      mark : bitAt (v (Marks (u / 64))) (u % 64) ≡ m .hands u
+      mark : bitAt (v (Marks (u / WORD-MARKS))) (u % WORD-MARKS) ≡ m .hands u
       mark = R w .core .entries .marks u (omega (arith, w .pair .small))
   marked c l (no e) =
-      meet (refuse 11) (isSet (v (Marks (u / 64))) (u % 64))
-      (eq-eqb (bitAt (v (Marks (u / 64))) (u % 64)) 1 (mark ∙ one))
+      meet (refuse 11) (isSet (v (Marks (u / WORD-MARKS))) (u % WORD-MARKS))
+      (eq-eqb (bitAt (v (Marks (u / WORD-MARKS))) (u % WORD-MARKS)) 1 (mark ∙ one))
       (record {
         says = refl;
         rel = subst (λ (z : Contents). Related regions z (freed c .0))
@@ -181,13 +185,13 @@ module _ {regions : ℕ} {v : View} {area : List ℕ} {m : Mem} {t : ℕ} {k : �
               arith,
               w .pair .turn .fits,
               w .pair .small,
-              clear-below (v (Marks (u / 64))) (u % 64) 64
-                  (w .fitting (Marks (u / 64)) (omega (arith, w .pair .small))) (omega arith),
+              clear-below (v (Marks (u / WORD-MARKS))) (u % WORD-MARKS) 64
+                  (w .fitting (Marks (u / WORD-MARKS)) (omega (arith, w .pair .small))) (omega arith),
             );
         apart = tt;
       })
     where
-      mark : bitAt (v (Marks (u / 64))) (u % 64) ≡ m .hands u
+      mark : bitAt (v (Marks (u / WORD-MARKS))) (u % WORD-MARKS) ≡ m .hands u
       mark = R w .core .entries .marks u (omega (arith, w .pair .small))
 
       one : m .hands u ≡ 1
@@ -196,7 +200,7 @@ module _ {regions : ℕ} {v : View} {area : List ℕ} {m : Mem} {t : ℕ} {k : �
       ws : List Write
       ws =
           TaskPlace t := F1 ∷ TaskClass t := c ∷ TaskUnit t := u
-          ∷ Marks (u / 64) := withClear (v (Marks (u / 64))) (u % 64) ∷ []
+          ∷ Marks (u / WORD-MARKS) := withClear (v (Marks (u / WORD-MARKS))) (u % WORD-MARKS) ∷ []
 
       s : Slot
       s = toRequest F1 c u (slotOf v t)
@@ -210,7 +214,7 @@ module _ {regions : ℕ} {v : View} {area : List ℕ} {m : Mem} {t : ℕ} {k : �
   unfolding Stepped.freeBy Stepped.freeOpen
   opened d l =
       let D = R w .core .descriptors .each d l in
-      let n = numberOf (m .descriptor d .state) in
+      let n = stateNumber (m .descriptor d .state) in
       let test = both (Plain.opens? (m .descriptor d) (regionOf u)) (Plain.first? (m .descriptor d .class) u) in
       pass (ltb (v (DescriptorRegion d)) regions)
       (lt-ltb (v (DescriptorRegion d)) regions (R w .core .descriptors .regionNumbers d l))
@@ -252,7 +256,8 @@ module _ {regions : ℕ} {v : View} {area : List ℕ} {m : Mem} {t : ℕ} {k : �
       (λ e. ten test _ (λ p. absurd (eqb-false (v (DescriptorRegion d)) (regionOf u) e (D .region ∙ p .0 .0)))))
 
   -- the map's entry
-  entry : (z : ℕ) → z ≤ DESCRIPTORS → Both regions v area m (Stepped.freeEntry v regions t u z) (Plain.freeBy z t u m)
+  entry : (z : ℕ) → z ≤ DESCRIPTORS
+      → Both regions v area m (Stepped.freeEntry v regions t u z) (Plain.freeEntry z t u m)
   unfolding Stepped.freeEntry
   entry zero l = refusal (R w) 10
   entry (suc d) l =
@@ -269,7 +274,7 @@ free-both {regions} {v} {area} {m} {t} w u =
     (lt-ltb (regionOf u) regions)
     (λ e l. subst
     (λ (z : ℕ). Both regions v area m (Stepped.freeEntry v regions t u z)
-    (Plain.freeBy (m .map (regionOf u)) t u m))
+    (Plain.freeEntry (m .map (regionOf u)) t u m))
     (sym (R w .core .entries .maps (regionOf u) l))
     (entry w u l (m .map (regionOf u)) (w .pair .turn .inv .entries (regionOf u))))
     (λ e l. refusal (R w) 10)

@@ -8,7 +8,8 @@ use native.Mathlib.Decide.{ℕ-discrete, decLt}
 use borrow.Author.Tests.{eq-eqb, ne-eqb, lt-ltb, le-ltb}
 use lib.Dec.{eqb, ltb}
 use lib.ListN.{length, replicate, length-replicate, drop}
-use Rattle.limits.specs.Limits.{CONTROL-BYTES, REGION-BYTES, CLASSES, DESCRIPTORS, MOST-BYTES, TAGS, SPARE-DESCRIPTORS}
+use Rattle.limits.specs.Limits.{CONTROL-BYTES, REGION-BYTES, CLASSES, DESCRIPTORS, LARGEST-SIZE, TAGS}
+use Rattle.limits.specs.Limits.{SPARE-DESCRIPTORS}
 use Rattle.limits.specs.Limits.{SPARE-REGIONS}
 use Rattle.rows.specs.Branch.{if}
 use Rattle.rows.proofs.Branch.{if-yes, if-no}
@@ -40,7 +41,7 @@ use Rattle.agreement.specs.Events.{Event, call, whole, Taken, Premises}
 use Rattle.agreement.specs.Reached.{starting}
 use Rattle.agreement.proofs.Simulation.{taken-is}
 use Rattle.agreement.proofs.Undisturbed.{brief, finishing, taskAnswers, Finishes, told, opens}
-use Rattle.agreement.proofs.Runs.{steppedAnswers, wholeAnswers, answered-from-start, Writes, short}
+use Rattle.agreement.proofs.Runs.{steppedAnswers, wholeAnswers, answered-from-start, WritesHeld, short}
 
 -- ---- the table
 
@@ -102,26 +103,27 @@ allocating area tasks t size n =
 -- accepted start, whatever bytes the memories held before, and of each of its tasks; the start, the beginning and all
 -- of the n steps but the last are code 0 with value 0, and the last finishes with the unit. Of tags, in every head word
 -- and with every item put on top; of groups, with every first block.
-abbrev pub Holds : Row → Type 0
-Holds (of-size s x) =
+abbrev pub RowHolds : Row → Type 0
+RowHolds (of-size s x) =
     (t : ℕ) (v : View) (m : Mem)
     → (steppedBegins v t (Stepped.beginAllocate t s) ≡ x) × (plainBegins t (Plain.beginAllocate t s m) ≡ x)
-Holds (first-allocation s n unit) =
-    (area : List ℕ) (tasks t : ℕ) (before : Memories) → Plain.Area (length area) → Plain.Tasks tasks → t < tasks
+RowHolds (first-allocation s n unit) =
+    (area : List ℕ) (tasks t : ℕ) (before : Memories) → Plain.StartArea (length area) → Plain.StartTasks tasks
+    → t < tasks
     → map brief (steppedAnswers (allocating area tasks t s n) before) ≡ finishing (suc n) unit
-Holds (tag-won tag next) = (w item : ℕ) → tagOf w ≡ tag → advancedWord w item ≡ word item next
-Holds (group-returned n g state count) =
+RowHolds (tag-won tag next) = (w item : ℕ) → tagOf w ≡ tag → advancedWord w item ≡ word item next
+RowHolds (group-returned n g state count) =
     (first : ℕ) → returned (full n) first g n ≡ record { state = state; avail = first; count = count }
 
 abbrev pub Every : List Row → Type 0
 Every [] = Unit {0}
-Every (r ∷ q) = Holds r × Every q
+Every (r ∷ q) = RowHolds r × Every q
 
 -- ---- sizes
 
 stepped-size : (s t : ℕ) (v : View) → steppedBegins v t (Stepped.beginAllocate t s) ≡ served (choice s)
 unfolding Stepped.beginAllocate choice
-stepped-size s t v = by (eqb s 0) (ltb MOST-BYTES s)
+stepped-size s t v = by (eqb s 0) (ltb LARGEST-SIZE s)
   where
     by : (a b : Bool)
         → steppedBegins v t (cond a (refuse 8) (cond b (refuse 9)
@@ -133,19 +135,19 @@ stepped-size s t v = by (eqb s 0) (ltb MOST-BYTES s)
 
 plain-size : (s t : ℕ) (m : Mem) → plainBegins t (Plain.beginAllocate t s m) ≡ served (choice s)
 unfolding choice
-plain-size s t m = by (ℕ-discrete s 0) (decLt MOST-BYTES s)
+plain-size s t m = by (ℕ-discrete s 0) (decLt LARGEST-SIZE s)
   where
-    by : (a : Dec (s ≡ 0)) (b : Dec (MOST-BYTES < s))
+    by : (a : Dec (s ≡ 0)) (b : Dec (LARGEST-SIZE < s))
         → plainBegins t
         (if a (m, refused 8)
         (if b (m, refused 9) (setTask t (taskOf (working (a1 (classOf s))) (m .task t .cache)) m, going nothing)))
         ≡ served (choice s)
     by (yes e) b = rw (eq-eqb s 0 e)
-    by (no e) (yes l) = rw (ne-eqb s 0 e, lt-ltb MOST-BYTES s l)
+    by (no e) (yes l) = rw (ne-eqb s 0 e, lt-ltb LARGEST-SIZE s l)
     by (no e) (no l) =
         rw (
           ne-eqb s 0 e,
-          le-ltb MOST-BYTES s (omega arith),
+          le-ltb LARGEST-SIZE s (omega arith),
           update-same (m .task) t
               (taskOf (working (a1 (classOf s))) (m .task t .cache)),
         )
@@ -164,7 +166,8 @@ join (r ∷ p) q h k = (h .0, join p q (h .1) k)
 
 -- ---- first allocations
 
-module _ (area : List ℕ) (tasks t : ℕ) (a : Plain.Area (length area)) (T : Plain.Tasks tasks) (l : t < tasks) where
+module _ (area : List ℕ) (tasks t : ℕ) (a : Plain.StartArea (length area)) (T : Plain.StartTasks tasks)
+    (l : t < tasks) where
   abbrev regions : ℕ
   regions = length area / REGION-BYTES
 
@@ -176,33 +179,34 @@ module _ (area : List ℕ) (tasks t : ℕ) (a : Plain.Area (length area)) (T : P
   passes m = record { control-is = refl; started = T .0; area-is = omega (arith, a); below = l }
 
   starts : whole (starting (of-tasks tasks) area) unstarted ≡ (pool (startMem regions), going nothing)
-  unfolding Plain.call
+  unfolding Plain.plainCall
   starts =
-      if-yes (ℕ-discrete CONTROL-BYTES CONTROL-BYTES) _ _ refl ∙ if-yes (Plain.area? (length area)) _ _ a
-      ∙ if-yes (Plain.tasks? tasks) _ _ T
+      if-yes (ℕ-discrete CONTROL-BYTES CONTROL-BYTES) _ _ refl ∙ if-yes (Plain.startArea? (length area)) _ _ a
+      ∙ if-yes (Plain.startTasks? tasks) _ _ T
 
   -- the pool with the allocation begun: no cache has a block
   abbrev begun : ℕ → Mem
   begun size = setTask t (taskOf (working (a1 (classOf size))) (λ c. [])) (startMem regions)
 
-  begins-so : (size : ℕ) → 1 ≤ size → size ≤ 256
+  begins-so : (size : ℕ) → 1 ≤ size → size ≤ LARGEST-SIZE
       → whole (call (allocate t size) (lends area)) (pool (startMem regions)) ≡ (pool (begun size), going nothing)
-  unfolding Plain.call startMem
+  unfolding Plain.plainCall startMem
   begins-so size p q =
       taken-is (Plain.beginAllocate t size (startMem regions)) (passes (startMem regions))
       ∙ ap (Plain.became (pool (startMem regions)))
       (if-no (ℕ-discrete size 0) _ _ (λ e. absurd (omega arith))
-      ∙ if-no (decLt MOST-BYTES size) _ _ (λ e. absurd (omega arith)))
+      ∙ if-no (decLt LARGEST-SIZE size) _ _ (λ e. absurd (omega arith)))
 
   -- n steps of the task
   steps-so : (n : ℕ) (m : Mem) → wholeAnswers (replicate n (call (step t) (lends area))) (pool m) ≡ taskAnswers t n m
-  unfolding Plain.call
+  unfolding Plain.plainCall
   steps-so zero m = refl
   steps-so (suc n) m =
-      ap (λ x. x .1 ∷ wholeAnswers (replicate n (call (step t) (lends area))) (x .0)) (taken-is (stepOf t m) (passes m))
+      ap (λ x. x .1 ∷ wholeAnswers (replicate n (call (step t) (lends area))) (x .0))
+      (taken-is (stepOf t m) (passes m))
       ∙ ap (λ q. stepOf t m .1 ∷ q) (steps-so n (stepOf t m .0))
 
-  -- "partial lists empty; both spare lists rising from item 0 on top"
+  -- "partial lists empty", "both spare lists rising from item 0 on top"
   unlisted : (c : ℕ) → c < CLASSES → startMem regions .row c ≡ []
   unfolding startMem
   unlisted c i =
@@ -220,7 +224,7 @@ module _ (area : List ℕ) (tasks t : ℕ) (a : Plain.Area (length area)) (T : P
       ap (λ n. rising n 0) e
 
   -- b is the last block of a region
-  finishes : (size b : ℕ) → size ≤ MOST-BYTES → suc b ≡ perRegion (classOf size)
+  finishes : (size b : ℕ) → size ≤ LARGEST-SIZE → suc b ≡ perRegion (classOf size)
       → Finishes t (unitOf 0 (classOf size) b) (b + 10) (begun size)
   finishes size b q e =
       opens t (classOf size) (λ c. []) 0 0 b (rising (DESCRIPTORS - 1) 1) (rising (regions - 1) 1) refl
@@ -228,8 +232,8 @@ module _ (area : List ℕ) (tasks t : ℕ) (a : Plain.Area (length area)) (T : P
       spare-descriptors spare-regions e
       (update-same (startMem regions .task) t (taskOf (working (a1 (classOf size))) (λ c. [])))
 
-  -- what the plain pool does is what the stepped run answers: so few events meet the premises, for they have no writes
-  carried : (size n unit : ℕ) → 1 ≤ size → size ≤ MOST-BYTES → n + 3 ≤ TAGS → Finishes t unit n (begun size)
+  -- what the plain pool does is what the stepped run answers: so few events meet the premises, since none is a write
+  carried : (size n unit : ℕ) → 1 ≤ size → size ≤ LARGEST-SIZE → n + 3 ≤ TAGS → Finishes t unit n (begun size)
       → (before : Memories)
       → map brief (steppedAnswers (allocating area tasks t size (suc n)) before) ≡ finishing (suc (suc n)) unit
   unfolding unstarted
@@ -245,23 +249,23 @@ module _ (area : List ℕ) (tasks t : ℕ) (a : Plain.Area (length area)) (T : P
       ∙ ap (λ q. (0, 0) ∷ ((0, 0) ∷ map brief q)) (steps-so (suc n) (begun size))
       ∙ ap (λ q. (0, 0) ∷ ((0, 0) ∷ q)) (told t F)
     where
-      no-writes : (n : ℕ) (s : Pool) → Writes (replicate n (call (step t) (lends area))) s
+      no-writes : (n : ℕ) (s : Pool) → WritesHeld (replicate n (call (step t) (lends area))) s
       no-writes zero s = tt
       no-writes (suc n) s = no-writes n _
 
 -- The first allocation of a size: it opens region 0 and gives the last of its n blocks, at step n + 10.
-pub first : (size b : ℕ) → 1 ≤ size → size ≤ MOST-BYTES → suc b ≡ perRegion (classOf size)
-    → Holds (first-allocation size (suc (b + 10)) (unitOf 0 (classOf size) b))
+pub first : (size b : ℕ) → 1 ≤ size → size ≤ LARGEST-SIZE → suc b ≡ perRegion (classOf size)
+    → RowHolds (first-allocation size (suc (b + 10)) (unitOf 0 (classOf size) b))
 first size b p q e area tasks t before a T l =
     carried area tasks t a T l size (b + 10) (unitOf 0 (classOf size) b) p q
     (omega (arith, perRegion-high (classOf size)))
     (finishes area tasks t a T l size b q e) before
 
-first-256 : Holds (first-allocation 256 26 480)
+first-256 : RowHolds (first-allocation 256 26 480)
 unfolding units perRegion classOf
 first-256 = first 256 15 (omega arith) (omega arith) refl
 
-first-8 : Holds (first-allocation 8 522 511)
+first-8 : RowHolds (first-allocation 8 522 511)
 unfolding units perRegion classOf
 first-8 = first 8 511 (omega arith) (omega arith) refl
 

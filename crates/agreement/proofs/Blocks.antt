@@ -15,12 +15,10 @@ use Rattle.rows.proofs.Linked.{linked-frame}
 use Rattle.rows.proofs.Totals.{total-one}
 use Rattle.rows.proofs.Update.{update-all₂}
 use Rattle.rows.proofs.Weights.{when-same}
-use Rattle.classes.specs.Classes.{counts}
 use Rattle.classes.specs.Geometry.{Block, regionOf}
 use Rattle.classes.proofs.BlockUnits.{block-first, region-is}
 use Rattle.links.specs.Link.{link, withLink}
 use Rattle.plain.specs.State.{Mem, Place}
-use Rattle.plain.specs.Steps.{at}
 use Rattle.plain.specs.Held.{classAt, underWay}
 use Rattle.plain.specs.Weights.{blockClassWeight, blockWeight, insideWeight, rowWeight}
 use Rattle.plain.proofs.Homes.{Home, home}

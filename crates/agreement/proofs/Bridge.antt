@@ -8,7 +8,7 @@ use native.Mathlib.Omega.{arith}
 use native.Mathlib.Decide.{ℕ-discrete, decLt}
 use borrow.Author.Tests.{eq-eqb, ne-eqb}
 use lib.Dec.{eqb}
-use Rattle.limits.specs.Limits.{CLASSES}
+use Rattle.limits.specs.Limits.{CLASSES, WORD-MARKS}
 use Rattle.rows.specs.Branch.{if}
 use Rattle.rows.specs.Update.{update}
 use Rattle.fields.specs.Columns.{View, _:=_, assigned}
@@ -81,37 +81,43 @@ cache-there f t c x j l n = fun-ext (λ e. go e (decLt e CLASSES))
 -- ---- the marks
 
 -- the word of the unit u's mark, with one bit changed to b, changes that mark alone
-module _ (v : View) (u b made : ℕ) (here : bitAt made (u % 64) ≡ b)
-    (others : (j : ℕ) → j ≢ u % 64 → bitAt made j ≡ bitAt (v (Marks (u / 64))) j) where
-  marks-update : (λ (w : ℕ). bitAt (cond (eqb (u / 64) (w / 64)) made (v (Marks (w / 64)))) (w % 64))
+module _ (v : View) (u b made : ℕ) (here : bitAt made (u % WORD-MARKS) ≡ b)
+    (others : (j : ℕ) → j ≢ u % WORD-MARKS → bitAt made j ≡ bitAt (v (Marks (u / WORD-MARKS))) j) where
+  marks-update : (λ (w : ℕ). bitAt (cond (eqb (u / WORD-MARKS) (w / WORD-MARKS)) made (v (Marks (w / WORD-MARKS))))
+      (w % WORD-MARKS))
       ≡ update (markOf v) u b
   unfolding update
-  marks-update = fun-ext (λ w. go w (ℕ-discrete w u) (ℕ-discrete (u / 64) (w / 64)))
+  marks-update = fun-ext (λ w. go w (ℕ-discrete w u) (ℕ-discrete (u / WORD-MARKS) (w / WORD-MARKS)))
     where
-      go : (w : ℕ) (d : Dec (w ≡ u)) (e : Dec (u / 64 ≡ w / 64))
-          → bitAt (cond (eqb (u / 64) (w / 64)) made (v (Marks (w / 64)))) (w % 64) ≡ if d b (markOf v w)
-      go w (yes d) (yes e) = rw (eq-eqb (u / 64) (w / 64) e, d) here
-      go w (yes d) (no e) = absurd (e (ap (λ (z : ℕ). z / 64) (sym d)))
+      go : (w : ℕ) (d : Dec (w ≡ u)) (e : Dec (u / WORD-MARKS ≡ w / WORD-MARKS))
+          → bitAt (cond (eqb (u / WORD-MARKS) (w / WORD-MARKS)) made (v (Marks (w / WORD-MARKS)))) (w % WORD-MARKS)
+          ≡ if d b (markOf v w)
+      go w (yes d) (yes e) = rw (eq-eqb (u / WORD-MARKS) (w / WORD-MARKS) e, d) here
+      go w (yes d) (no e) = absurd (e (ap (λ (z : ℕ). z / WORD-MARKS) (sym d)))
       go w (no d) (yes e) =
-          rw (eq-eqb (u / 64) (w / 64) e)
-          (others (w % 64) (λ z. d (omega arith)) ∙ ap (λ (k : ℕ). bitAt (v (Marks k)) (w % 64)) e)
-      go w (no d) (no e) = rw (ne-eqb (u / 64) (w / 64) e)
+          rw (eq-eqb (u / WORD-MARKS) (w / WORD-MARKS) e)
+          (others (w % WORD-MARKS) (λ z. d (omega arith)) ∙ ap (λ (k : ℕ). bitAt (v (Marks k)) (w % WORD-MARKS)) e)
+      go w (no d) (no e) = rw (ne-eqb (u / WORD-MARKS) (w / WORD-MARKS) e)
 
 pub mark-set : (v : View) (u : ℕ)
-    → (λ (w : ℕ). bitAt (cond (eqb (u / 64) (w / 64)) (withSet (v (Marks (u / 64))) (u % 64)) (v (Marks (w / 64))))
-    (w % 64))
+    → (λ (w : ℕ). bitAt (cond (eqb (u / WORD-MARKS) (w / WORD-MARKS))
+    (withSet (v (Marks (u / WORD-MARKS))) (u % WORD-MARKS)) (v (Marks (w / WORD-MARKS))))
+    (w % WORD-MARKS))
     ≡ update (markOf v) u 1
 mark-set v u =
-    marks-update v u 1 (withSet (v (Marks (u / 64))) (u % 64)) (set-here (v (Marks (u / 64))) (u % 64))
-    (set-others (v (Marks (u / 64))) (u % 64))
+    marks-update v u 1 (withSet (v (Marks (u / WORD-MARKS))) (u % WORD-MARKS))
+    (set-here (v (Marks (u / WORD-MARKS))) (u % WORD-MARKS))
+    (set-others (v (Marks (u / WORD-MARKS))) (u % WORD-MARKS))
 
 pub mark-clear : (v : View) (u : ℕ)
-    → (λ (w : ℕ). bitAt (cond (eqb (u / 64) (w / 64)) (withClear (v (Marks (u / 64))) (u % 64)) (v (Marks (w / 64))))
-    (w % 64))
+    → (λ (w : ℕ). bitAt (cond (eqb (u / WORD-MARKS) (w / WORD-MARKS))
+    (withClear (v (Marks (u / WORD-MARKS))) (u % WORD-MARKS)) (v (Marks (w / WORD-MARKS))))
+    (w % WORD-MARKS))
     ≡ update (markOf v) u 0
 mark-clear v u =
-    marks-update v u 0 (withClear (v (Marks (u / 64))) (u % 64)) (clear-here (v (Marks (u / 64))) (u % 64))
-    (clear-others (v (Marks (u / 64))) (u % 64))
+    marks-update v u 0 (withClear (v (Marks (u / WORD-MARKS))) (u % WORD-MARKS))
+    (clear-here (v (Marks (u / WORD-MARKS))) (u % WORD-MARKS))
+    (clear-others (v (Marks (u / WORD-MARKS))) (u % WORD-MARKS))
 
 -- ---- the memories
 
@@ -181,13 +187,15 @@ module _ (v : View) (S : ℕ → Slot) (area : List ℕ) where
   -- a mark that is set
   pub mark-set-written : (u : ℕ)
       → withSlots S
-      (contentsOf (assigned (Layout.Marks (u / 64) := withSet (v (Layout.Marks (u / 64))) (u % 64) ∷ []) v) area)
+      (contentsOf (assigned (Layout.Marks (u / WORD-MARKS) := withSet (v (Layout.Marks (u / WORD-MARKS)))
+      (u % WORD-MARKS) ∷ []) v) area)
       ≡ withSlots S (setMark u 1 (contentsOf v area))
   mark-set-written u = ap (λ (f : ℕ → ℕ). onEntries (withMarks f) before) (mark-set v u)
 
   -- a mark that is cleared
   pub mark-clear-written : (u : ℕ)
       → withSlots S
-      (contentsOf (assigned (Layout.Marks (u / 64) := withClear (v (Layout.Marks (u / 64))) (u % 64) ∷ []) v) area)
+      (contentsOf (assigned (Layout.Marks (u / WORD-MARKS) := withClear (v (Layout.Marks (u / WORD-MARKS)))
+      (u % WORD-MARKS) ∷ []) v) area)
       ≡ withSlots S (setMark u 0 (contentsOf v area))
   mark-clear-written u = ap (λ (f : ℕ → ℕ). onEntries (withMarks f) before) (mark-clear v u)

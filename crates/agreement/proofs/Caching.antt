@@ -57,15 +57,15 @@ module _ (v : View) (t c b n : ℕ) (l : c < CLASSES) where
   -- the task's part with that cache
   pub cache-own : slotOf (withCache t c b n v) t ≡ toCache c b n (slotOf v t)
   cache-own z = withCaches (record {
-    top = cache-here (λ i. v (Layout.Top i)) t c b l z;
-    count = cache-here (λ i. v (Layout.Count i)) t c n l z;
+    top = cache-here (λ i. v (Layout.TopOfCache i)) t c b l z;
+    count = cache-here (λ i. v (Layout.CountOfCache i)) t c n l z;
   }) (slotOf v t)
 
   -- and the other tasks' parts, as they were
   pub cache-others : (j : ℕ) → t ≢ j → slotOf (withCache t c b n v) j ≡ slotOf v j
   cache-others j d z = withCaches (record {
-    top = cache-there (λ i. v (Layout.Top i)) t c b j l d z;
-    count = cache-there (λ i. v (Layout.Count i)) t c n j l d z;
+    top = cache-there (λ i. v (Layout.TopOfCache i)) t c b j l d z;
+    count = cache-there (λ i. v (Layout.CountOfCache i)) t c n j l d z;
   }) (slotOf v j)
 
 -- The memories after own and shared writes, which made v₁ of the view v, and those of a cache's two fields: what is

@@ -15,7 +15,7 @@ use Rattle.rows.proofs.Update.{update-all, update-all₂, update-other}
 use Rattle.rows.proofs.Weights.{below-max}
 use Rattle.links.specs.Link.{link}
 use Rattle.plain.specs.State
-use Rattle.plain.specs.State.{Descriptor, Mem, Place, Task, numberOf, region, setDescriptor, setHands, setRow}
+use Rattle.plain.specs.State.{Descriptor, Mem, Place, Task, stateNumber, region, setDescriptor, setHands, setRow}
 use Rattle.plain.specs.State.{setTask}
 use Rattle.plain.specs.Held.{holdsDescriptor, holdsRegion}
 use Rattle.plain.specs.States.{IfOpen}
@@ -137,7 +137,7 @@ module _ {regions : ℕ} {a : Contents} {m : Mem} {t : ℕ} {p : Place} {k : ℕ
 
   -- ---- an anchor: the region and the class stay
   pub anchoring : (d : ℕ) (b : Anchor) (E : Descriptor) (s : Slot) (T : Task) → d < DESCRIPTORS
-      → b .state ≡ numberOf (E .state)
+      → b .state ≡ stateNumber (E .state)
       → E .region ≡ m .descriptor d .region → E .class ≡ m .descriptor d .class
       → IfOpen (E .state) (ChainRelated (link (a .area)) b E) → b .avail ≤ MOST-BLOCKS → b .count ≤ MOST-BLOCKS
       → SlotRelated regions (setSlot t s (setAnchor d b a)) (setTask t T (setDescriptor d E m)) s T

@@ -7,7 +7,7 @@ use borrow.Author.Tests.{eq-eqb, ne-eqb, lt-ltb}
 use Rattle.rows.proofs.Weights.{when-same}
 use Rattle.fields.specs.Columns.{View, _:=_, assigned}
 use Rattle.links.specs.Link.{link}
-use Rattle.plain.specs.State.{Mem, State, f4-clear, numberOf, pushing, read, release, working}
+use Rattle.plain.specs.State.{Mem, State, f4-clear, stateNumber, pushing, read, release, working}
 use Rattle.plain.specs.Steps as Steps
 use Rattle.plain.proofs.Places.{taskOf}
 use Rattle.control.specs.Layout.{Map, TaskClass, TaskDescriptor, TaskPlace, TaskRegion, TaskState, TaskUnit}
@@ -26,7 +26,7 @@ use Rattle.agreement.proofs.Writes.{entry-cleared}
 pub f4-clear-both : {regions : ℕ} {v : View} {area : List ℕ} {m : Mem} {t : ℕ} {k : ℕ → List ℕ} {z : State}
     → At regions v area m t
     (working (f4-clear (v (TaskClass t)) (v (TaskUnit t)) (v (TaskDescriptor t)) z (v (TaskRegion t)))) k
-    → v (TaskState t) ≡ numberOf z
+    → v (TaskState t) ≡ stateNumber z
     → Both regions v area m (Free.f4Clear v (link area) regions t (v (TaskClass t)))
     (Steps.stepAt t k (f4-clear (v (TaskClass t)) (v (TaskUnit t)) (v (TaskDescriptor t)) z (v (TaskRegion t))) m)
 unfolding Free.f4Clear

@@ -19,7 +19,7 @@ use Rattle.classes.proofs.Tables.{units-low}
 use Rattle.links.specs.Link.{LINK-BYTES, _⇒_, link, withLink}
 use Rattle.links.proofs.Links.{length-linked, link-other, link-same}
 use Rattle.plain.specs.State.{Mem, Place, Task, region, setTask}
-use Rattle.plain.specs.Blocks.{isBlock}
+use Rattle.plain.specs.Blocks.{countBlock}
 use Rattle.plain.specs.Held.{holdsDescriptor, holdsRegion}
 use Rattle.plain.specs.Invariant.{Invariant}
 use Rattle.plain.specs.States.{IsOpen}
@@ -54,7 +54,7 @@ valid m v h =
     let f = total-found DESCRIPTORS (insideWeight v) (m .descriptor) h in
     let g =
     open-counts (m .descriptor (f .at) .state)
-    (isBlock v (m .descriptor (f .at) .region) (m .descriptor (f .at) .class)) (f .has) in
+    (countBlock v (m .descriptor (f .at) .region) (m .descriptor (f .at) .class)) (f .has) in
     record {
       d = f .at;
       fits = f .fits;

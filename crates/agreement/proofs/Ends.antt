@@ -8,7 +8,8 @@ use native.Mathlib.Omega.{arith}
 use borrow.Author.Tests.{eq-eqb, le-leb, lt-ltb, eqb-false, ltb-true, ltb-false}
 use lib.Dec.{eqb, leb, ltb}
 use lib.ListN.{length}
-use Rattle.limits.specs.Limits.{CONTROL-BYTES, REGION-BYTES, AREA-BYTES, TASKS, CLASSES, DESCRIPTORS, MOST-BYTES}
+use Rattle.limits.specs.Limits.{CONTROL-BYTES, REGION-BYTES, AREA-BYTES, TASKS, CLASSES, DESCRIPTORS, LARGEST-SIZE}
+use Rattle.limits.specs.Limits.{WORD-MARKS}
 use Rattle.fields.specs.Columns.{View, Write, _:=_}
 use Rattle.links.specs.Link.{LinkWrite, link, linked}
 use Rattle.words.specs.Head.{itemOf, advancedWord}
@@ -20,7 +21,7 @@ use Rattle.plain.specs.Moves.{Decided, found-empty, pushed}
 use Rattle.control.specs.Layout.{Head, TaskHead, Anchor, Marks, TaskPlace, TaskClass, DescriptorRegion, DescriptorClass}
 use Rattle.control.specs.Layout.{Map, Regions, seen, changed}
 use Rattle.control.specs.Places.{IDLE, PLACES}
-use Rattle.plain.specs.Calls.{Call, start, allocate, free, step}
+use Rattle.plain.specs.Calls.{Call, start, allocate, free, step, Start, Lengths}
 use Rattle.control.specs.declared.answer.Answer.{Answer}
 use Rattle.control.specs.declared.answer.Answer.the-variants.{Accepted, Allocated, Freed, NoDescriptor, NoRegion}
 use Rattle.control.specs.declared.answer.Answer.the-variants.{Refused}
@@ -37,7 +38,7 @@ use Rattle.stepped.specs.Calls as Calls
 use Rattle.agreement.specs.Ends.{WritesNothing, Leaves, oneOf, testRefusals, allocateRefusals, freeRefusals}
 use Rattle.agreement.specs.Ends.{placeRefusals, stepRefusals, Begins, Goes, StartEnds, BeginEnds, StepEnds}
 use Rattle.agreement.specs.Ends.{FindsEmpty, WinsPush, InPush, placeAfter, IsEnd, BegunOutcome}
-use Rattle.stepped.specs.Calls.{Tested, Lent}
+use Rattle.stepped.specs.Calls.{Tested, Lent, lengths}
 use Rattle.agreement.proofs.Ways.{branch, accepted-no, more, tests, passed, Cause, Ending, CallEnding, refused}
 use Rattle.agreement.proofs.Ways.{going, ended, at-call, sent}
 use Rattle.agreement.proofs.StepWays.{step-at}
@@ -52,9 +53,11 @@ begins-no-end ns NoRegion b i = b
 begins-no-end ns (Refused n) b i = i
 
 -- an outcome that writes nothing where it is refused leaves both memories as they were
-pub leaves : (o : Outcome) (control area : List ℕ) → WritesNothing o → Leaves (effect o control area) control area
-leaves o control area h n e =
-    (ap (λ (ws : List Write). changed ws control) (h n e .0), ap (λ (ls : List LinkWrite). linked ls area) (h n e .1))
+pub leaves : (o : Outcome) (s : Memories) → WritesNothing o → Leaves (effect o s) s
+leaves o s h n e = (
+  ap (λ (ws : List Write). changed ws (s .control)) (h n e .0),
+  ap (λ (ls : List LinkWrite). linked ls (s .area)) (h n e .1),
+)
 
 -- ---- beginnings
 
@@ -68,24 +71,25 @@ begin-ends (denied h) = record { nothing = λ n e. (refl, refl); answers = h }
 begin-ends begun = record { nothing = λ n e. absurd (accepted-no e); answers = tt }
 
 -- the tests, and "6 the task has a request in hand"
-begin-tests : (P : Outcome → Type 0) (control area : ℕ) (v : View) (t : ℕ) (x : Outcome) (ms : List ℕ)
+begin-tests : (P : Outcome → Type 0) (lent : Lengths) (v : View) (t : ℕ) (x : Outcome) (ms : List ℕ)
     → ((n : ℕ) → oneOf (testRefusals ++ (6 ∷ ms)) n ≡ true → P (refuse n)) → P x
-    → P (Calls.tested control area v t (Calls.whenIdle v t x))
+    → P (Calls.tested lent v t (Calls.whenIdle v t x))
 unfolding Calls.whenIdle
-begin-tests P control area v t x ms r k =
-    tests P control area v t _ (λ n h. r n (more testRefusals (6 ∷ ms) n h))
+begin-tests P lent v t x ms r k =
+    tests P lent v t _ (λ n h. r n (more testRefusals (6 ∷ ms) n h))
     (λ T. branch P (ltb (v (TaskPlace t)) PLACES) (λ e. branch P (eqb (v (TaskPlace t)) IDLE) (λ f. k) (λ f. r 6 refl))
     (λ e. r 14 refl))
 
-module _ (control area : ℕ) (v : View) (t : ℕ) where
-  pub allocate-ends : (size : ℕ) → BeginEnds allocateRefusals (Calls.allocateOutcome control area v t size)
+module _ (lent : Lengths) (v : View) (t : ℕ) where
+  pub allocate-ends : (size : ℕ) → BeginEnds allocateRefusals (Calls.allocateOutcome lent v t size)
   unfolding Calls.allocateOutcome Calls.beginAllocate
   allocate-ends size =
       let P = Beginning allocateRefusals in
-      begin-ends (begin-tests P control area v t _ (8 ∷ 9 ∷ []) (λ n h. denied h)
-      (branch P (eqb size 0) (λ e. denied refl) (λ e. branch P (ltb MOST-BYTES size) (λ f. denied refl) (λ f. begun))))
+      begin-ends (begin-tests P lent v t _ (8 ∷ 9 ∷ []) (λ n h. denied h)
+      (branch P (eqb size 0) (λ e. denied refl) (λ e. branch P (ltb LARGEST-SIZE size) (λ f. denied refl)
+      (λ f. begun))))
 
-  pub free-ends : (u : ℕ) → BeginEnds freeRefusals (Calls.freeOutcome control area v t u)
+  pub free-ends : (u : ℕ) → BeginEnds freeRefusals (Calls.freeOutcome lent v t u)
   unfolding Calls.freeOutcome Calls.beginFree Calls.freeEntry Calls.freeBy Calls.freeOpen Calls.freeMarked
   free-ends u =
       let P = Beginning freeRefusals in
@@ -94,28 +98,28 @@ module _ (control area : ℕ) (v : View) (t : ℕ) where
       let a = v (Anchor d) in
       let r = v (DescriptorRegion d) in
       let c = v (DescriptorClass d) in
-      begin-ends (begin-tests P control area v t _ (10 ∷ 11 ∷ []) (λ n h. denied h)
+      begin-ends (begin-tests P lent v t _ (10 ∷ 11 ∷ []) (λ n h. denied h)
       (branch P (ltb (regionOf u) (v Regions)) (λ e.
       branch P (eqb entry 0) (λ f. denied refl) (λ f. branch P (leb entry DESCRIPTORS) (λ f.
       branch P (ltb r (v Regions)) (λ g. branch P (eqb r (regionOf u)) (λ h.
       branch P (isAnchor a) (λ i. branch P (eqb (anchorOf a .state) EMPTY) (λ j. denied refl) (λ j.
       branch P (ltb c CLASSES) (λ k. branch P (isFirst c u) (λ l.
-      branch P (isSet (v (Marks (u / 64))) (u % 64)) (λ m. begun) (λ m. denied refl))
+      branch P (isSet (v (Marks (u / WORD-MARKS))) (u % WORD-MARKS)) (λ m. begun) (λ m. denied refl))
       (λ l. denied refl)) (λ k. denied refl))) (λ i. denied refl)) (λ h. denied refl)) (λ g. denied refl))
       (λ f. denied refl)))
       (λ e. denied refl)))
 
   -- a size that is accepted has the smallest class that holds it, and that class is written
-  pub smallest-class : (size : ℕ) → Calls.allocateOutcome control area v t size .answer ≡ Accepted
-      → BegunOutcome t size (Calls.allocateOutcome control area v t size)
+  pub smallest-class : (size : ℕ) → Calls.allocateOutcome lent v t size .answer ≡ Accepted
+      → BegunOutcome t size (Calls.allocateOutcome lent v t size)
   unfolding Calls.allocateOutcome Calls.beginAllocate
   smallest-class size =
       let P : Outcome → Type 0 = λ o. o .answer ≡ Accepted → BegunOutcome t size o in
-      begin-tests P control area v t _ [] (λ n h e. absurd (accepted-no (sym e)))
+      begin-tests P lent v t _ [] (λ n h e. absurd (accepted-no (sym e)))
       (branch P (eqb size 0) (λ e f. absurd (accepted-no (sym f))) (λ e.
-      branch P (ltb MOST-BYTES size) (λ f g. absurd (accepted-no (sym g))) (λ f g.
+      branch P (ltb LARGEST-SIZE size) (λ f g. absurd (accepted-no (sym g))) (λ f g.
       let z : size ≢ 0 = eqb-false size 0 e in
-      let l : size ≤ MOST-BYTES = ltb-false MOST-BYTES size f in
+      let l : size ≤ LARGEST-SIZE = ltb-false LARGEST-SIZE size f in
       record {
         from = omega arith;
         to = l;
@@ -127,15 +131,14 @@ module _ (control area : ℕ) (v : View) (t : ℕ) where
 
 -- ---- start
 
-pub start-ends : (size : ℕ) (area : List ℕ) (tasks : ℕ) (control before : List ℕ)
-    → StartEnds control before (Calls.startIn size area tasks control before)
+pub start-ends : (b : Start) (lent : Lent) (s : Memories) → StartEnds s (Calls.startIn b lent s)
 unfolding Calls.startIn
-start-ends size area tasks control before =
-    let P = StartEnds control before in
-    let bytes = length area in
-    branch P (eqb size CONTROL-BYTES) (λ e.
+start-ends b lent s =
+    let P = StartEnds s in
+    let bytes = length (lent .area) in
+    branch P (eqb (lent .control) CONTROL-BYTES) (λ e.
     branch P (eqb (bytes % REGION-BYTES) 0 && oneTo AREA-BYTES bytes) (λ f.
-    branch P (oneTo TASKS tasks) (λ g. record { leaves = λ n h. absurd (accepted-no h); answers = tt })
+    branch P (oneTo TASKS (b .tasks)) (λ g. record { leaves = λ n h. absurd (accepted-no h); answers = tt })
     (λ g. record { leaves = λ n h. (refl, refl); answers = refl }))
     (λ f. record { leaves = λ n h. (refl, refl); answers = refl }))
     (λ e. record { leaves = λ n h. (refl, refl); answers = refl })
@@ -179,16 +182,16 @@ module _ {v : View} {t : ℕ} where
   came (going h) i = ⊎-map (λ f. (f, λ n. accepted-no)) (λ p. p) (h i)
   came (ended k h) i = absurd (omega arith)
 
-module _ (control area : ℕ) (v : View) (link : ℕ → ℕ) (t : ℕ) where
+module _ (lent : Lengths) (v : View) (link : ℕ → ℕ) (t : ℕ) where
   abbrev o : Outcome
-  o = Calls.stepOutcome control area v link t
+  o = Calls.stepOutcome lent v link t
 
   ending : CallEnding v t o
-  unfolding Calls.stepOutcome Steps.step
+  unfolding Calls.stepOutcome Steps.stepOf
   ending =
       let P = CallEnding v t in
       let c = v (TaskClass t) in
-      tests P control area v t _ (λ n h. refused (more testRefusals (7 ∷ []) n h))
+      tests P lent v t _ (λ n h. refused (more testRefusals (7 ∷ []) n h))
       (λ T. branch P (ltb IDLE (v (TaskPlace t)))
       (λ e. branch P (ltb c CLASSES)
       (λ f. at-call (step-at v link t (ltb-true c CLASSES f) (ltb-true IDLE (v (TaskPlace t)) e)))
@@ -196,21 +199,21 @@ module _ (control area : ℕ) (v : View) (link : ℕ → ℕ) (t : ℕ) where
       (λ e. refused refl))
 
   -- a step that is not refused has passed the tests
-  not-refused : ((n : ℕ) → o .answer ≢ Refused n) → Tested control area v t
+  not-refused : ((n : ℕ) → o .answer ≢ Refused n) → Tested lent v t
   unfolding Calls.stepOutcome
   not-refused =
-      tests (λ x. ((n : ℕ) → x .answer ≢ Refused n) → Tested control area v t) control area v t _
+      tests (λ x. ((n : ℕ) → x .answer ≢ Refused n) → Tested lent v t) lent v t _
       (λ n h k. absurd (k n refl)) (λ T k. T)
 
-  end-passed : (a : Answer) → IsEnd a → o .answer ≡ a → Tested control area v t
+  end-passed : (a : Answer) → IsEnd a → o .answer ≡ a → Tested lent v t
   end-passed a i e = not-refused (λ n f. subst IsEnd (sym e ∙ f) i)
 
   -- a step that passes the tests is that of its place
-  at-place : {place : ℕ} → Tested control area v t → v (TaskPlace t) ≡ place → 1 ≤ place → v (TaskClass t) < CLASSES
+  at-place : {place : ℕ} → Tested lent v t → v (TaskPlace t) ≡ place → 1 ≤ place → v (TaskClass t) < CLASSES
       → o ≡ Steps.stepAt v link (v Regions) t (v (TaskClass t)) place
-  unfolding Calls.stepOutcome Steps.step
+  unfolding Calls.stepOutcome Steps.stepOf
   at-place T e l h =
-      passed control area v t _ T
+      passed lent v t _ T
       ∙ rw (lt-ltb IDLE (v (TaskPlace t)) (omega arith), lt-ltb (v (TaskClass t)) CLASSES h, e)
 
   -- the step at the place of a task that is not idle is refused by 14 alone
@@ -245,7 +248,7 @@ module _ (control area : ℕ) (v : View) (link : ℕ → ℕ) (t : ℕ) where
       )
 
   -- "Pop a spare descriptor. Empty: end with 12."
-  pub no-descriptor : (o .answer ≡ NoDescriptor) ↔ (Tested control area v t × FindsEmpty Spare v t)
+  pub no-descriptor : (o .answer ≡ NoDescriptor) ↔ (Tested lent v t × FindsEmpty Spare v t)
   unfolding Steps.stepAt
   no-descriptor = (
     λ e. (end-passed NoDescriptor tt e, cause ending NoDescriptor tt e),
@@ -254,7 +257,7 @@ module _ (control area : ℕ) (v : View) (link : ℕ → ℕ) (t : ℕ) where
   )
 
   -- "Pop a spare region. Empty: push the descriptor back; the request ends with 13 at that won exchange."
-  pub no-region : (o .answer ≡ NoRegion) ↔ (Tested control area v t × WinsPush Back v t)
+  pub no-region : (o .answer ≡ NoRegion) ↔ (Tested lent v t × WinsPush Back v t)
   unfolding Steps.stepAt
   no-region = (
     λ e. (end-passed NoRegion tt e, cause ending NoRegion tt e),
@@ -263,7 +266,7 @@ module _ (control area : ℕ) (v : View) (link : ℕ → ℕ) (t : ℕ) where
   )
 
   -- a task that finds the list of spare regions empty goes to the head read of the push back
-  pub to-back : Tested control area v t → FindsEmpty Region v t → placeAfter o v t ≡ pushPlace Back
+  pub to-back : Tested lent v t → FindsEmpty Region v t → placeAfter o v t ≡ pushPlace Back
   unfolding Steps.stepAt
   to-back T F =
       ap (λ (x : Outcome). placeAfter x v t) (at-place T (F .place) (omega arith) (F .class) ∙ finds-empty Region F)
@@ -271,7 +274,7 @@ module _ (control area : ℕ) (v : View) (link : ℕ → ℕ) (t : ℕ) where
 
   -- a task that is at no place of the push back comes to one exactly if it finds the list of spare regions empty
   pub put-back : (InPush Back (v (TaskPlace t)) → ⊥)
-      → InPush Back (placeAfter o v t) ↔ (Tested control area v t × FindsEmpty Region v t)
+      → InPush Back (placeAfter o v t) ↔ (Tested lent v t × FindsEmpty Region v t)
   put-back out = (
     λ i. ⊎-elim (λ f. (not-refused (f .1), f .0)) (λ j. absurd (out j)) (came ending i),
     λ h. omega (arith, to-back (h .0) (h .1)),
@@ -279,20 +282,15 @@ module _ (control area : ℕ) (v : View) (link : ℕ → ℕ) (t : ℕ) where
 
 -- ---- the bytes that a refused call leaves
 
-pub effect-leaves : (k : Call) (lent : Lent) (s : Memories) → Leaves (Calls.effectIn k lent s) (s .control) (s .area)
-effect-leaves (start b) lent s = start-ends (lent .control) (lent .area) (b .tasks) (s .control) (s .area) .leaves
+pub effect-leaves : (k : Call) (lent : Lent) (s : Memories) → Leaves (Calls.effectIn k lent s) s
+effect-leaves (start b) lent s = start-ends b lent s .leaves
 effect-leaves (allocate t size) lent s =
-    let c = lent .control in
-    let a = length (lent .area) in
-    leaves (Calls.allocateOutcome c a (seen (s .control)) t size) (s .control) (s .area)
-    (allocate-ends c a (seen (s .control)) t size .nothing)
+    let v = seen (s .control) in
+    leaves (Calls.allocateOutcome (lengths lent) v t size) s (allocate-ends (lengths lent) v t size .nothing)
 effect-leaves (free t u) lent s =
-    let c = lent .control in
-    let a = length (lent .area) in
-    leaves (Calls.freeOutcome c a (seen (s .control)) t u) (s .control) (s .area)
-    (free-ends c a (seen (s .control)) t u .nothing)
+    let v = seen (s .control) in
+    leaves (Calls.freeOutcome (lengths lent) v t u) s (free-ends (lengths lent) v t u .nothing)
 effect-leaves (step t) lent s =
-    let c = lent .control in
-    let a = length (lent .area) in
-    leaves (Calls.stepOutcome c a (seen (s .control)) (link (s .area)) t) (s .control) (s .area)
-    (step-ends c a (seen (s .control)) (link (s .area)) t .nothing)
+    let v = seen (s .control) in
+    leaves (Calls.stepOutcome (lengths lent) v (link (s .area)) t) s
+    (step-ends (lengths lent) v (link (s .area)) t .nothing)

@@ -25,7 +25,8 @@ use Rattle.stepped.specs.Calls.{Lent, lengths}
 use Rattle.agreement.specs.Events.{Event, call, write, Premises, Unstarted}
 use Rattle.agreement.specs.Reached.{starting}
 use Rattle.agreement.specs.Agreement.{Agree}
-use Rattle.agreement.proofs.Runs.{steppedAnswers, wholeAnswers, answered, after, Writes, writes?, found, short}
+use Rattle.agreement.proofs.Runs.{steppedAnswers, wholeAnswers, answered, after, WritesHeld, writesHeld?, found}
+use Rattle.agreement.proofs.Runs.{short}
 use Rattle.agreement.proofs.Theorem.{agreement}
 
 -- ---- the lines of the schedule: two regions, three tasks
@@ -52,12 +53,12 @@ abbrev pub writes : ℕ → ℕ → List Event
 writes at b = write at b ∷ []
 
 -- a line, and what its calls answer beside code 0 with nothing decided
-abbrev pub Line : Type 0
-Line = List Event × List Answer
+abbrev pub ExampleLine : Type 0
+ExampleLine = List Event × List Answer
 
 -- A list of partial descriptors has the number of its class. Blocks of 256 bytes are class 15, with n = 16; block i of
 -- region r is the unit 512 × r + 32 × i.
-abbrev pub contention : List Line
+abbrev pub contention : List ExampleLine
 contention =
     -- Tasks 0 and 1 begin alike: each has read the head of the spare descriptors and the next of the top one.
     (allocates 0 256, [])
@@ -99,7 +100,7 @@ contention =
     ∷ (steps 2 18, going (took 1) ∷ finished 960 ∷ [])
     ∷ []
 
-abbrev pub closing : List Line
+abbrev pub closing : List ExampleLine
 closing =
     -- Task 2 gets all 16 blocks of region 1 in its cache. A block of region 0 finds it full, and all 16 go back in one
     -- group: FULL, then EMPTY. Region 1 is closed and spare; its descriptor is offered though it is EMPTY.
@@ -113,7 +114,7 @@ closing =
     ∷ (steps 2 29, going (gave 1) ∷ going (pushed SPARE-REGIONS 1) ∷ going (pushed 15 1) ∷ finished 0 ∷ [])
     ∷ []
 
-abbrev pub reopening : List Line
+abbrev pub reopening : List ExampleLine
 reopening =
     -- Region 1 is opened again, for blocks of 224 bytes, class 14; the user writes the first and the last byte of one.
     (allocates 0 224, [])
@@ -136,7 +137,7 @@ reopening =
     ∷ (steps 1 4, going (found-empty 13) ∷ [])
     ∷ []
 
-abbrev pub meanwhile : List Line
+abbrev pub meanwhile : List ExampleLine
 meanwhile =
     -- Task 2 pops descriptor 1, finds no spare region, pushes it back and ends with 13: it is on top again.
     (allocates 2 160, [])
@@ -144,7 +145,7 @@ meanwhile =
     ∷ (steps 2 3, ended 13 (pushed SPARE-DESCRIPTORS 1) ∷ [])
     ∷ []
 
-abbrev pub ending : List Line
+abbrev pub ending : List ExampleLine
 ending =
     -- Task 1 loses its exchange, though the item is the one that it noted; it tries again and ends with 13.
     (steps 1 1, going (lost SPARE-DESCRIPTORS) ∷ [])
@@ -152,7 +153,7 @@ ending =
     ∷ (steps 1 3, ended 13 (pushed SPARE-DESCRIPTORS 1) ∷ [])
     ∷ []
 
-abbrev pub schedule : List Line
+abbrev pub schedule : List ExampleLine
 schedule = contention ++ (closing ++ (reopening ++ (meanwhile ++ ending)))
 
 -- ---- its events and its answers
@@ -161,11 +162,11 @@ abbrev pub joined : {A : Type 0} → List (List A) → List A
 joined [] = []
 joined (q ∷ qs) = q ++ joined qs
 
-abbrev pub events : List Line → List Event
-events ls = joined (map (λ (l : Line). l .0) ls)
+abbrev pub events : List ExampleLine → List Event
+events ls = joined (map (λ (l : ExampleLine). l .0) ls)
 
-abbrev pub answers : List Line → List Answer
-answers ls = joined (map (λ (l : Line). l .1) ls)
+abbrev pub answers : List ExampleLine → List Answer
+answers ls = joined (map (λ (l : ExampleLine). l .1) ls)
 
 -- without code 0 with nothing decided
 abbrev pub toldBy : ℕ → Decided → Answer → List Answer → List Answer
@@ -190,11 +191,11 @@ three = record { tasks = 3 }
 
 -- the pool of three tasks and two regions
 abbrev started : Pool
-started = Plain.call (start three) (lengths lent) unstarted .0
+started = Plain.plainCall (start three) (lengths lent) unstarted .0
 
 -- the run as it is told above is that of the plain pool
 pub told-whole : told (wholeAnswers (events schedule) started) ≡ answers schedule
-unfolding Plain.call stepOf startMem rising units perRegion update ℕ-discrete decLt decLe both unstarted classOf
+unfolding Plain.plainCall stepOf startMem rising units perRegion update ℕ-discrete decLt decLe both unstarted classOf
 told-whole = refl
 
 -- ---- what stands in the plain pool between the parts
@@ -213,7 +214,7 @@ reopened = after (events reopening) closed
 pub region-closed :
     (contended .mem .descriptor 1 .state ≡ FULL) × (closed .mem .descriptor 1 .state ≡ EMPTY) × (closed .mem .map 1 ≡ 0)
     × (closed .mem .row SPARE-REGIONS ≡ 1 ∷ []) × (reopened .mem .map 1 ≡ 3) × (reopened .mem .descriptor 2 .class ≡ 14)
-unfolding Plain.call stepOf startMem rising units perRegion update ℕ-discrete decLt decLe both unstarted classOf
+unfolding Plain.plainCall stepOf startMem rising units perRegion update ℕ-discrete decLt decLe both unstarted classOf
 region-closed = (refl, refl, refl, refl, refl, refl)
 
 abbrev returned : Pool
@@ -228,7 +229,7 @@ pub head-returned :
     × (returned .mem .won SPARE-DESCRIPTORS ≡ 6)
     × (reopened .mem .row SPARE-DESCRIPTORS ≡ 1 ∷ rising 61 3)
     × (returned .mem .row SPARE-DESCRIPTORS ≡ 1 ∷ rising 61 3)
-unfolding Plain.call stepOf startMem rising units perRegion update ℕ-discrete decLt decLe both unstarted classOf
+unfolding Plain.plainCall stepOf startMem rising units perRegion update ℕ-discrete decLt decLe both unstarted classOf
 head-returned = (refl, refl, refl, refl, refl, refl)
 
 -- ---- the premises are met, and the agreement holds of it
@@ -238,9 +239,10 @@ abbrev pub scheduleOn : List ℕ → List Event
 scheduleOn area = starting three area ∷ events schedule
 
 -- every write is into a block in a user's hands
-writes-held : Writes (events schedule) started
-unfolding Plain.call stepOf startMem rising units perRegion update ℕ-discrete decLt decLe both unstarted classOf writes?
-writes-held = found (writes? (events schedule) started) tt
+writes-held : WritesHeld (events schedule) started
+unfolding Plain.plainCall stepOf startMem rising units perRegion update ℕ-discrete decLt decLe both unstarted classOf
+    writesHeld?
+writes-held = found (writesHeld? (events schedule) started) tt
 
 few : length (events schedule) ≡ 239
 few = refl
@@ -251,7 +253,7 @@ premises area h = (
   tt,
   subst
       (λ (n : ℕ). Premises (events schedule)
-      (Plain.call (start three) (record { control = CONTROL-BYTES; area = n }) unstarted .0)) (sym h)
+      (Plain.plainCall (start three) (record { control = CONTROL-BYTES; area = n }) unstarted .0)) (sym h)
       (short 1 (events schedule) started (most 0 (start three) (lengths lent) unstarted (λ k. absurd (omega arith)))
       (omega (arith, few)) writes-held),
 )
@@ -262,7 +264,7 @@ pub record Example (area : List ℕ) (s₁ : Memories) : Type 0 where
   pub tells : told (steppedAnswers (scheduleOn area) s₁) ≡ answers schedule
 
 pub example : (area : List ℕ) (s₁ : Memories) → length area ≡ AREA → Unstarted s₁ → Example area s₁
-unfolding Plain.call unstarted ℕ-discrete both decLt
+unfolding Plain.plainCall unstarted ℕ-discrete both decLt
 example area s₁ h U =
     let p = premises area h in
     record {
@@ -270,7 +272,7 @@ example area s₁ h U =
       tells =
           ap told (answered (scheduleOn area) s₁ U p)
           ∙ subst (λ (n : ℕ).
-          let x = Plain.call (start three) (record { control = CONTROL-BYTES; area = n }) unstarted in
+          let x = Plain.plainCall (start three) (record { control = CONTROL-BYTES; area = n }) unstarted in
           told (x .1 ∷ wholeAnswers (events schedule) (x .0)) ≡ answers schedule)
           (sym h) told-whole;
     }

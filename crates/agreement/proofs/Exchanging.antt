@@ -12,13 +12,14 @@ use Rattle.rows.specs.Linked.{Linked}
 use Rattle.rows.proofs.Linked.{linked-append, linked-append-one}
 use Rattle.fields.specs.Columns.{Sound, View, Write, _:=_, assigned}
 use Rattle.links.specs.Link.{link}
-use Rattle.words.specs.Anchor.{Fields, anchorOf, anchorWord, returned}
+use Rattle.words.specs.Anchor.{AnchorFits, anchorOf, anchorWord, returned}
 use Rattle.words.specs.declared.anchor.Anchor as Declared
 use Rattle.words.proofs.Anchors.{anchor-below, anchor-of-word, returned-fits}
 use Rattle.classes.specs.Classes.{perRegion}
 use Rattle.classes.specs.Geometry.{indexOf, regionOf}
 use Rattle.classes.proofs.Tables.{perRegion-high}
-use Rattle.plain.specs.State.{EMPTY, PARTIAL, Mem, Note, Place, State, f1, f2, f3-exchange, f3-read, f4-clear, numberOf}
+use Rattle.plain.specs.State.{EMPTY, PARTIAL, Mem, Note, Place, State, f1, f2, f3-exchange, f3-read, f4-clear}
+use Rattle.plain.specs.State.{stateNumber}
 use Rattle.plain.specs.State.{offer, pushing, read, setDescriptor, working}
 use Rattle.plain.specs.Moves.{gave, going}
 use Rattle.plain.specs.Steps.{asNoted?, chained}
@@ -42,7 +43,7 @@ use Rattle.stepped.proofs.Conjunction.{both-true}
 use Rattle.agreement.proofs.Both.{Both, decide, meet, miss, pass}
 use Rattle.agreement.proofs.Turns.{At, goes}
 use Rattle.agreement.proofs.Following.{five}
-use Rattle.agreement.proofs.Writes.{Writes, anchor-exchanged}
+use Rattle.agreement.proofs.Writes.{OwnWrites, anchor-exchanged}
 use Rattle.agreement.proofs.Notes.{SameAnchor, anchor-word-same, number-max, same-anchor-word, re-note}
 use Rattle.agreement.proofs.Notes.{same-unmoved, unmoved-same}
 use Rattle.agreement.proofs.Noting.{note-anchor, note-room}
@@ -92,7 +93,7 @@ module _ {regions : ℕ} {v : View} {area : List ℕ} {m : Mem} {t : ℕ} {k : �
   first-fits : v (GroupFirst t) < perRegion c
   first-fits = first-below (w .pair) G (λ z. omega arith) refl (placeHolds (w .pair .turn) .2)
 
-  new-fits : Fields new
+  new-fits : AnchorFits new
   new-fits =
       returned-fits (anchorOf a) (v (GroupFirst t)) h (perRegion c)
       (omega (arith, first-fits, perRegion-high c))
@@ -114,15 +115,15 @@ module _ {regions : ℕ} {v : View} {area : List ℕ} {m : Mem} {t : ℕ} {k : �
         (own .class) (chain-of .linked)))
 
     -- the relation after it, where the anchor's state is now z and the task goes to the place p
-    gives : (z : State) → new .state ≡ numberOf z
+    gives : (z : State) → new .state ≡ stateNumber z
         → IfOpen z (ChainRelated (link area) new (chained (m .descriptor d) z J))
         → (v′ : View) (s : Slot) (p : Place)
-        → Writes v v′ area t s (setAnchor d (anchorOf (anchorWord new)) (contentsOf v area))
+        → OwnWrites v v′ area t s (setAnchor d (anchorOf (anchorWord new)) (contentsOf v area))
         → s .class ≡ slotOf v t .class → s .caches ≡ slotOf v t .caches
         → PlaceRelated regions (setSlot t s (setAnchor d (anchorOf (anchorWord new)) (contentsOf v area)))
-        (Steps.at t k p (setDescriptor d (chained (m .descriptor d) z J) m)) s p
+        (Steps.atPlace t k p (setDescriptor d (chained (m .descriptor d) z J) m)) s p
         → Related regions (contentsOf v′ area)
-        (Steps.at t k p (setDescriptor d (chained (m .descriptor d) z J) m))
+        (Steps.atPlace t k p (setDescriptor d (chained (m .descriptor d) z J) m))
     gives z e i v′ s p b f f₁ pl =
         let W = anchor-of-word new new-fits in
         anchor-exchanged w v′ s (taskOf p k) d (anchorWord new) (chained (m .descriptor d) z J) b
@@ -145,7 +146,7 @@ module _ {regions : ℕ} {v : View} {area : List ℕ} {m : Mem} {t : ℕ} {k : �
     part i = toPlace i (toState (anchorOf a .state) (slotOf v t))
 
     place-written : (i : ℕ)
-        → Writes v (assigned (TaskPlace t := i ∷ ws) v) area t (part i)
+        → OwnWrites v (assigned (TaskPlace t := i ∷ ws) v) area t (part i)
         (setAnchor d (anchorOf (anchorWord new)) (contentsOf v area))
     place-written i = record {
       shared = anchor-written v (slotOf (assigned (TaskPlace t := i ∷ ws) v)) area d (anchorWord new);
@@ -157,7 +158,7 @@ module _ {regions : ℕ} {v : View} {area : List ℕ} {m : Mem} {t : ℕ} {k : �
     whole : length J ≡ perRegion c
         → Both regions v area m
         (Free.f3Won v (link area) regions t c d a (v (GroupFirst t)) h) (
-          Steps.at t k (working (f4-clear c u d (n .state) (regionOf y)))
+          Steps.atPlace t k (working (f4-clear c u d (n .state) (regionOf y)))
               (setDescriptor d (chained (m .descriptor d) EMPTY J) m),
           going (gave d),
         )
@@ -178,7 +179,7 @@ module _ {regions : ℕ} {v : View} {area : List ℕ} {m : Mem} {t : ℕ} {k : �
     some : (length J ≡ perRegion c → ⊥)
         → Both regions v area m
         (Free.f3Won v (link area) regions t c d a (v (GroupFirst t)) h) (
-          Steps.to t k (Steps.f5 (n .state) (k c) c u d)
+          Steps.atWork t k (Steps.f5 (n .state) (k c) c u d)
               (setDescriptor d (chained (m .descriptor d) PARTIAL J) m),
           going (gave d),
         )
@@ -202,7 +203,7 @@ module _ {regions : ℕ} {v : View} {area : List ℕ} {m : Mem} {t : ℕ} {k : �
     won : (e : Dec (length J ≡ perRegion c))
         → Both regions v area m
         (Free.f3Won v (link area) regions t c d a (v (GroupFirst t)) h)
-        (Steps.returned t k e c u y g d (n .state) m)
+        (Steps.f3Won t k e c u y g d (n .state) m)
     won (yes e) = whole e
     won (no e) = some e
 

@@ -23,7 +23,7 @@ use Rattle.links.specs.Link.{link}
 use Rattle.plain.specs.State.{Place, a1, a4, a8, Mem, working}
 use Rattle.plain.specs.Moves.{nothing, going}
 use Rattle.plain.specs.Steps as Steps
-use Rattle.plain.specs.Blocks.{blocksFrom, isBlock}
+use Rattle.plain.specs.Blocks.{blocksFrom, countBlock}
 use Rattle.plain.specs.Held.{underWay}
 use Rattle.plain.proofs.Blocks.{counts-block}
 use Rattle.plain.proofs.Owners.{home-of}
@@ -121,7 +121,7 @@ module _ {regions : ℕ} {v : View} {area : List ℕ} {m : Mem} {t : ℕ} {k : �
   move-both : (x : ℕ) (q : List ℕ) → At regions v area m t (working (a4 (v (TaskClass t)) x q)) k → v (TaskPlace t) ≡ A4
       → Linked (link area) (indexOf (v (TaskClass t))) (perRegion (v (TaskClass t))) (link area x) q
       → v (TaskLeft t) ≡ suc (length q)
-      → ((y : ℕ) → count y (x ∷ q) ≤ isBlock y (v (TaskRegion t)) (v (TaskClass t)))
+      → ((y : ℕ) → count y (x ∷ q) ≤ countBlock y (v (TaskRegion t)) (v (TaskClass t)))
       → Both regions v area m
       (Allocate.a4Move v (link area) regions t (v (TaskClass t)) x (v (TaskLeft t)) (v (CacheCount t (v (TaskClass t))))
       (v (CacheTop t (v (TaskClass t)))))
@@ -158,7 +158,7 @@ module _ {regions : ℕ} {v : View} {area : List ℕ} {m : Mem} {t : ℕ} {k : �
       → v (TaskPlace t) ≡ A4
       → Linked (link area) (indexOf (v (TaskClass t))) (perRegion (v (TaskClass t))) (v (TaskIndex t)) (x ∷ q)
       → v (TaskLeft t) ≡ suc (length q)
-      → ((y : ℕ) → count y (x ∷ q) ≤ isBlock y (v (TaskRegion t)) (v (TaskClass t)))
+      → ((y : ℕ) → count y (x ∷ q) ≤ countBlock y (v (TaskRegion t)) (v (TaskClass t)))
       → Both regions v area m (Allocate.a4 v (link area) regions t (v (TaskClass t)))
       (Steps.stepAt t k (a4 (v (TaskClass t)) x q) m)
   unfolding Allocate.a4

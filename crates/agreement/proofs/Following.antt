@@ -9,7 +9,8 @@ use lib.ListN.{length}
 use Rattle.fields.specs.Columns.{View, Write, _:=_, assigned, Sound}
 use Rattle.fields.proofs.Layouts.{assigned-same}
 use Rattle.classes.specs.Classes.{perRegion}
-use Rattle.plain.specs.State.{State, EMPTY, PARTIAL, FULL, numberOf, read, offer, Place, pushing, f1, f2, Mem, working}
+use Rattle.plain.specs.State.{State, EMPTY, PARTIAL, FULL, stateNumber, read, offer, Place, pushing, f1, f2, Mem}
+use Rattle.plain.specs.State.{working}
 use Rattle.plain.specs.Moves.{Decided, going}
 use Rattle.plain.specs.Steps as Steps
 use Rattle.plain.proofs.Places.{lengths}
@@ -28,9 +29,9 @@ module _ {regions : ℕ} {v : View} {area : List ℕ} {m : Mem} {t : ℕ} {p : P
     (w : At regions v area m t p k) (e : Decided) (ws : List Write) (m₁ : Mem) (u : ℕ) (sound : Sound layout ws)
     (keeps : (assigned ws v Tasks ≡ v Tasks) × (assigned ws v Regions ≡ v Regions))
     (at-f1 : Related regions (contentsOf (assigned (TaskPlace t := F1 ∷ ws) v) area)
-    (Steps.at t k (working (f1 (v (TaskClass t)) u)) m₁))
+    (Steps.atPlace t k (working (f1 (v (TaskClass t)) u)) m₁))
     (at-f2 : Related regions (contentsOf (assigned (TaskPlace t := F2 ∷ GroupCount t := 0 ∷ ws) v) area)
-    (Steps.at t k (working (f2 (v (TaskClass t)) u [])) m₁)) where
+    (Steps.atPlace t k (working (f2 (v (TaskClass t)) u [])) m₁)) where
   -- a write before ws to a field of a task leaves the numbers of tasks and regions
   keeps-after : (v′ : View) → v′ Tasks ≡ v Tasks → v′ Regions ≡ v Regions
       → (assigned ws v′ Tasks ≡ v Tasks) × (assigned ws v′ Regions ≡ v Regions)
@@ -40,7 +41,7 @@ module _ {regions : ℕ} {v : View} {area : List ℕ} {m : Mem} {t : ℕ} {p : P
       → Both regions v area m
       (mathlib.Core.Bool.cond (eqb n 0) (accept e (TaskPlace t := F1 ∷ ws) [])
       (accept e (TaskPlace t := F2 ∷ GroupCount t := 0 ∷ ws) []))
-      (Steps.to t k (Steps.f6 q (v (TaskClass t)) u) m₁, going e)
+      (Steps.atWork t k (Steps.f6 q (v (TaskClass t)) u) m₁, going e)
   by-cache n [] i =
       rw (eq-eqb n 0 i)
       (record {
@@ -63,7 +64,7 @@ module _ {regions : ℕ} {v : View} {area : List ℕ} {m : Mem} {t : ℕ} {p : P
 
   -- step 6: "Cache not empty: 2. Else 1."
   pub six : Both regions v area m (Lists.f6 v regions t (v (TaskClass t)) e ws)
-      (Steps.to t k (Steps.f6 (k (v (TaskClass t))) (v (TaskClass t)) u) m₁, going e)
+      (Steps.atWork t k (Steps.f6 (k (v (TaskClass t))) (v (TaskClass t)) u) m₁, going e)
   unfolding Lists.f6
   six =
       let c = v (TaskClass t) in
@@ -72,11 +73,11 @@ module _ {regions : ℕ} {v : View} {area : List ℕ} {m : Mem} {t : ℕ} {p : P
       (by-cache (v (CacheCount t c)) (k c) (cache-count w))
 
   -- step 5: "If it was FULL: push the descriptor on the partial list"
-  pub five : (was : ℕ) (z : State) (d : ℕ) → was ≡ numberOf z
+  pub five : (was : ℕ) (z : State) (d : ℕ) → was ≡ stateNumber z
       → Related regions (contentsOf (assigned (TaskPlace t := PUSH-OFFER ∷ ws) v) area)
-      (Steps.at t k (working (pushing (offer (v (TaskClass t)) u d) read)) m₁)
+      (Steps.atPlace t k (working (pushing (offer (v (TaskClass t)) u d) read)) m₁)
       → Both regions v area m (Lists.f5 v regions t (v (TaskClass t)) was e ws)
-      (Steps.to t k (Steps.f5 z (k (v (TaskClass t))) (v (TaskClass t)) u d) m₁, going e)
+      (Steps.atWork t k (Steps.f5 z (k (v (TaskClass t))) (v (TaskClass t)) u d) m₁, going e)
   unfolding Lists.f5
   five was EMPTY d i r = rw (ne-eqb was 2 (omega arith)) six
   five was PARTIAL d i r = rw (ne-eqb was 2 (omega arith)) six

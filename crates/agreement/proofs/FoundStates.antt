@@ -11,7 +11,7 @@ use Rattle.limits.specs.Limits.{CONTROL-BYTES, REGIONS, REGION-BYTES, AREA-BYTE
 use Rattle.fields.specs.Columns.{Field, View, Write, _:=_, assign, assigned}
 use Rattle.fields.specs.Little.{Bytes}
 use Rattle.words.specs.Anchor.{FULL}
-use Rattle.plain.specs.Calls.{Call, Start, start, allocate, free, step}
+use Rattle.plain.specs.Calls.{Call, Start, start, allocate, free, step, Lengths}
 use Rattle.plain.specs.Calls as Plain
 use Rattle.control.specs.Layout.{seen, changed, Tasks, TaskPlace, TaskState}
 use Rattle.control.proofs.Fields.{seen-changed}
@@ -19,7 +19,7 @@ use Rattle.stepped.specs.Outcome.{Memories, Outcome, Effect}
 use Rattle.stepped.specs.Ranges.{oneTo}
 use Rattle.stepped.specs.Start.{startImage}
 use Rattle.stepped.specs.Calls as Calls
-use Rattle.stepped.specs.Calls.{Tested, Lent, effectIn}
+use Rattle.stepped.specs.Calls.{Tested, Lent, lengths, effectIn}
 use Rattle.stepped.proofs.Conjunction.{right-true}
 use Rattle.agreement.specs.Events.{Event, call, write, stepped}
 use Rattle.agreement.specs.Reached.{starting}
@@ -69,10 +69,10 @@ left b o = changed (o .writes) b
 
 module _ (b : List ℕ) (long : length b ≡ CONTROL-BYTES) (old : FoundStates b) where
   -- what follows the tests
-  tested-found : (control area t : ℕ) (x : Outcome) → (Tested control area (seen b) t → Fit t x)
-      → FoundStates (left b (Calls.tested control area (seen b) t x))
-  tested-found control area t x fit =
-      tests (λ o. FoundStates (left b o)) control area (seen b) t x (λ n h. old)
+  tested-found : (lent : Lengths) (t : ℕ) (x : Outcome) → (Tested lent (seen b) t → Fit t x)
+      → FoundStates (left b (Calls.tested lent (seen b) t x))
+  tested-found lent t x fit =
+      tests (λ o. FoundStates (left b o)) lent (seen b) t x (λ n h. old)
       (λ T started u l. subst (λ (z : ℕ). z ≤ FULL)
       (sym (seen-changed (x .writes) b (TaskState u) long (fit T .sound) (omega (arith, l))))
       (writes-found t u (x .writes) (fit T .own) (seen b) (old (T .started) u l)))
@@ -84,13 +84,14 @@ image-found : (tasks regions : ℕ) → tasks ≤ TASKS → regions ≤ REGIONS 
 image-found tasks regions few small started t l =
     omega (arith, image-view tasks regions few small (TaskState t) (omega (arith, l)), at-state tasks regions t)
 
-start-found : (size : ℕ) (area : List ℕ) (tasks : ℕ) (b before : List ℕ) → FoundStates b
-    → FoundStates (Calls.startIn size area tasks b before .control)
+start-found : (b : Start) (lent : Lent) (s : Memories) → FoundStates (s .control)
+    → FoundStates (Calls.startIn b lent s .control)
 unfolding Calls.startIn
-start-found size area tasks b before old =
+start-found b lent s old =
     let P : Effect → Type 0 = λ e. FoundStates (e .control) in
-    let bytes = length area in
-    branch P (eqb size CONTROL-BYTES) (λ e. branch P (eqb (bytes % REGION-BYTES) 0 && oneTo AREA-BYTES bytes)
+    let tasks = b .tasks in
+    let bytes = length (lent .area) in
+    branch P (eqb (lent .control) CONTROL-BYTES) (λ e. branch P (eqb (bytes % REGION-BYTES) 0 && oneTo AREA-BYTES bytes)
     (λ f. branch P (oneTo TASKS tasks) (λ g.
     let l =
     leb-true bytes AREA-BYTES
@@ -101,7 +102,8 @@ start-found size area tasks b before old =
     (λ g. old)) (λ f. old)) (λ e. old)
 
 -- an accepted start, whatever was before
-pub accepted-found : (s : Memories) (b : Start) (area : List ℕ) → Plain.Area (length area) → Plain.Tasks (b .tasks)
+pub accepted-found : (s : Memories) (b : Start) (area : List ℕ) → Plain.StartArea (length area)
+    → Plain.StartTasks (b .tasks)
     → FoundStates (stepped (starting b area) s .0 .control)
 unfolding Calls.startIn
 accepted-found s b area a t =
@@ -120,16 +122,15 @@ accepted-found s b area a t =
 call-found : (k : Call) (lent : Lent) (s : Memories) → length (s .control) ≡ CONTROL-BYTES → Bytes (s .control)
     → FoundStates (s .control) → FoundStates (effectIn k lent s .control)
 unfolding Calls.allocateOutcome Calls.freeOutcome Calls.stepOutcome
-call-found (start b) lent s long bytes old =
-    start-found (lent .control) (lent .area) (b .tasks) (s .control) (s .area) old
+call-found (start b) lent s long bytes old = start-found b lent s old
 call-found (allocate t size) lent s long bytes old =
-    tested-found (s .control) long old (lent .control) (length (lent .area)) t _
+    tested-found (s .control) long old (lengths lent) t _
     (λ T. allocate-fit (seen-fitting (s .control) bytes) T size)
 call-found (free t u) lent s long bytes old =
-    tested-found (s .control) long old (lent .control) (length (lent .area)) t _
+    tested-found (s .control) long old (lengths lent) t _
     (λ T. free-fit (seen-fitting (s .control) bytes) T u)
 call-found (step t) lent s long bytes old =
-    tested-found (s .control) long old (lent .control) (length (lent .area)) t _
+    tested-found (s .control) long old (lengths lent) t _
     (λ T. step-fit (seen-fitting (s .control) bytes) _ T)
 
 pub event-found : (e : Event) (s : Memories) → length (s .control) ≡ CONTROL-BYTES → Bytes (s .control)

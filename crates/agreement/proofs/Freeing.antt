@@ -6,7 +6,7 @@ use Rattle.rows.specs.Counting.{count}
 use Rattle.rows.proofs.Weights.{when-same}
 use Rattle.fields.specs.Columns.{View}
 use Rattle.words.specs.Anchor.{FULL}
-use Rattle.plain.specs.State.{State, EMPTY, PARTIAL, numberOf, Place}
+use Rattle.plain.specs.State.{State, EMPTY, PARTIAL, stateNumber, Place}
 use Rattle.plain.specs.State as Plain
 use Rattle.plain.specs.Held.{classAt, underWay, owed, holdsDescriptor}
 use Rattle.control.specs.Layout.{TaskUnit, TaskPlace, TaskClass, TaskDescriptor, TaskState}
@@ -23,7 +23,7 @@ pub data Freeing (v : View) (t : ℕ) (p : Place) : Type 0 where
   owes : (v (TaskState t) ≡ FULL → 1 ≤ holdsDescriptor (v (TaskDescriptor t)) p) → classAt p ≡ v (TaskClass t)
       → 1 ≤ count (v (TaskUnit t)) (underWay p) → Freeing v t p
 
-pub owed-one : (z : State) (d : ℕ) → numberOf z ≡ FULL → 1 ≤ count d (owed z d)
+pub owed-one : (z : State) (d : ℕ) → stateNumber z ≡ FULL → 1 ≤ count d (owed z d)
 owed-one EMPTY d e = absurd (omega arith)
 owed-one PARTIAL d e = absurd (omega arith)
 owed-one Plain.FULL d e = omega (arith, when-same d 1)

@@ -153,7 +153,7 @@ module _ {regions : ℕ} {v : View} {area : List ℕ} {m : Mem} {t : ℕ} {k : �
 
     -- the group is closed
     close-both : Both regions v area m (Free.f2Close v (link area) regions t (v (TaskClass t)))
-        (Steps.at t k (working (f3-read (v (TaskClass t)) (v (TaskUnit t)) y g)) m, going nothing)
+        (Steps.atPlace t k (working (f3-read (v (TaskClass t)) (v (TaskUnit t)) y g)) m, going nothing)
     close-both = record {
       says = refl;
       keeps = (refl, refl);

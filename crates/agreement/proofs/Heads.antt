@@ -12,12 +12,12 @@ use Rattle.limits.specs.Limits.{DESCRIPTORS, TAGS, SPARE-REGIONS, LISTS, DESCRI
 use Rattle.rows.specs.Branch.{if}
 use Rattle.rows.specs.Linked.{Linked}
 use Rattle.fields.specs.Columns.{Field, View, Write, _:=_, assigned}
-use Rattle.words.specs.Head.{ITEMS, itemOf, tagOf, headOf, advancedWord}
+use Rattle.words.specs.Head.{TAG-WEIGHT, itemOf, tagOf, headOf, advancedWord}
 use Rattle.words.specs.declared.head.Head.{Head as HeadWord}
 use Rattle.words.proofs.Heads.{itemOf-advanced, tagOf-advanced}
 use Rattle.plain.specs.State.{Place, Mem, setRow}
 use Rattle.plain.specs.Moves.{Decided, nothing, going}
-use Rattle.plain.specs.Steps.{Result, at}
+use Rattle.plain.specs.Steps.{Result, atPlace}
 use Rattle.plain.proofs.Places.{taskOf}
 use Rattle.control.specs.Layout.{Head, DescriptorNext, RegionNext, TaskPlace, TaskHead}
 use Rattle.control.specs.Answers.{codeOf, valueOf}
@@ -41,7 +41,7 @@ pub data Kind (regions : ℕ) : ℕ → ℕ → (ℕ → Field) → (Contents �
   spare-regions : Kind regions SPARE-REGIONS regions RegionNext (λ a. a .lists .regionNext)
 
 -- what the relation says of a list
-pub record Listed (v : View) (m : Mem) (ℓ items : ℕ) (nx : ℕ → Field) : Type 0 where
+pub record ListTied (v : View) (m : Mem) (ℓ items : ℕ) (nx : ℕ → Field) : Type 0 where
   pub below : ℓ < LISTS
   pub most : items ≤ DESCRIPTORS
   pub linked : Linked (λ (x : ℕ). v (nx x)) suc 0 (itemOf (v (Head ℓ))) (m .row ℓ)
@@ -71,7 +71,7 @@ module _ (v : View) {f : ℕ} {q : List ℕ} {regions : ℕ} where
 module _ {regions : ℕ} {v : View} {area : List ℕ} {m : Mem} {t : ℕ} {p : Place} {k : ℕ → List ℕ}
     (w : At regions v area m t p k) where
   pub list-of : {ℓ items : ℕ} {nx : ℕ → Field} {column : Contents → ℕ → ℕ} → Kind regions ℓ items nx column
-      → Listed v m ℓ items nx
+      → ListTied v m ℓ items nx
   list-of (descriptors {ℓ = ℓ} l) =
       let C = w .pair .rel .core in
       record {
@@ -96,15 +96,15 @@ module _ {regions : ℕ} {v : View} {area : List ℕ} {m : Mem} {t : ℕ} {p : P
       }
 
   -- what is noted stands where the task alone changes
-  pub kept : {ℓ n : ℕ} {h : HeadWord} (p′ : Place) → HeadNoted m ℓ h n → HeadNoted (at t k p′ m) ℓ h n
+  pub kept : {ℓ n : ℕ} {h : HeadWord} (p′ : Place) → HeadNoted m ℓ h n → HeadNoted (atPlace t k p′ m) ℓ h n
   kept p′ N = record { past = N .past; tags = N .tags; same = N .same }
 
   -- the place alone changes, as where a list is found empty or an exchange is lost
   pub moves : (A : Answer) (e : Decided) (b : ℕ) (p′ : Place) → b < 256
-      → PlaceRelated regions (setSlot t (toPlace b (slotOf v t)) (contentsOf v area)) (at t k p′ m)
+      → PlaceRelated regions (setSlot t (toPlace b (slotOf v t)) (contentsOf v area)) (atPlace t k p′ m)
       (toPlace b (slotOf v t)) p′
       → Both regions v area m (over A e (TaskPlace t := b ∷ []) [])
-      (at t k p′ m, record { code = codeOf A; value = valueOf A; decided = e })
+      (atPlace t k p′ m, record { code = codeOf A; value = valueOf A; decided = e })
   moves A e b p′ l h = record {
     says = refl;
     keeps = (refl, refl);
@@ -117,9 +117,9 @@ module _ {regions : ℕ} {v : View} {area : List ℕ} {m : Mem} {t : ℕ} {p : P
   -- the head read: the head word is noted
   pub notes : (ℓ b : ℕ) (p′ : Place) → ℓ < LISTS → b < 256
       → PlaceRelated regions (setSlot t (toPlace b (toHead (headOf (v (Head ℓ))) (slotOf v t))) (contentsOf v area))
-      (at t k p′ m) (toPlace b (toHead (headOf (v (Head ℓ))) (slotOf v t))) p′
+      (atPlace t k p′ m) (toPlace b (toHead (headOf (v (Head ℓ))) (slotOf v t))) p′
       → Both regions v area m (accept nothing (TaskPlace t := b ∷ TaskHead t := v (Head ℓ) ∷ []) [])
-      (at t k p′ m, going nothing)
+      (atPlace t k p′ m, going nothing)
   notes ℓ b p′ i l h = record {
     says = refl;
     keeps = (refl, refl);
@@ -131,7 +131,7 @@ module _ {regions : ℕ} {v : View} {area : List ℕ} {m : Mem} {t : ℕ} {p : P
   }
 
   -- the exchange is won in both pools or in neither
-  pub exchanges : {ℓ items n : ℕ} {nx : ℕ → Field} → Listed v m ℓ items nx → HeadNoted m ℓ (headOf (v (TaskHead t))) n
+  pub exchanges : {ℓ items n : ℕ} {nx : ℕ → Field} → ListTied v m ℓ items nx → HeadNoted m ℓ (headOf (v (TaskHead t))) n
       → m .won ℓ < n + TAGS → {o o′ : Outcome} {y y′ : Result}
       → (m .won ℓ ≡ n → wrap (tagOf (v (TaskHead t)) + 1) ≡ wrap (m .won ℓ + 1) → Both regions v area m o y)
       → Both regions v area m o′ y′
@@ -153,12 +153,12 @@ module _ {regions : ℕ} {v : View} {area : List ℕ} {m : Mem} {t : ℕ} {p : P
       → slotOf (assigned ws v) t ≡ s → ((j : ℕ) → t ≢ j → slotOf (assigned ws v) j ≡ slotOf v j)
       → s .class ≡ slotOf v t .class → s .caches ≡ slotOf v t .caches
       → PlaceRelated regions (setSlot t s (setHead ℓ (headOf (advancedWord (v (TaskHead t)) x)) (contentsOf v area)))
-      (at t k p′ (setRow ℓ q m)) s p′
-      → Related regions (contentsOf (assigned ws v) area) (at t k p′ (setRow ℓ q m))
+      (atPlace t k p′ (setRow ℓ q m)) s p′
+      → Related regions (contentsOf (assigned ws v) area) (atPlace t k p′ (setRow ℓ q m))
   wins {ℓ} {x = x} {q = q} K W ws s p′ e own others f g pl =
       let word = v (TaskHead t) in
       let new = headOf (advancedWord word x) in
-      let i : x < ITEMS = omega (arith, W .most) in
+      let i : x < TAG-WEIGHT = omega (arith, W .most) in
       shares w ws s p′ (setHead ℓ new (contentsOf v area)) (setRow ℓ q m)
       (heading (w .pair) ℓ new q s (taskOf p′ k) (tagOf-advanced word x i ∙ W .tag)
       (of-descriptors v K (rw (itemOf-advanced word x i) (W .linked)))

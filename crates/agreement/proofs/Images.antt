@@ -10,7 +10,7 @@ use lib.Dec.{eqb}
 use lib.ListN.{getD, replicate}
 use Rattle.fields.specs.Little.{getLE}
 use Rattle.fields.specs.Columns.{Column, Field, View, Write, _:=_, assign, assigned, width, Has, Sound}
-use Rattle.control.specs.Layout.{layout, field}
+use Rattle.control.specs.Layout.{layout, fieldOf}
 use Rattle.stepped.specs.Start.{fill}
 
 -- ---- zeros
@@ -35,32 +35,32 @@ assigned-append (w ∷ ws) us v g = assigned-append ws us (assign w v) g
 
 -- the fields past the first n of a column that are filled are left
 pub past-fill : (k : Column) (x : ℕ → ℕ) (n : ℕ) (v : View) (j : ℕ) → n ≤ j
-    → assigned (fill (field k) x n) v (field k j) ≡ v (field k j)
+    → assigned (fill (fieldOf k) x n) v (fieldOf k j) ≡ v (fieldOf k j)
 past-fill k x zero v j l = refl
 past-fill k x (suc n) v j l =
-    past-fill k x n (assign (field k n := x n) v) j (omega arith)
+    past-fill k x n (assign (fieldOf k n := x n) v) j (omega arith)
     ∙ rw (eq-eqb (k .start) (k .start) refl, ne-eqb n j (omega arith))
 
 -- and those are filled
 pub filled : (k : Column) (x : ℕ → ℕ) (n : ℕ) (v : View) (j : ℕ) → j < n
-    → assigned (fill (field k) x n) v (field k j) ≡ x j
+    → assigned (fill (fieldOf k) x n) v (fieldOf k j) ≡ x j
 filled k x zero v j l = absurd (omega arith)
 filled k x (suc n) v j l = elim (ℕ-discrete n j) [
-  | yes e ↦ past-fill k x n (assign (field k n := x n) v) j (omega arith)
+  | yes e ↦ past-fill k x n (assign (fieldOf k n := x n) v) j (omega arith)
       ∙ rw (eq-eqb (k .start) (k .start) refl, eq-eqb n j e) (ap x e)
-  | no e ↦ filled k x n (assign (field k n := x n) v) j (omega arith)
+  | no e ↦ filled k x n (assign (fieldOf k n := x n) v) j (omega arith)
 ]
 
 -- the other columns are left
 pub other-fill : (k : Column) (x : ℕ → ℕ) (n : ℕ) (v : View) (e : Column) (j : ℕ) → eqb (k .start) (e .start) ≡ false
-    → assigned (fill (field k) x n) v (field e j) ≡ v (field e j)
+    → assigned (fill (fieldOf k) x n) v (fieldOf e j) ≡ v (fieldOf e j)
 other-fill k x zero v e j h = refl
-other-fill k x (suc n) v e j h = other-fill k x n (assign (field k n := x n) v) e j h ∙ rw h
+other-fill k x (suc n) v e j h = other-fill k x n (assign (fieldOf k n := x n) v) e j h ∙ rw h
 
 -- a filled column fits, if each value does
 pub fill-sound : (k : Column) (x : ℕ → ℕ) (n most bound : ℕ)
-    → ((i x : ℕ) → i < most → x < bound → Has layout (field k i) × (x < 256 ^ width layout (field k i)))
-    → ((i : ℕ) → i < n → x i < bound) → n ≤ most → Sound layout (fill (field k) x n)
+    → ((i x : ℕ) → i < most → x < bound → Has layout (fieldOf k i) × (x < 256 ^ width layout (fieldOf k i)))
+    → ((i : ℕ) → i < n → x i < bound) → n ≤ most → Sound layout (fill (fieldOf k) x n)
 fill-sound k x zero most bound h f l = tt
 fill-sound k x (suc n) most bound h f l = (
   h n (x n) (omega arith) (f n (omega arith)),

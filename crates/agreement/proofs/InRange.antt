@@ -44,7 +44,7 @@ use Rattle.agreement.proofs.Simulation.{fitting}
 use Rattle.agreement.proofs.FoundStates.{FoundStates}
 use Rattle.agreement.proofs.Reaching.{reached-tied, reached-found, along}
 use Rattle.agreement.proofs.Freeing.{Freeing, allocates, fills, frees, owes}
-use Rattle.agreement.proofs.TaskHands.{numbers-at}
+use Rattle.agreement.proofs.HandInRange.{numbers-at}
 
 -- ---- a task
 
@@ -201,8 +201,8 @@ ranges es s₁ U p = along RangedAfter ranged-after (from-unstarted U) es p
 -- The same from an accepted start on any memories and in any pool: right after it, and along every list of events
 -- behind it.
 pub ranges-from-start : (es : List Event) (s₁ : Memories) (s : Pool) (b : Start) (area : List ℕ)
-    → Calls.Area (length area)
-    → Calls.Tasks (b .tasks) → Premises es (whole (starting b area) s .0)
+    → Calls.StartArea (length area)
+    → Calls.StartTasks (b .tasks) → Premises es (whole (starting b area) s .0)
     → Along RangedAfter (starting b area ∷ es) s₁ s
 ranges-from-start es s₁ s b area a t p =
     let R = from-start s₁ s b area a t in

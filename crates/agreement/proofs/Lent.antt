@@ -13,7 +13,7 @@ use Rattle.limits.specs.Limits.{CONTROL-BYTES, REGION-BYTES, AREA-BYTES, TASKS}
 use Rattle.fields.specs.Columns.{View}
 use Rattle.links.specs.Link.{link}
 use Rattle.plain.specs.Moves.{nothing}
-use Rattle.plain.specs.Calls.{Call, start, allocate, free, step, Lengths}
+use Rattle.plain.specs.Calls.{Start, Call, start, allocate, free, step, Lengths}
 use Rattle.control.specs.Layout.{Regions, seen}
 use Rattle.control.specs.Answers.{codeOf}
 use Rattle.control.specs.declared.answer.Answer.{Answer}
@@ -36,88 +36,80 @@ pub same-lengths : (k : Call) (l l′ : Lent) (s : Memories) → NoStart k → l
     → effectIn k l s ≡ effectIn k l′ s
 same-lengths (start b) l l′ s n e = absurd n
 same-lengths (allocate t size) l l′ s n e =
-    ap (λ (z : Lengths). effect (Stepped.allocateOutcome (z .control) (z .area) (seen (s .control)) t size) (s .control)
-    (s .area)) e
+    ap (λ (z : Lengths). effect (Stepped.allocateOutcome z (seen (s .control)) t size) s) e
 same-lengths (free t u) l l′ s n e =
-    ap (λ (z : Lengths). effect (Stepped.freeOutcome (z .control) (z .area) (seen (s .control)) t u) (s .control)
-    (s .area)) e
+    ap (λ (z : Lengths). effect (Stepped.freeOutcome z (seen (s .control)) t u) s) e
 same-lengths (step t) l l′ s n e =
-    ap (λ (z : Lengths). effect (Stepped.stepOutcome (z .control) (z .area) (seen (s .control)) (link (s .area)) t)
-    (s .control) (s .area)) e
+    ap (λ (z : Lengths). effect (Stepped.stepOutcome z (seen (s .control)) (link (s .area)) t) s) e
 
 -- ---- other memories
 
 -- a control memory of another length: whatever it holds
-pub other-control : (control area : ℕ) (v : View) (t : ℕ) (x : Outcome) → control ≢ CONTROL-BYTES
-    → Stepped.tested control area v t x ≡ refuse 1
+pub other-control : (lent : Lengths) (v : View) (t : ℕ) (x : Outcome) → lent .control ≢ CONTROL-BYTES
+    → Stepped.tested lent v t x ≡ refuse 1
 unfolding Stepped.tested
-other-control control area v t x h = rw (ne-eqb control CONTROL-BYTES h)
+other-control lent v t x h = rw (ne-eqb (lent .control) CONTROL-BYTES h)
 
 -- the pool's control memory and an area of another length: no field but the started numbers and no link is read
-pub other-area : (control area : ℕ) (v : View) (t : ℕ) (x y : Outcome) → area ≢ REGION-BYTES * v Regions
-    → Stepped.tested control area v t x ≡ Stepped.tested control area v t y
+pub other-area : (lent : Lengths) (v : View) (t : ℕ) (x y : Outcome) → lent .area ≢ REGION-BYTES * v Regions
+    → Stepped.tested lent v t x ≡ Stepped.tested lent v t y
 unfolding Stepped.tested
-other-area control area v t x y h = rw (ne-eqb area (REGION-BYTES * v Regions) h)
+other-area lent v t x y h = rw (ne-eqb (lent .area) (REGION-BYTES * v Regions) h)
 
 -- ---- starts
 
-module _ (area : List ℕ) (tasks : ℕ) where
+module _ (b : Start) (area : List ℕ) where
   -- a start by the outcomes of its tests 1, 2 and 3
-  abbrev By : Bool → Bool → Bool → List ℕ → List ℕ → Effect
-  By p q r c b =
+  abbrev By : Bool → Bool → Bool → Memories → Effect
+  By p q r s =
+      let image = startImage (b .tasks) (length area / REGION-BYTES) in
       cond p
       (cond q
       (cond r
-      (record {
-        answer = Accepted;
-        decided = nothing;
-        control = startImage tasks (length area / REGION-BYTES);
-        area =
-            area;
-      })
-      (effect (refuse 3) c b))
-      (effect (refuse 2) c b))
-      (effect (refuse 1) c b)
+      (record { answer = Accepted; decided = nothing; control = image; area = area })
+      (effect (refuse 3) s))
+      (effect (refuse 2) s))
+      (effect (refuse 1) s)
 
   -- two starts that are both refused by the number n
-  abbrev BothRefused : Effect → Effect → List ℕ → List ℕ → List ℕ → List ℕ → Type 0
-  BothRefused e e′ c b c′ b′ = (n : ℕ) × ((e ≡ effect (refuse n) c b) × (e′ ≡ effect (refuse n) c′ b′))
+  abbrev BothRefused : Effect → Effect → Memories → Memories → Type 0
+  BothRefused e e′ s s′ = (n : ℕ) × ((e ≡ effect (refuse n) s) × (e′ ≡ effect (refuse n) s′))
 
-  elsewhere : (p q r : Bool) (c b c′ b′ : List ℕ)
-      → (By p q r c b ≡ By p q r c′ b′) ⊎ BothRefused (By p q r c b) (By p q r c′ b′) c b c′ b′
-  elsewhere true true true c b c′ b′ = inl refl
-  elsewhere true true false c b c′ b′ = inr (3, (refl, refl))
-  elsewhere true false r c b c′ b′ = inr (2, (refl, refl))
-  elsewhere false q r c b c′ b′ = inr (1, (refl, refl))
+  elsewhere : (p q r : Bool) (s s′ : Memories)
+      → (By p q r s ≡ By p q r s′) ⊎ BothRefused (By p q r s) (By p q r s′) s s′
+  elsewhere true true true s s′ = inl refl
+  elsewhere true true false s s′ = inr (3, (refl, refl))
+  elsewhere true false r s s′ = inr (2, (refl, refl))
+  elsewhere false q r s s′ = inr (1, (refl, refl))
 
-  area-kept : (p q r : Bool) (c b : List ℕ) → codeOf (By p q r c b .answer) ≡ 0 → By p q r c b .area ≡ area
-  area-kept true true true c b h = refl
-  area-kept true true false c b h = absurd (omega arith)
-  area-kept true false r c b h = absurd (omega arith)
-  area-kept false q r c b h = absurd (omega arith)
+  area-kept : (p q r : Bool) (s : Memories) → codeOf (By p q r s .answer) ≡ 0 → By p q r s .area ≡ area
+  area-kept true true true s h = refl
+  area-kept true true false s h = absurd (omega arith)
+  area-kept true false r s h = absurd (omega arith)
+  area-kept false q r s h = absurd (omega arith)
+
+module _ (b : Start) (lent : Lent) where
+  -- test 2 of a start
+  abbrev fits : Bool
+  fits = eqb (length (lent .area) % REGION-BYTES) 0 && oneTo AREA-BYTES (length (lent .area))
 
   -- A start on memories that are not the pool's: the same effect if it is accepted, and if it is refused, by the same
   -- number.
-  pub start-elsewhere : (size : ℕ) (c b c′ b′ : List ℕ)
-      → (Stepped.startIn size area tasks c b ≡ Stepped.startIn size area tasks c′ b′)
-      ⊎ BothRefused (Stepped.startIn size area tasks c b) (Stepped.startIn size area tasks c′ b′) c b c′ b′
+  pub start-elsewhere : (s s′ : Memories) → (Stepped.startIn b lent s ≡ Stepped.startIn b lent s′)
+      ⊎ BothRefused b (lent .area) (Stepped.startIn b lent s) (Stepped.startIn b lent s′) s s′
   unfolding Stepped.startIn
-  start-elsewhere size =
-      elsewhere (eqb size CONTROL-BYTES) (eqb (length area % REGION-BYTES) 0 && oneTo AREA-BYTES (length area))
-      (oneTo TASKS tasks)
+  start-elsewhere = elsewhere b (lent .area) (eqb (lent .control) CONTROL-BYTES) fits (oneTo TASKS (b .tasks))
 
   -- An accepted start "leaves the area as it is": its area is the one that it is lent.
-  pub start-leaves : (size : ℕ) (c b : List ℕ) → codeOf (Stepped.startIn size area tasks c b .answer) ≡ 0
-      → Stepped.startIn size area tasks c b .area ≡ area
+  pub start-leaves : (s : Memories) → codeOf (Stepped.startIn b lent s .answer) ≡ 0
+      → Stepped.startIn b lent s .area ≡ lent .area
   unfolding Stepped.startIn
-  start-leaves size =
-      area-kept (eqb size CONTROL-BYTES) (eqb (length area % REGION-BYTES) 0 && oneTo AREA-BYTES (length area))
-      (oneTo TASKS tasks)
+  start-leaves = area-kept b (lent .area) (eqb (lent .control) CONTROL-BYTES) fits (oneTo TASKS (b .tasks))
 
 -- ---- refusals
 
 -- a call that is refused by one of the numbers 1 to 11 leaves the pool's memories
-pub refused-leaves : (e : Effect) (s : Memories) → Leaves e (s .control) (s .area) → Unchanged s (ran e)
+pub refused-leaves : (e : Effect) (s : Memories) → Leaves e s → Unchanged s (ran e)
 refused-leaves e s h = by (e .answer) refl
   where
     by : (a : Answer) → e .answer ≡ a → 1 ≤ codeOf a → codeOf a ≤ 11 → ran e .0 ≡ s
@@ -128,6 +120,5 @@ refused-leaves e s h = by (e .answer) refl
     by NoRegion i k l = absurd (omega arith)
     by (Refused n) i k l = λ j. record { control = h n i .0 j; area = h n i .1 j }
 
-pub outcome-leaves : (o : Outcome) (s : Memories) → WritesNothing o
-    → Unchanged s (ran (effect o (s .control) (s .area)))
-outcome-leaves o s h = refused-leaves (effect o (s .control) (s .area)) s (leaves o (s .control) (s .area) h)
+pub outcome-leaves : (o : Outcome) (s : Memories) → WritesNothing o → Unchanged s (ran (effect o s))
+outcome-leaves o s h = refused-leaves (effect o s) s (leaves o s h)

@@ -59,8 +59,8 @@ pub mod Reaching
 pub mod Ends
 pub mod Theorem
 pub mod Freeing
-pub mod TaskLists
-pub mod TaskHands
+pub mod ListsInRange
+pub mod HandInRange
 pub mod InRange
 pub mod Runs
 pub mod Example

@@ -16,6 +16,7 @@ use Rattle.classes.specs.Classes.{perRegion}
 use Rattle.plain.specs.Moves.{Decided, found-empty, popped, pushed}
 use Rattle.control.specs.Layout.{Head, TaskHead, CacheCount, TaskPlace, TaskClass, TaskNext, TaskState, Regions}
 use Rattle.control.specs.Places.{A3-READ, A7, F1, F2}
+use Rattle.control.specs.Places.{TO-NEXT, TO-EXCHANGE}
 use Rattle.control.specs.declared.moves.Pop.{Pop}
 use Rattle.control.specs.declared.moves.Pop.the-variants.{Partial, Spare, Region}
 use Rattle.control.specs.declared.moves.Push.{Push}
@@ -29,7 +30,7 @@ use Rattle.stepped.proofs.Conjunction.{left-true, right-true}
 use Rattle.agreement.proofs.Ways.{branch, PlaceEnding, going, Keeps, wrong, either, test, to, finish}
 
 -- the places of the pops come before those of the push back
-before : (p : Pop) → popPlace p + 2 < pushPlace Back
+before : (p : Pop) → popPlace p + TO-EXCHANGE < pushPlace Back
 before Partial = omega arith
 before Spare = omega arith
 before Region = omega arith
@@ -63,7 +64,8 @@ module _ (v : View) (t : ℕ) (fits : v (TaskClass t) < CLASSES) where
   pop-read p e =
       let item = itemOf (v (Head (Lists.popList p c))) in
       branch End (eqb item 0) (λ h. when-empty p (record { place = e; class = fits; empty = eqb-true item 0 h }))
-      (λ h. test (leb item (Lists.popItems p regions)) (to (popPlace p + 1) (omega (arith, before p)) (λ u. refl)))
+      (λ h. test (leb item (Lists.popItems p regions)) (to (popPlace p + TO-NEXT) (omega (arith, before p))
+      (λ u. refl)))
 
   pub pop-next : (p : Pop) → End (Lists.popNext v regions t c p)
   unfolding Lists.popNext Lists.popNextOf
@@ -72,7 +74,7 @@ module _ (v : View) (t : ℕ) (fits : v (TaskClass t) < CLASSES) where
       let items = Lists.popItems p regions in
       test (oneTo items item)
       (test (leb (v (Lists.popNextField p (item - 1))) items)
-      (to (popPlace p + 2) (omega (arith, before p)) (λ u. refl)))
+      (to (popPlace p + TO-EXCHANGE) (omega (arith, before p)) (λ u. refl)))
 
   when-popped : (p : Pop) (x : ℕ) (e : Decided) (ws : List Write) → Keeps t ws
       → End (Lists.whenPopped v regions t c p x e ws)
@@ -107,16 +109,16 @@ module _ (v : View) (t : ℕ) (fits : v (TaskClass t) < CLASSES) where
   unfolding Lists.pushRead
   push-read p e =
       test (leb (itemOf (v (Head (Lists.pushList p c)))) (Lists.pushItems p regions))
-      (within p (pushPlace p + 1) (omega arith) (omega arith) (λ u. refl))
+      (within p (pushPlace p + TO-NEXT) (omega arith) (omega arith) (λ u. refl))
 
-  pub push-next : (p : Push) → v (TaskPlace t) ≡ pushPlace p + 1 → End (Lists.pushNext v regions t c p)
+  pub push-next : (p : Push) → v (TaskPlace t) ≡ pushPlace p + TO-NEXT → End (Lists.pushNext v regions t c p)
   unfolding Lists.pushNext
   push-next p e =
       let x = v (Lists.itemField p t) in
       let below = itemOf (v (TaskHead t)) in
       let items = Lists.pushItems p regions in
       test (ltb x items && leb below items)
-      (within p (pushPlace p + 2) (omega arith) (omega arith) (next-keeps t p x below))
+      (within p (pushPlace p + TO-EXCHANGE) (omega arith) (omega arith) (next-keeps t p x below))
 
   -- free, steps 6 and 5
   f6 : (e : Decided) (ws : List Write) → Keeps t ws → End (Lists.f6 v regions t c e ws)
@@ -136,7 +138,8 @@ module _ (v : View) (t : ℕ) (fits : v (TaskClass t) < CLASSES) where
   when-pushed Release e ws w h = test (isState (v (TaskState t))) (f5 (v (TaskState t)) e ws h)
   when-pushed Offer e ws w h = f6 e ws h
 
-  pub push-exchange : (p : Push) → v (TaskPlace t) ≡ pushPlace p + 2 → End (Lists.pushExchange v regions t c p)
+  pub push-exchange : (p : Push) → v (TaskPlace t) ≡ pushPlace p + TO-EXCHANGE
+      → End (Lists.pushExchange v regions t c p)
   unfolding Lists.pushExchange
   push-exchange p e =
       let ℓ = Lists.pushList p c in

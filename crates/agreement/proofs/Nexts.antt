@@ -8,7 +8,7 @@ use Rattle.rows.proofs.Update.{update-same}
 use Rattle.fields.specs.Columns.{Field, View, _:=_, assigned}
 use Rattle.plain.specs.State.{Place, Mem}
 use Rattle.plain.specs.Moves.{nothing, going}
-use Rattle.plain.specs.Steps.{at}
+use Rattle.plain.specs.Steps.{atPlace}
 use Rattle.plain.specs.Held.{holdsDescriptor, holdsRegion}
 use Rattle.plain.proofs.Places.{taskOf}
 use Rattle.control.specs.Layout.{DescriptorNext, RegionNext, TaskPlace}
@@ -32,10 +32,11 @@ setNext (descriptors l) = setDescriptorNext
 setNext spare-regions = setRegionNext
 
 -- the item x is held at the place p
-abbrev pub Holds : {regions ℓ items : ℕ} {nx : ℕ → Field} {column : Contents → ℕ → ℕ} → Kind regions ℓ items nx column
+abbrev pub HoldsItem : {regions ℓ items : ℕ} {nx : ℕ → Field} {column : Contents → ℕ → ℕ}
+    → Kind regions ℓ items nx column
     → ℕ → Place → Type 0
-Holds (descriptors l) x p = 1 ≤ holdsDescriptor x p
-Holds spare-regions x p = 1 ≤ holdsRegion x p
+HoldsItem (descriptors l) x p = 1 ≤ holdsDescriptor x p
+HoldsItem spare-regions x p = 1 ≤ holdsRegion x p
 
 pub next-set : {regions ℓ items : ℕ} {nx : ℕ → Field} {column : Contents → ℕ → ℕ} (K : Kind regions ℓ items nx column)
     (t : ℕ) (s : Slot) (x n : ℕ) (a : Contents) → column (setSlot t s (setNext K x n a)) x ≡ n
@@ -46,16 +47,16 @@ module _ {regions : ℕ} {v : View} {area : List ℕ} {m : Mem} {t : ℕ} {p : P
     (w : At regions v area m t p k) where
   pub held-below : {ℓ items : ℕ} {nx : ℕ → Field} {column : Contents → ℕ → ℕ} (K : Kind regions ℓ items nx column)
       (x : ℕ)
-      → Holds K x p → x < items
+      → HoldsItem K x p → x < items
   held-below (descriptors l) x h = descriptor-in-hand (w .pair .turn) x h
   held-below spare-regions x h = region-in-hand (w .pair .turn) x h
 
   -- the next of the item x is written, and the task goes to the place p′, whose number is b
   pub writes-next : {ℓ items : ℕ} {nx : ℕ → Field} {column : Contents → ℕ → ℕ} (K : Kind regions ℓ items nx column)
-      (x n b : ℕ) (p′ : Place) → Holds K x p → n ≤ items → b < 256
-      → PlaceRelated regions (setSlot t (toPlace b (slotOf v t)) (setNext K x n (contentsOf v area))) (at t k p′ m)
+      (x n b : ℕ) (p′ : Place) → HoldsItem K x p → n ≤ items → b < 256
+      → PlaceRelated regions (setSlot t (toPlace b (slotOf v t)) (setNext K x n (contentsOf v area))) (atPlace t k p′ m)
       (toPlace b (slotOf v t)) p′
-      → Both regions v area m (accept nothing (TaskPlace t := b ∷ nx x := n ∷ []) []) (at t k p′ m, going nothing)
+      → Both regions v area m (accept nothing (TaskPlace t := b ∷ nx x := n ∷ []) []) (atPlace t k p′ m, going nothing)
   writes-next (descriptors l) x n b p′ h i j pl =
       let ws = TaskPlace t := b ∷ DescriptorNext x := n ∷ [] in
       let s = toPlace b (slotOf v t) in

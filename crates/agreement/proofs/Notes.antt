@@ -13,9 +13,9 @@ use Rattle.classes.specs.Geometry.{indexOf, unitOf}
 use Rattle.classes.proofs.BlockUnits.{index-below, unit-again}
 use Rattle.words.specs.Anchor.{anchorOf}
 use Rattle.words.proofs.Anchors.{word-of-anchor}
-use Rattle.plain.specs.State.{EMPTY, FULL, Mem, Note, PARTIAL, State, numberOf}
+use Rattle.plain.specs.State.{EMPTY, FULL, Mem, Note, PARTIAL, State, stateNumber}
 use Rattle.plain.specs.Steps.{AsNoted, noteOf, top}
-use Rattle.plain.specs.Blocks.{isBlock}
+use Rattle.plain.specs.Blocks.{countBlock}
 use Rattle.plain.specs.Invariant.{OpenDescriptor}
 use Rattle.plain.specs.States.{IsOpen, ifOpen}
 use Rattle.plain.proofs.Blocks.{counts-block}
@@ -27,7 +27,7 @@ first-index : (c : ℕ) {nx : ℕ → ℕ} {f : ℕ} {q : List ℕ} → Linked n
 first-index c (ends e) = e
 first-index c (links e l) = e
 
-first-in : (r c : ℕ) (q : List ℕ) → ((v : ℕ) → count v q ≤ isBlock v r c) → FirstIn r c (top q)
+first-in : (r c : ℕ) (q : List ℕ) → ((v : ℕ) → count v q ≤ countBlock v r c) → FirstIn r c (top q)
 first-in r c [] h = tt
 first-in r c (x ∷ q) h = counts-block r c x (omega (arith, h x, when-same x 1))
 
@@ -97,17 +97,17 @@ module _ {nx : ℕ → ℕ} {a b : Anchor} {r c : ℕ} (m : Mem) (d : ℕ) (n : 
   )
 
 -- a state that is not EMPTY
-pub number-open : (z : State) → 1 ≤ numberOf z → IsOpen z
+pub number-open : (z : State) → 1 ≤ stateNumber z → IsOpen z
 number-open EMPTY h i = absurd (omega arith)
 number-open PARTIAL h i = refl
 number-open FULL h i = refl
 
-pub open-number : (z : State) → ((i : ℕ) → ifOpen z i ≡ i) → (1 ≤ numberOf z) × (numberOf z ≤ 2)
+pub open-number : (z : State) → ((i : ℕ) → ifOpen z i ≡ i) → (1 ≤ stateNumber z) × (stateNumber z ≤ 2)
 open-number EMPTY h = absurd (omega (arith, h 1))
 open-number PARTIAL h = omega arith
 open-number FULL h = omega arith
 
-pub number-max : (z : State) → numberOf z ≤ 2
+pub number-max : (z : State) → stateNumber z ≤ 2
 number-max EMPTY = omega arith
 number-max PARTIAL = omega arith
 number-max FULL = omega arith

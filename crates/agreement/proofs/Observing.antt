@@ -18,10 +18,10 @@ use Rattle.rows.proofs.Linked.{linked-walk}
 use Rattle.classes.specs.Geometry.{unitOf, Block}
 use Rattle.classes.proofs.BlockUnits.{unit-again, unit-below}
 use Rattle.links.specs.Link.{link}
-use Rattle.plain.specs.State.{State, EMPTY, PARTIAL, FULL, numberOf, Mem}
+use Rattle.plain.specs.State.{State, EMPTY, PARTIAL, FULL, stateNumber, Mem}
 use Rattle.plain.specs.Calls.{rising, NotEmpty, Opens, opens?}
 use Rattle.plain.specs.States.{ifOpen, IfOpen}
-use Rattle.plain.specs.Blocks.{isBlock}
+use Rattle.plain.specs.Blocks.{countBlock}
 use Rattle.plain.specs.Held.{held}
 use Rattle.plain.specs.Weights.{rowWeight, insideWeight, chainWeight, blockWeight}
 use Rattle.plain.specs.Invariant.{Invariant, OpenDescriptor}
@@ -59,19 +59,19 @@ more h = omega arith
 -- ---- open regions
 
 module _ {regions : ℕ} {a : Contents} {m : Mem} (R : Related regions a m) (I : Invariant regions m) where
-  not-empty : (z : State) → NotEmpty z → 1 ≤ numberOf z
+  not-empty : (z : State) → NotEmpty z → 1 ≤ stateNumber z
   not-empty EMPTY h = absurd h
   not-empty PARTIAL h = omega arith
   not-empty FULL h = omega arith
 
-  empty-not : (z : State) → 1 ≤ numberOf z → NotEmpty z
+  empty-not : (z : State) → 1 ≤ stateNumber z → NotEmpty z
   empty-not EMPTY h = absurd (omega arith)
   empty-not PARTIAL h = tt
   empty-not FULL h = tt
 
   -- the tests of an open region come out alike
   tests : {X : Type 0} (d r : ℕ) → d < DESCRIPTORS → (x y x′ y′ : X)
-      → (1 ≤ numberOf (m .descriptor d .state) → m .descriptor d .region ≡ r → x ≡ x′)
+      → (1 ≤ stateNumber (m .descriptor d .state) → m .descriptor d .region ≡ r → x ≡ x′)
       → y ≡ y′ → if (both (ℕ-discrete (a .descriptors .region d) r) (decLe 1 (a .descriptors .anchor d .state))) x y
       ≡ if (opens? (m .descriptor d) r) x′ y′
   tests d r l x y x′ y′ f g =
@@ -104,7 +104,7 @@ module _ {regions : ℕ} {a : Contents} {m : Mem} (R : Related regions a m) (I :
       (walk (link (a .area)) (unitOf r (a .descriptors .class d)) (a .descriptors .anchor d .avail)
       (a .descriptors .anchor d .count)) [] (m .descriptor d .chain) [] walked refl
     where
-      walked : 1 ≤ numberOf (m .descriptor d .state) → m .descriptor d .region ≡ r
+      walked : 1 ≤ stateNumber (m .descriptor d .state) → m .descriptor d .region ≡ r
           → walk (link (a .area)) (unitOf r (a .descriptors .class d)) (a .descriptors .anchor d .avail)
           (a .descriptors .anchor d .count) ≡ m .descriptor d .chain
       walked h e =
@@ -156,7 +156,7 @@ module _ {regions : ℕ} {a : Contents} {m : Mem} (small : regions ≤ REGIONS) 
   -- a chain has blocks of its own region alone
   own-blocks : (v j : ℕ) → (z : State) → IfOpen z (OpenDescriptor (m .descriptor j))
       → ifOpen z (count v (m .descriptor j .chain)) ≤ ifOpen z
-      (isBlock v (m .descriptor j .region) (m .descriptor j .class))
+      (countBlock v (m .descriptor j .region) (m .descriptor j .class))
   own-blocks v j EMPTY L = omega arith
   own-blocks v j PARTIAL L = L .inside v
   own-blocks v j FULL L = L .inside v
@@ -185,7 +185,7 @@ module _ {regions : ℕ} {a : Contents} {m : Mem} (small : regions ≤ REGIONS) 
           let g = number-open (D .state) (not-empty R I (D .state) (q .1)) in
           let b′ : Block (D .region) (D .class) v =
           subst (λ (x : ℕ). Block x (D .class) v) (sym (q .0)) (subst (λ (x : ℕ). Block r x v) (omega arith) b) in
-          let i : insideWeight v d D ≡ 1 = g (isBlock v (D .region) (D .class)) ∙ block-counts b′ in
+          let i : insideWeight v d D ≡ 1 = g (countBlock v (D .region) (D .class)) ∙ block-counts b′ in
           omega (
             arith,
             I .blocks v,

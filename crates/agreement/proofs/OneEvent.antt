@@ -98,9 +98,9 @@ EventKeeps (write at b) s₁ s z = Unit {0}
 -- one call: the same answer, in relation again, and each byte in hands as it was
 call-alike : (k : Call) (lent : Lent) (s₁ : Memories) (s : Pool) → Tied s₁ s → CallPremise k (lengths lent) s
     → Alike (CallKeeps k s₁ s) (stepped (call k lent) s₁) (whole (call k lent) s)
-unfolding Plain.call Stepped.allocateOutcome Stepped.freeOutcome Stepped.stepOutcome
+unfolding Plain.plainCall Stepped.allocateOutcome Stepped.freeOutcome Stepped.stepOutcome
 call-alike (start b) lent s₁ s S h =
-    start-alike S (lent .control) (lent .area) (b .tasks) (ℕ-discrete (lent .control) CONTROL-BYTES)
+    start-alike S b lent (ℕ-discrete (lent .control) CONTROL-BYTES)
     (λ a t. record {
       few = t .1;
       small = λ k. omega (arith, a);
@@ -109,22 +109,22 @@ call-alike (start b) lent s₁ s S h =
     })
 call-alike (allocate t size) lent s₁ s S h =
     let y = Plain.whenIdle (s .mem .task t .place) (Plain.beginAllocate t size (s .mem)) (s .mem) in
-    tested-alike S (lent .control) (length (lent .area)) t _ y
+    tested-alike S (lengths lent) t _ y
     (good-after y (call-good (allocate t size) (lengths lent) s (S .good)))
     (begin-allocate S (lengths lent) t size) (ℕ-discrete (lent .control) CONTROL-BYTES)
 call-alike (free t u) lent s₁ s S h =
     let v₁ = seen (s₁ .control) in
     let y = Plain.whenIdle (s .mem .task t .place) (Plain.beginFree t u (s .regions) (s .mem)) (s .mem) in
-    tested-alike S (lent .control) (length (lent .area)) t _ y
+    tested-alike S (lengths lent) t _ y
     (good-after y (call-good (free t u) (lengths lent) s (S .good)))
     (λ T. at-regions S (λ r. Stepped.whenIdle v₁ t (Stepped.beginFree v₁ r t u)) y T
     (begin-free S (lengths lent) t u T))
     (ℕ-discrete (lent .control) CONTROL-BYTES)
 call-alike (step t) lent s₁ s S h =
     let y = Steps.stepOf t (s .mem) in
-    tested-alike S (lent .control) (length (lent .area)) t _ y
+    tested-alike S (lengths lent) t _ y
     (good-after y (call-good (step t) (lengths lent) s (S .good)))
-    (λ T. at-regions S (λ r. Stepping₁.step (seen (s₁ .control)) (link (s₁ .area)) r t) y T
+    (λ T. at-regions S (λ r. Stepping₁.stepOf (seen (s₁ .control)) (link (s₁ .area)) r t) y T
     (step-both t (omega (arith, T .below, S .good .few)) (S .good .small (T .started))
     (fitting (s₁ .control) (S .bytes))
     (S .related (T .started)) (S .good .inv (T .started)) (h T)))

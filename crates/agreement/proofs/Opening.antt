@@ -25,7 +25,7 @@ use Rattle.plain.specs.State.{State, EMPTY, PARTIAL, FULL, Descriptor, Place, a
 use Rattle.plain.specs.State.{setMap, working}
 use Rattle.plain.specs.Steps as Steps
 use Rattle.plain.specs.Held.{holdsDescriptor, held}
-use Rattle.plain.specs.States.{isEmpty}
+use Rattle.plain.specs.States.{oneIfEmpty}
 use Rattle.plain.specs.Weights.{spareWeight}
 use Rattle.plain.specs.Noted.{Noted, unnoted, pop-noted, push-noted, anchor-noted, entry-noted, noted}
 use Rattle.plain.specs.Places.{NotedHolds}
@@ -56,7 +56,7 @@ use Rattle.agreement.proofs.Anchors.{full-parts, full-read}
 -- a descriptor that a task noted the anchor of is in its hand, or open
 reads-open : {regions : ℕ} {m : Mem} {j : ℕ} {p : Place} {k : ℕ → List ℕ} (w : Turn regions m j (taskOf p k)) (x : ℕ)
     (n : Noted) → NotedHolds (m .row) (m .won) (m .map) (held p) n → Reads x n → holdsDescriptor x p ≡ 0
-    → isEmpty (m .descriptor x .state) ≡ 0
+    → oneIfEmpty (m .descriptor x .state) ≡ 0
 reads-open w x unnoted N h o = absurd h
 reads-open w x (pop-noted p φ) N h o = absurd h
 reads-open w x (push-noted p φ) N h o = absurd h
@@ -64,7 +64,7 @@ reads-open {p = p} w x (anchor-noted d n) N h o = absurd (omega (arith, N, ap (�
 reads-open {m = m} w x (entry-noted y d n) N h o =
     rw h (open-not-empty (m .descriptor d .state) (owner w y d (N .0) (N .1) .counts))
 
-empty-max : (s : State) → isEmpty s ≤ 1
+empty-max : (s : State) → oneIfEmpty s ≤ 1
 empty-max EMPTY = omega arith
 empty-max PARTIAL = omega arith
 empty-max FULL = omega arith
@@ -84,7 +84,7 @@ opening : {regions : ℕ} {a : Contents} {m : Mem} {t c d r : ℕ} {k : ℕ → 
 opening {regions} {a} {m} {t} {c} {d} {r} w e s T low i own =
     let C = w .rel .core in
     let lr = region-in-hand (w .turn) r (omega (arith, when-same r 1)) in
-    let empty : isEmpty (m .descriptor d .state) ≡ 1 =
+    let empty : oneIfEmpty (m .descriptor d .state) ≡ 1 =
     omega (
       arith,
       w .turn .inv .spares d,
@@ -124,7 +124,7 @@ opening {regions} {a} {m} {t} {c} {d} {r} w e s T low i own =
             arith,
             reads-open {k = m .task j .cache} (record { inv = w .turn .inv; fits = l; is = refl }) x
                 (noted (m .task j .place)) (w .turn .inv .tasks j l .note) h z,
-            ap (λ (y : ℕ). isEmpty (m .descriptor y .state)) f,
+            ap (λ (y : ℕ). oneIfEmpty (m .descriptor y .state)) f,
           ))));
     })
     (w .rel .slots)

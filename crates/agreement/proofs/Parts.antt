@@ -11,7 +11,7 @@ use Rattle.rows.specs.Linked.{LinksAgree, Linked}
 use Rattle.rows.specs.Update.{update}
 use Rattle.rows.proofs.Linked.{linked-frame, linked-update}
 use Rattle.rows.proofs.Update.{update-all, update-all₂}
-use Rattle.plain.specs.State.{Descriptor, EMPTY, FULL, PARTIAL, State, numberOf}
+use Rattle.plain.specs.State.{Descriptor, EMPTY, FULL, PARTIAL, State, stateNumber}
 use Rattle.plain.specs.States.{IfOpen, IsOpen}
 use Rattle.agreement.specs.Contents.{Lists, Descriptors, Entries}
 use Rattle.agreement.specs.Relation.{ChainRelated, DescriptorRelated, DescriptorsRelated, EntriesRelated}
@@ -65,7 +65,7 @@ module _ {regions : ℕ} {l : Lists} {won : ℕ → ℕ} {row : ℕ → List ℕ
 -- ---- the descriptors
 module _ {regions : ℕ} {nx : ℕ → ℕ} {D : Descriptors} {P : ℕ → Descriptor} (R : DescriptorsRelated regions nx D P) where
   -- an anchor: the region and the class stay
-  pub anchor-related : (d : ℕ) (b : Anchor) (E : Descriptor) → d < DESCRIPTORS → b .state ≡ numberOf (E .state)
+  pub anchor-related : (d : ℕ) (b : Anchor) (E : Descriptor) → d < DESCRIPTORS → b .state ≡ stateNumber (E .state)
       → E .region ≡ P d .region → E .class ≡ P d .class → IfOpen (E .state) (ChainRelated nx b E)
       → b .avail ≤ MOST-BLOCKS → b .count ≤ MOST-BLOCKS
       → DescriptorsRelated regions nx (withAnchors (update (D .anchor) d b) D) (update P d E)

@@ -19,6 +19,7 @@ use Rattle.plain.specs.Steps.{top}
 use Rattle.plain.specs.Steps as Steps
 use Rattle.control.specs.Layout.{Head, TaskPlace, TaskHead, TaskNext, TaskClass, TaskDescriptor, TaskRegion}
 use Rattle.control.specs.Places.{IDLE, POP-SPARE, POP-REGION, PUSH-BACK, A3-READ, A7}
+use Rattle.control.specs.Places.{TO-NEXT, TO-EXCHANGE}
 use Rattle.control.specs.declared.answer.Answer.the-variants.{Accepted, NoDescriptor}
 use Rattle.control.specs.declared.moves.Pop.{Pop}
 use Rattle.control.specs.declared.moves.Pop.the-variants.{Partial, Spare, Region}
@@ -82,7 +83,7 @@ pop-place Spare h = r-working (r-spare h)
 pop-place Region h = r-working (r-region h)
 
 -- its last place is below 256
-place-max : (P : Pop) → Lists.popPlace P + 2 < 256
+place-max : (P : Pop) → Lists.popPlace P + TO-EXCHANGE < 256
 place-max Partial = omega arith
 place-max Spare = omega arith
 place-max Region = omega arith
@@ -131,7 +132,7 @@ module _ {regions : ℕ} {v : View} {area : List ℕ} {m : Mem} {t : ℕ} {k : �
       (λ e. found-none P w)
       (λ x q e. rw (pop-list v t P)
       (pass (leb item items) (le-leb item items (L .head))
-      (notes w ℓ (Lists.popPlace P + 1) p′ (L .below) (omega (arith, place-max P))
+      (notes w ℓ (Lists.popPlace P + TO-NEXT) p′ (L .below) (omega (arith, place-max P))
       (pop-place P
       (PopRelated.at-next refl (kept w p′ (L .noted)) (omega (arith, L .noted .same refl, ap top e)) (L .head)))))))
 
@@ -154,8 +155,8 @@ module _ {regions : ℕ} {v : View} {area : List ℕ} {m : Mem} {t : ℕ} {k : �
       (record {
         says = refl;
         keeps = (refl, refl);
-        rel = goes w (TaskPlace t := (Lists.popPlace P + 2) ∷ TaskNext t := below ∷ [])
-            (toPlace (Lists.popPlace P + 2) (toNext below (slotOf v t))) p′
+        rel = goes w (TaskPlace t := (Lists.popPlace P + TO-EXCHANGE) ∷ TaskNext t := below ∷ [])
+            (toPlace (Lists.popPlace P + TO-EXCHANGE) (toNext below (slotOf v t))) p′
             refl (rw (eq-eqb t t refl)) (λ j n. rw (ne-eqb t j n)) refl refl
             (pop-place P (PopRelated.at-exchange refl (kept w p′ N) i l b
             (λ z. rw (sub-one item) (next-of item (L .linked) (N .same z) i))));
@@ -170,10 +171,10 @@ module _ {regions : ℕ} {v : View} {area : List ℕ} {m : Mem} {t : ℕ} {k : �
       → At regions v area m t p k → Kind regions ℓ items nx column → Won v m t ℓ nx (v (TaskNext t)) q
       → (e : Decided) (x b : ℕ) (p′ : Place) → x < DESCRIPTORS → b < 256
       → PlaceRelated regions (setSlot t (toPlace b (toDescriptor x (slotOf v t)))
-      (setHead ℓ (headOf (advanced v t)) (contentsOf v area))) (Steps.at t k p′ (setRow ℓ q m))
+      (setHead ℓ (headOf (advanced v t)) (contentsOf v area))) (Steps.atPlace t k p′ (setRow ℓ q m))
       (toPlace b (toDescriptor x (slotOf v t))) p′
       → Both regions v area m (accept e (TaskPlace t := b ∷ TaskDescriptor t := x ∷ Head ℓ := advanced v t ∷ []) [])
-      (Steps.at t k p′ (setRow ℓ q m), going e)
+      (Steps.atPlace t k p′ (setRow ℓ q m), going e)
   descriptor-won {ℓ} w K W e x b p′ l i pl =
       let ws = TaskPlace t := b ∷ TaskDescriptor t := x ∷ Head ℓ := advanced v t ∷ [] in
       record {
@@ -193,7 +194,7 @@ module _ {regions : ℕ} {v : View} {area : List ℕ} {m : Mem} {t : ℕ} {k : �
       → Both regions v area m
       (Lists.whenPopped v regions t (v (TaskClass t)) P x (popped (listOf v t P) x)
       (Head (listOf v t P) := advanced v t ∷ []))
-      (Steps.to t k (Steps.whenPopped (popOf v t P) x) (setRow (listOf v t P) q m), going (popped (listOf v t P) x))
+      (Steps.atWork t k (Steps.whenPopped (popOf v t P) x) (setRow (listOf v t P) q m), going (popped (listOf v t P) x))
   pop-won Partial w x l W =
       let c = v (TaskClass t) in
       descriptor-won w (kind Partial w) W (popped c x) x A3-READ (working (Plain.a3-read c x)) l (omega arith)

@@ -13,13 +13,15 @@ use Rattle.rows.proofs.Weights.{when-same}
 use Rattle.fields.specs.Columns.{View, _:=_}
 use Rattle.words.specs.Head.{itemOf}
 use Rattle.words.specs.Anchor.{isState}
-use Rattle.plain.specs.State.{State, EMPTY, PARTIAL, FULL, numberOf, Phase, read, next, exchange, Place, idle, popping}
+use Rattle.plain.specs.State.{State, EMPTY, PARTIAL, FULL, stateNumber, Phase, read, next, exchange, Place, idle}
+use Rattle.plain.specs.State.{popping}
 use Rattle.plain.specs.State.{pushing, Mem, working}
 use Rattle.plain.specs.State as Plain
 use Rattle.plain.specs.Moves.{pushed, lost}
 use Rattle.plain.specs.Steps as Steps
 use Rattle.control.specs.Layout.{Head, TaskPlace, TaskHead, TaskClass, TaskUnit, TaskDescriptor, TaskRegion, TaskState}
 use Rattle.control.specs.Places.{IDLE, POP-PARTIAL}
+use Rattle.control.specs.Places.{TO-NEXT, TO-EXCHANGE}
 use Rattle.control.specs.declared.answer.Answer.the-variants.{Accepted, NoRegion}
 use Rattle.control.specs.declared.moves.Push.{Push}
 use Rattle.control.specs.declared.moves.Push.the-variants.{Retire, Back, Release, Offer}
@@ -36,7 +38,7 @@ use Rattle.stepped.proofs.Conjunction.{both-true}
 use Rattle.agreement.proofs.Both.{Both, pass}
 use Rattle.agreement.proofs.Turns.{At}
 use Rattle.agreement.proofs.Heads.{Kind, descriptors, spare-regions, list-of, Won, kept, moves, notes, exchanges}
-use Rattle.agreement.proofs.Nexts.{Holds, next-set, held-below, writes-next}
+use Rattle.agreement.proofs.Nexts.{HoldsItem, next-set, held-below, writes-next}
 use Rattle.agreement.proofs.Putting.{advanced, leads-to, leads-five, leads-six}
 
 -- the plain pool's push, by the reason, the class, the block being freed, the descriptor, the state found, the region
@@ -61,15 +63,15 @@ pushNexts Release a = a .lists .regionNext
 pushNexts Offer a = a .lists .descriptorNext
 
 -- a release has noted the state that it found, for the step after it
-abbrev pub Found : Push → ℕ → State → Type 0
-Found Retire was z = Unit {0}
-Found Back was z = Unit {0}
-Found Release was z = was ≡ numberOf z
-Found Offer was z = Unit {0}
+abbrev pub FoundState : Push → ℕ → State → Type 0
+FoundState Retire was z = Unit {0}
+FoundState Back was z = Unit {0}
+FoundState Release was z = was ≡ stateNumber z
+FoundState Offer was z = Unit {0}
 
 -- the place of a push
 pub push-place : {regions : ℕ} {a : Contents} {m : Mem} {s : Slot} {φ : Phase} (P : Push) (z : State)
-    → Found P (s .hand .state) z
+    → FoundState P (s .hand .state) z
     → PushRelated m s (Lists.pushPlace P) (Lists.pushList P (s .class)) (Lists.pushItems P regions) (inHand P s)
     (pushNexts P a) φ
     → PlaceRelated regions a m s
@@ -80,13 +82,13 @@ push-place Release z f h = r-working (r-release f h)
 push-place Offer z f h = r-working (r-offer h)
 
 -- a state is one of three
-state-max : (was : ℕ) (z : State) → was ≡ numberOf z → was ≤ 2
+state-max : (was : ℕ) (z : State) → was ≡ stateNumber z → was ≤ 2
 state-max was EMPTY h = omega arith
 state-max was PARTIAL h = omega arith
 state-max was FULL h = omega arith
 
 -- the last place of a push is below 256
-place-max : (P : Push) → Lists.pushPlace P + 2 < 256
+place-max : (P : Push) → Lists.pushPlace P + TO-EXCHANGE < 256
 place-max Retire = omega arith
 place-max Back = omega arith
 place-max Release = omega arith
@@ -134,7 +136,7 @@ next-is v area t Offer = refl
 
 -- the item is held
 item-held : (v : View) (regions t : ℕ) (h : v (TaskClass t) < CLASSES) (z : State) (P : Push) (φ : Phase)
-    → Holds (push-kind P regions (v (TaskClass t)) h) (itemAt v t P) (working (pushing (pushOf v t z P) φ))
+    → HoldsItem (push-kind P regions (v (TaskClass t)) h) (itemAt v t P) (working (pushing (pushOf v t z P) φ))
 unfolding push-kind
 item-held v regions t h z Retire φ = omega (arith, when-same (v (TaskDescriptor t)) 1)
 item-held v regions t h z Back φ = omega (arith, when-same (v (TaskDescriptor t)) 1)
@@ -149,7 +151,7 @@ module _ {regions : ℕ} {v : View} {area : List ℕ} {m : Mem} {t : ℕ} {k : �
   -- ---- the head read
 
   pub push-read : (P : Push) (z : State) → At regions v area m t (working (pushing (pushOf v t z P) read)) k
-      → Found P (v (TaskState t)) z
+      → FoundState P (v (TaskState t)) z
       → Both regions v area m (Lists.pushRead v regions t (v (TaskClass t)) P)
       (Steps.pushStep t k (pushOf v t z P) read m)
   unfolding Lists.pushRead
@@ -161,13 +163,13 @@ module _ {regions : ℕ} {v : View} {area : List ℕ} {m : Mem} {t : ℕ} {k : �
       let p′ = working (pushing (pushOf v t z P) (next (m .won ℓ))) in
       rw (push-list v t z P)
       (pass (leb item items) (le-leb item items (L .head))
-      (notes w ℓ (Lists.pushPlace P + 1) p′ (L .below) (omega (arith, place-max P))
+      (notes w ℓ (Lists.pushPlace P + TO-NEXT) p′ (L .below) (omega (arith, place-max P))
       (push-place P z f (PushRelated.at-next refl (kept w p′ (L .noted)) (L .head)))))
 
   -- ---- the next written
 
   pub push-next : (P : Push) (z : State) {n : ℕ} → At regions v area m t (working (pushing (pushOf v t z P) (next n))) k
-      → Found P (v (TaskState t)) z
+      → FoundState P (v (TaskState t)) z
       → PushRelated m (slotOf v t) (Lists.pushPlace P) (listOf v t P) (Lists.pushItems P regions)
       (inHand P (slotOf v t)) (pushNexts P (contentsOf v area)) (next n)
       → Both regions v area m (Lists.pushNext v regions t (v (TaskClass t)) P)
@@ -178,7 +180,7 @@ module _ {regions : ℕ} {v : View} {area : List ℕ} {m : Mem} {t : ℕ} {k : �
       let x = itemAt v t P in
       let items = Lists.pushItems P regions in
       let below = itemOf (v (TaskHead t)) in
-      let b = Lists.pushPlace P + 2 in
+      let b = Lists.pushPlace P + TO-EXCHANGE in
       let p′ = working (pushing (pushOf v t z P) (exchange n)) in
       let h = item-held v regions t (mine (w .pair) .fits) z P (next n) in
       pass (ltb x items && leb below items) (both-true (lt-ltb x items (held-below w K x h)) (le-leb below items l))
@@ -189,7 +191,7 @@ module _ {regions : ℕ} {v : View} {area : List ℕ} {m : Mem} {t : ℕ} {k : �
   -- ---- the exchange
 
   push-won : (P : Push) (z : State) {n : ℕ} → At regions v area m t (working (pushing (pushOf v t z P) (exchange n))) k
-      → Found P (v (TaskState t)) z
+      → FoundState P (v (TaskState t)) z
       → Won v m t (listOf v t P) (Lists.pushNextField P) (itemAt v t P + 1) (itemAt v t P ∷ m .row (listOf v t P))
       → Both regions v area m (Lists.whenPushed v regions t (v (TaskClass t)) P (pushed (listOf v t P) (itemAt v t P))
       (Head (listOf v t P) := advanced v t (itemAt v t P) ∷ []))
@@ -213,7 +215,7 @@ module _ {regions : ℕ} {v : View} {area : List ℕ} {m : Mem} {t : ℕ} {k : �
 
   pub push-exchange : (P : Push) (z : State) {n : ℕ}
       → At regions v area m t (working (pushing (pushOf v t z P) (exchange n))) k
-      → Found P (v (TaskState t)) z
+      → FoundState P (v (TaskState t)) z
       → PushRelated m (slotOf v t) (Lists.pushPlace P) (listOf v t P) (Lists.pushItems P regions)
       (inHand P (slotOf v t)) (pushNexts P (contentsOf v area)) (exchange n)
       → m .won (listOf v t P) < n + TAGS
@@ -250,7 +252,7 @@ module _ {regions : ℕ} {v : View} {area : List ℕ} {m : Mem} {t : ℕ} {k : �
 -- a step of a push, wherever it is
 pub push-both : {regions : ℕ} {v : View} {area : List ℕ} {m : Mem} {t : ℕ} {k : ℕ → List ℕ} {φ : Phase} (link : ℕ → ℕ)
     (P : Push) (z : State) → At regions v area m t (working (pushing (pushOf v t z P) φ)) k
-    → Found P (v (TaskState t)) z
+    → FoundState P (v (TaskState t)) z
     → PushRelated m (slotOf v t) (Lists.pushPlace P) (listOf v t P) (Lists.pushItems P regions) (inHand P (slotOf v t))
     (pushNexts P (contentsOf v area)) φ
     → Recent (m .won (listOf v t P)) φ

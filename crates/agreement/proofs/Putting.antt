@@ -7,7 +7,7 @@ use borrow.Author.Tests.{eq-eqb, ne-eqb}
 use Rattle.fields.specs.Columns.{Field, View, _:=_, assigned, Sound}
 use Rattle.words.specs.Head.{headOf, advancedWord}
 use Rattle.words.proofs.Heads.{advancedWord-below}
-use Rattle.plain.specs.State.{State, numberOf, read, offer, Place, pushing, f1, f2, Mem, setRow, working}
+use Rattle.plain.specs.State.{State, stateNumber, read, offer, Place, pushing, f1, f2, Mem, setRow, working}
 use Rattle.plain.specs.Moves.{Decided, going}
 use Rattle.plain.specs.Steps as Steps
 use Rattle.control.specs.Layout.{layout, Head, GroupCount, TaskPlace, TaskHead, TaskClass, TaskUnit, TaskDescriptor}
@@ -41,10 +41,10 @@ module _ {regions : ℕ} {v : View} {area : List ℕ} {m : Mem} {t : ℕ} {p : P
   -- to a place, and nothing else
   leads : (b : ℕ) (p′ : Place)
       → PlaceRelated regions (setSlot t (toPlace b (slotOf v t))
-      (setHead ℓ (headOf (advanced v t x)) (contentsOf v area))) (Steps.at t k p′ (setRow ℓ q m))
+      (setHead ℓ (headOf (advanced v t x)) (contentsOf v area))) (Steps.atPlace t k p′ (setRow ℓ q m))
       (toPlace b (slotOf v t)) p′
       → Related regions (contentsOf (assigned (TaskPlace t := b ∷ Head ℓ := advanced v t x ∷ []) v) area)
-      (Steps.at t k p′ (setRow ℓ q m))
+      (Steps.atPlace t k p′ (setRow ℓ q m))
   leads b p′ pl =
       let ws = TaskPlace t := b ∷ Head ℓ := advanced v t x ∷ [] in
       wins w K W ws (toPlace b (slotOf v t)) p′ (head-written v (slotOf (assigned ws v)) area ℓ (advanced v t x))
@@ -52,10 +52,10 @@ module _ {regions : ℕ} {v : View} {area : List ℕ} {m : Mem} {t : ℕ} {p : P
 
   pub leads-to : (A : Answer) (e : Decided) (b : ℕ) (p′ : Place) → b < 256
       → PlaceRelated regions (setSlot t (toPlace b (slotOf v t))
-      (setHead ℓ (headOf (advanced v t x)) (contentsOf v area))) (Steps.at t k p′ (setRow ℓ q m))
+      (setHead ℓ (headOf (advanced v t x)) (contentsOf v area))) (Steps.atPlace t k p′ (setRow ℓ q m))
       (toPlace b (slotOf v t)) p′
       → Both regions v area m (over A e (TaskPlace t := b ∷ Head ℓ := advanced v t x ∷ []) [])
-      (Steps.at t k p′ (setRow ℓ q m), record { code = codeOf A; value = valueOf A; decided = e })
+      (Steps.atPlace t k p′ (setRow ℓ q m), record { code = codeOf A; value = valueOf A; decided = e })
   leads-to A e b p′ l pl =
       let fits = w .pair .turn .fits in
       record {
@@ -70,7 +70,7 @@ module _ {regions : ℕ} {v : View} {area : List ℕ} {m : Mem} {t : ℕ} {p : P
   -- to step 2 of a free, with a group of none
   leads-f2 : Related regions
       (contentsOf (assigned (TaskPlace t := F2 ∷ GroupCount t := 0 ∷ Head ℓ := advanced v t x ∷ []) v) area)
-      (Steps.at t k (working (f2 (v (TaskClass t)) (v (TaskUnit t)) [])) (setRow ℓ q m))
+      (Steps.atPlace t k (working (f2 (v (TaskClass t)) (v (TaskUnit t)) [])) (setRow ℓ q m))
   leads-f2 =
       let ws = TaskPlace t := F2 ∷ GroupCount t := 0 ∷ Head ℓ := advanced v t x ∷ [] in
       wins w K W ws (toPlace F2 (toGrouped 0 (slotOf v t))) (working (f2 (v (TaskClass t)) (v (TaskUnit t)) []))
@@ -80,16 +80,16 @@ module _ {regions : ℕ} {v : View} {area : List ℕ} {m : Mem} {t : ℕ} {p : P
   -- to step 6 of a free
   pub leads-six : (e : Decided)
       → Both regions v area m (Lists.f6 v regions t (v (TaskClass t)) e (Head ℓ := advanced v t x ∷ []))
-      (Steps.to t k (Steps.f6 (k (v (TaskClass t))) (v (TaskClass t)) (v (TaskUnit t))) (setRow ℓ q m), going e)
+      (Steps.atWork t k (Steps.f6 (k (v (TaskClass t))) (v (TaskClass t)) (v (TaskUnit t))) (setRow ℓ q m), going e)
   leads-six e =
       six w e (Head ℓ := advanced v t x ∷ []) (setRow ℓ q m) (v (TaskUnit t)) exchange-sound (refl, refl)
       (leads F1 (working (f1 (v (TaskClass t)) (v (TaskUnit t)))) (r-working (r-f1 refl))) leads-f2
 
   -- to step 5
-  pub leads-five : (e : Decided) (z : State) → v (TaskState t) ≡ numberOf z
+  pub leads-five : (e : Decided) (z : State) → v (TaskState t) ≡ stateNumber z
       → Both regions v area m
       (Lists.f5 v regions t (v (TaskClass t)) (v (TaskState t)) e (Head ℓ := advanced v t x ∷ [])) (
-        Steps.to t k (Steps.f5 z (k (v (TaskClass t))) (v (TaskClass t)) (v (TaskUnit t)) (v (TaskDescriptor t)))
+        Steps.atWork t k (Steps.f5 z (k (v (TaskClass t))) (v (TaskClass t)) (v (TaskUnit t)) (v (TaskDescriptor t)))
             (setRow ℓ q m),
         going e,
       )

@@ -53,7 +53,7 @@ module _ {regions : ℕ} {v : View} {area : List ℕ} {m : Mem} {t : ℕ} {k : �
     -- the anchor of the descriptor d
     read-of : (d : ℕ) → m .map (regionOf y) ≡ suc d → GroupRelated (contentsOf v area) (slotOf v t) y g
         → Both regions v area m (Free.f3ReadOf v (link area) regions t (v (TaskClass t)) d (v (GroupCount t))) (
-          Steps.at t k (working (f3-link (v (TaskClass t)) (v (TaskUnit t)) y g d (noteOf (m .descriptor d)))) m,
+          Steps.atPlace t k (working (f3-link (v (TaskClass t)) (v (TaskUnit t)) y g d (noteOf (m .descriptor d)))) m,
           going
               nothing,
         )

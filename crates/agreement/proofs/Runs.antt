@@ -51,8 +51,8 @@ answered es s₁ U p = same-answers es s₁ unstarted (agreement es s₁ U p)
 
 -- the same from an accepted start on any memories
 pub answered-from-start : (es : List Event) (s₁ : Memories) (s : Pool) (b : Start) (area : List ℕ)
-    → Plain.Area (length area)
-    → Plain.Tasks (b .tasks) → Premises es (whole (starting b area) s .0)
+    → Plain.StartArea (length area)
+    → Plain.StartTasks (b .tasks) → Premises es (whole (starting b area) s .0)
     → steppedAnswers (starting b area ∷ es) s₁ ≡ wholeAnswers (starting b area ∷ es) s
 answered-from-start es s₁ s b area a t p =
     same-answers (starting b area ∷ es) s₁ s (agreement-from-start es s₁ s b area a t p)
@@ -99,22 +99,22 @@ ByteHeld at s =
     (1 ≤ s .tasks) × ((1 ≤ s .mem .hands u) × ((UNIT-BYTES * u ≤ at) × (at < UNIT-BYTES * u + block (classThere u s))))
 
 -- every write of the list is into a block in a user's hands
-abbrev pub Writes : List Event → Pool → Type 0
-Writes [] s = Unit {0}
-Writes (call k lent ∷ es) s = Writes es (whole (call k lent) s .0)
-Writes (write at b ∷ es) s = ByteHeld at s × Writes es s
+abbrev pub WritesHeld : List Event → Pool → Type 0
+WritesHeld [] s = Unit {0}
+WritesHeld (call k lent ∷ es) s = WritesHeld es (whole (call k lent) s .0)
+WritesHeld (write at b ∷ es) s = ByteHeld at s × WritesHeld es s
 
 -- whether it is so is found by running the plain pool
-unfoldable pub writes? : (es : List Event) (s : Pool) → Dec (Writes es s)
-writes? [] s = yes tt
-writes? (call k lent ∷ es) s = writes? es (whole (call k lent) s .0)
-writes? (write at b ∷ es) s =
+unfoldable pub writesHeld? : (es : List Event) (s : Pool) → Dec (WritesHeld es s)
+writesHeld? [] s = yes tt
+writesHeld? (call k lent ∷ es) s = writesHeld? es (whole (call k lent) s .0)
+writesHeld? (write at b ∷ es) s =
     let u = blockAt at s in
     both
     (both (decLe 1 (s .tasks))
     (both (decLe 1 (s .mem .hands u))
     (both (decLe (UNIT-BYTES * u) at) (decLt at (UNIT-BYTES * u + block (classThere u s))))))
-    (writes? es s)
+    (writesHeld? es s)
 
 -- the answer of a test is yes
 abbrev pub Yes : {P : Type 0} → Dec P → Type 0
@@ -129,7 +129,7 @@ found (no n) h = absurd h
 
 -- A list of events that ends before the 2^32nd, counted from the last start, meets the premise on heads; so what is
 -- left to ask is that of the writes. No list of the pool s has won more than n exchanges.
-pub short : (n : ℕ) (es : List Event) (s : Pool) → AtMost n s → n + length es ≤ TAGS → Writes es s → Premises es s
+pub short : (n : ℕ) (es : List Event) (s : Pool) → AtMost n s → n + length es ≤ TAGS → WritesHeld es s → Premises es s
 short n [] s a l w = tt
 short n (call k lent ∷ es) s a l w = (
   call-near k (lengths lent) s (λ h ℓ. omega (arith, a h ℓ)),

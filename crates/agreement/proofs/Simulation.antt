@@ -12,7 +12,7 @@ use Rattle.limits.specs.Limits.{CONTROL-BYTES, REGIONS, REGION-BYTES, TASKS}
 use Rattle.rows.specs.Branch.{if}
 use Rattle.rows.proofs.Branch.{if-yes, if-no}
 use Rattle.fields.specs.Little.{Bytes}
-use Rattle.fields.specs.Columns.{Field, View, Has, width, at, assigned}
+use Rattle.fields.specs.Columns.{Field, View, Has, width, firstByte, assigned}
 use Rattle.fields.proofs.Numbers.{getLE-lt}
 use Rattle.fields.proofs.Layouts.{length-written, bytes-written}
 use Rattle.links.specs.Link.{linked}
@@ -41,7 +41,7 @@ pub record Alike (Further : Memories → Type 0) (x : Memories × Answer) (y : P
 
 -- the fields of bytes hold numbers of their widths
 pub fitting : (b : List ℕ) → Bytes b → Fitting (seen b)
-fitting b h f k = getLE-lt b (at layout f) (width layout f) h
+fitting b h f k = getLE-lt b (firstByte layout f) (width layout f) h
 
 module _ {s₁ : Memories} {s : Pool} (S : Tied s₁ s) where
   abbrev v : View
@@ -49,7 +49,7 @@ module _ {s₁ : Memories} {s : Pool} (S : Tied s₁ s) where
 
   -- a refused call
   pub stays : (Further : Memories → Type 0) → Further s₁ → (n : ℕ)
-      → Alike Further (ran (effect (refuse n) (s₁ .control) (s₁ .area))) (Plain.refuse n s)
+      → Alike Further (ran (effect (refuse n) s₁)) (Plain.refuse n s)
   stays Further h n = record {
     says = refl;
     shows = h;
@@ -69,7 +69,7 @@ module _ {s₁ : Memories} {s : Pool} (S : Tied s₁ s) where
   -- an outcome whose writes are done on the bytes
   pub moves : (o : Outcome) (y : Result) → 1 ≤ s .tasks → Good (Plain.became s y .0)
       → Both (s .regions) v (s₁ .area) (s .mem) o y
-      → Alike (HandsKept s₁ s) (ran (effect o (s₁ .control) (s₁ .area))) (Plain.became s y)
+      → Alike (HandsKept s₁ s) (ran (effect o s₁)) (Plain.became s y)
   moves o y h g B = record {
     says = B .says;
     shows =
@@ -90,35 +90,34 @@ module _ {s₁ : Memories} {s : Pool} (S : Tied s₁ s) where
 
   -- ---- tests 1, 4, 2, 5
 
-  module _ (control area t : ℕ) (x : Outcome) (y : Result)
-      (g : Taken (record { control = control; area = area }) t s → Good (Plain.became s y .0))
-      (both : Taken (record { control = control; area = area }) t s → Both (s .regions) v (s₁ .area) (s .mem) x y) where
+  module _ (lent : Lengths) (t : ℕ) (x : Outcome) (y : Result) (g : Taken lent t s → Good (Plain.became s y .0))
+      (both : Taken lent t s → Both (s .regions) v (s₁ .area) (s .mem) x y) where
     abbrev Run : Outcome → Memories × Answer
-    Run o = ran (effect o (s₁ .control) (s₁ .area))
+    Run o = ran (effect o s₁)
 
-    test-five : control ≡ CONTROL-BYTES → 1 ≤ s .tasks → area ≡ REGION-BYTES * s .regions → (d : Dec (t < s .tasks))
+    test-five : lent .control ≡ CONTROL-BYTES → 1 ≤ s .tasks → lent .area ≡ REGION-BYTES * s .regions
+        → (d : Dec (t < s .tasks))
         → Alike (HandsKept s₁ s) (Run (cond (ltb t (v Tasks)) x (refuse 5)))
         (if d (Plain.became s y) (Plain.refuse 5 s))
     test-five p q r (yes l) =
-        let T : Taken (record { control = control; area = area }) t s =
-        record { control-is = p; started = q; area-is = r; below = l } in
+        let T : Taken lent t s = record { control-is = p; started = q; area-is = r; below = l } in
         rw (S .tasks, lt-ltb t (s .tasks) l) (moves x y q (g T) (both T))
     test-five p q r (no l) = rw (S .tasks, le-ltb t (s .tasks) (omega arith)) (stays (HandsKept s₁ s) (λ at k. refl) 5)
 
-    test-two : control ≡ CONTROL-BYTES → 1 ≤ s .tasks → (d : Dec (area ≡ REGION-BYTES * s .regions))
+    test-two : lent .control ≡ CONTROL-BYTES → 1 ≤ s .tasks → (d : Dec (lent .area ≡ REGION-BYTES * s .regions))
         → Alike (HandsKept s₁ s)
-        (Run (cond (eqb area (REGION-BYTES * v Regions)) (cond (ltb t (v Tasks)) x (refuse 5)) (refuse 2)))
+        (Run (cond (eqb (lent .area) (REGION-BYTES * v Regions)) (cond (ltb t (v Tasks)) x (refuse 5)) (refuse 2)))
         (if d (if (decLt t (s .tasks)) (Plain.became s y) (Plain.refuse 5 s)) (Plain.refuse 2 s))
     test-two p q (yes e) =
-        rw (S .regions q, eq-eqb area (REGION-BYTES * s .regions) e) (test-five p q e (decLt t (s .tasks)))
+        rw (S .regions q, eq-eqb (lent .area) (REGION-BYTES * s .regions) e) (test-five p q e (decLt t (s .tasks)))
     test-two p q (no e) =
-        rw (S .regions q, ne-eqb area (REGION-BYTES * s .regions) e) (stays (HandsKept s₁ s) (λ at k. refl) 2)
+        rw (S .regions q, ne-eqb (lent .area) (REGION-BYTES * s .regions) e) (stays (HandsKept s₁ s) (λ at k. refl) 2)
 
     -- the stored numbers are in their ranges
-    test-four : control ≡ CONTROL-BYTES → (d : Dec (s .tasks ≡ 0))
-        → Alike (HandsKept s₁ s) (Run (Stepped.tested CONTROL-BYTES area v t x))
+    test-four : lent .control ≡ CONTROL-BYTES → (d : Dec (s .tasks ≡ 0))
+        → Alike (HandsKept s₁ s) (Run (Stepped.tested (record { control = CONTROL-BYTES; area = lent .area }) v t x))
         (if d (Plain.refuse 4 s)
-        (if (ℕ-discrete area (REGION-BYTES * s .regions))
+        (if (ℕ-discrete (lent .area) (REGION-BYTES * s .regions))
         (if (decLt t (s .tasks)) (Plain.became s y) (Plain.refuse 5 s)) (Plain.refuse 2 s)))
     unfolding Stepped.tested
     test-four p (yes e) =
@@ -132,18 +131,18 @@ module _ {s₁ : Memories} {s : Pool} (S : Tied s₁ s) where
           le-leb 1 (v Regions) (omega (arith, S .regions q, S .some q)),
           le-leb (v Regions) REGIONS (omega (arith, S .regions q, S .good .small q)),
         )
-        (test-two p q (ℕ-discrete area (REGION-BYTES * s .regions)))
+        (test-two p q (ℕ-discrete (lent .area) (REGION-BYTES * s .regions)))
 
-    pub tested-alike : (d : Dec (control ≡ CONTROL-BYTES))
-        → Alike (HandsKept s₁ s) (Run (Stepped.tested control area v t x))
+    pub tested-alike : (d : Dec (lent .control ≡ CONTROL-BYTES))
+        → Alike (HandsKept s₁ s) (Run (Stepped.tested lent v t x))
         (if d
         (if (ℕ-discrete (s .tasks) 0) (Plain.refuse 4 s)
-        (if (ℕ-discrete area (REGION-BYTES * s .regions))
+        (if (ℕ-discrete (lent .area) (REGION-BYTES * s .regions))
         (if (decLt t (s .tasks)) (Plain.became s y) (Plain.refuse 5 s)) (Plain.refuse 2 s)))
         (Plain.refuse 1 s))
     unfolding Stepped.tested
     tested-alike (yes e) = rw e (test-four e (ℕ-discrete (s .tasks) 0))
-    tested-alike (no e) = rw (ne-eqb control CONTROL-BYTES e) (stays (HandsKept s₁ s) (λ at k. refl) 1)
+    tested-alike (no e) = rw (ne-eqb (lent .control) CONTROL-BYTES e) (stays (HandsKept s₁ s) (λ at k. refl) 1)
 
 -- a call that passes the tests does what follows them
 pub taken-is : {lent : Lengths} {t : ℕ} {s : Pool} (y : Result) → Taken lent t s

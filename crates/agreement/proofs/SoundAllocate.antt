@@ -6,7 +6,7 @@ use mathlib.Core.Bool.{Bool, true, _&&_}
 use native.Mathlib.Omega.{arith}
 use borrow.Author.Tests.{leb-true, ltb-true, eqb-true}
 use lib.Dec.{eqb, leb, ltb}
-use Rattle.limits.specs.Limits.{REGIONS, UNITS, TASKS, CLASSES, DESCRIPTORS, MOST-BLOCKS}
+use Rattle.limits.specs.Limits.{REGIONS, UNITS, TASKS, CLASSES, DESCRIPTORS, MOST-BLOCKS, WORD-MARKS}
 use Rattle.fields.specs.Columns.{View}
 use Rattle.words.specs.Anchor.{EMPTY, anchorOf, anchorWord, full}
 use Rattle.words.proofs.Anchors.{anchor-below}
@@ -56,7 +56,8 @@ module _ (v : View) (fits : Fitting v) (link : ℕ → ℕ) {regions t c : ℕ} 
           perRegion-high c,
           top-max regions c few (k - 1) (link u) (right-true (isBlock regions c u) top h),
           u-max,
-          set-below (v (Marks (u / 64))) (u % 64) 64 (fits (Marks (u / 64)) (omega (arith, u-max))) (omega arith),
+          set-below (v (Marks (u / WORD-MARKS))) (u % WORD-MARKS) 64
+              (fits (Marks (u / WORD-MARKS)) (omega (arith, u-max))) (omega arith),
         );
         own = omega arith;
       })

@@ -9,8 +9,8 @@ use native.Mathlib.Omega.{arith}
 use borrow.Author.Tests.{ne-eqb, ltb-true, ltb-false}
 use lib.Dec.{eqb, leb, ltb}
 use lib.ListN.{length}
-use Rattle.limits.specs.Limits.{CONTROL-BYTES, UNITS, TASKS, CLASSES, DESCRIPTORS, MOST-BYTES}
-use Rattle.fields.specs.Columns.{Field, View, Write, _:=_, assign, assigned, at, width, Has}
+use Rattle.limits.specs.Limits.{CONTROL-BYTES, UNITS, TASKS, CLASSES, DESCRIPTORS, LARGEST-SIZE, WORD-MARKS}
+use Rattle.fields.specs.Columns.{Field, View, Write, _:=_, assign, assigned, firstByte, width, Has}
 use Rattle.fields.specs.Little.{Bytes}
 use Rattle.fields.proofs.Numbers.{getLE-lt}
 use Rattle.words.specs.Anchor.{EMPTY, anchorOf}
@@ -18,6 +18,7 @@ use Rattle.words.specs.Mark.{isSet}
 use Rattle.words.proofs.Marks.{clear-below}
 use Rattle.classes.specs.Geometry.{regionOf, isFirst}
 use Rattle.classes.proofs.Sizes.{is-class}
+use Rattle.plain.specs.Calls.{Lengths}
 use Rattle.control.specs.Layout.{layout, seen, changed, Anchor, Marks, Map, Regions, DescriptorRegion}
 use Rattle.control.specs.Layout.{DescriptorClass, TaskPlace}
 use Rattle.control.specs.Places.{IDLE, PLACES}
@@ -35,7 +36,7 @@ use Rattle.agreement.proofs.SoundSteps.{step-fit}
 
 -- ---- the beginnings
 
-module _ {control area : ℕ} {v : View} (fits : Fitting v) {t : ℕ} (T : Tested control area v t) where
+module _ {lent : Lengths} {v : View} (fits : Fitting v) {t : ℕ} (T : Tested lent v t) where
   task : t < TASKS
   task = omega (arith, T .below, T .tasks)
 
@@ -48,14 +49,14 @@ module _ {control area : ℕ} {v : View} (fits : Fitting v) {t : ℕ} (T : Teste
   unfolding Calls.beginAllocate
   allocate-fit size =
       idle-fit (Calls.beginAllocate t size)
-      (branch (Fit t) (eqb size 0) (λ e. none) (λ e. branch (Fit t) (ltb MOST-BYTES size) (λ h. none)
-      (λ h. record { sound = omega (arith, task, is-class size (ltb-false MOST-BYTES size h)); own = omega arith })))
+      (branch (Fit t) (eqb size 0) (λ e. none) (λ e. branch (Fit t) (ltb LARGEST-SIZE size) (λ h. none)
+      (λ h. record { sound = omega (arith, task, is-class size (ltb-false LARGEST-SIZE size h)); own = omega arith })))
 
   marked-fit : (u c : ℕ) → u < UNITS → c < CLASSES → Fit t (Calls.freeMarked v t u c)
   unfolding Calls.freeMarked
   marked-fit u c l k =
-      let marks = v (Marks (u / 64)) in
-      branch (Fit t) (isSet marks (u % 64))
+      let marks = v (Marks (u / WORD-MARKS)) in
+      branch (Fit t) (isSet marks (u % WORD-MARKS))
       (λ e. record {
         sound =
             omega (
@@ -63,7 +64,7 @@ module _ {control area : ℕ} {v : View} (fits : Fitting v) {t : ℕ} (T : Teste
               task,
               l,
               k,
-              clear-below marks (u % 64) 64 (fits (Marks (u / 64)) (omega (arith, l)))
+              clear-below marks (u % WORD-MARKS) 64 (fits (Marks (u / WORD-MARKS)) (omega (arith, l)))
                   (omega arith),
             );
         own = omega arith;
@@ -92,22 +93,22 @@ module _ {control area : ℕ} {v : View} (fits : Fitting v) {t : ℕ} (T : Teste
 
 -- what stands in bytes fits
 pub seen-fitting : (control : List ℕ) → Bytes control → Fitting (seen control)
-seen-fitting control b g h = getLE-lt control (at layout g) (width layout g) b
+seen-fitting control b g h = getLE-lt control (firstByte layout g) (width layout g) b
 
 -- A step on bytes, with any bytes: the task's place is afterwards the one that its outcome leads to.
-module _ (area : ℕ) (link : ℕ → ℕ) (t : ℕ) (b : List ℕ) (bytes : Bytes b) where
+module _ (lent : Lengths) (link : ℕ → ℕ) (t : ℕ) (b : List ℕ) (bytes : Bytes b) (long : lent .control ≡ length b) where
   abbrev o : Outcome
-  o = Calls.stepOutcome (length b) area (seen b) link t
+  o = Calls.stepOutcome lent (seen b) link t
 
   -- each field of the layout holds what the outcome writes to it, or what it held; and any field, where a test of the
   -- call fails
-  pub step-seen : (g : Field) → (Tested (length b) area (seen b) t → Has layout g)
+  pub step-seen : (g : Field) → (Tested lent (seen b) t → Has layout g)
       → seen (changed (o .writes) b) g ≡ assigned (o .writes) (seen b) g
   unfolding Calls.stepOutcome
   step-seen g has =
       let P : Outcome → Type 0 = λ x. seen (changed (x .writes) b) g ≡ assigned (x .writes) (seen b) g in
-      tests P (length b) area (seen b) t _ (λ n h. refl)
-      (λ T. seen-changed (Steps.step (seen b) link (seen b Regions) t .writes) b g (T .control-is)
+      tests P lent (seen b) t _ (λ n h. refl)
+      (λ T. seen-changed (Steps.stepOf (seen b) link (seen b Regions) t .writes) b g (sym long ∙ T .control-is)
       (step-fit (seen-fitting b bytes) link T .sound) (has T))
 
   pub step-place : seen (changed (o .writes) b) (TaskPlace t) ≡ placeAfter o (seen b) t
@@ -129,7 +130,7 @@ module _ {t u : ℕ} (other : u ≢ t) where
   writes-keep [] own v = refl
   writes-keep ((f := x) ∷ ws) own v = writes-keep ws (own .1) (assign (f := x) v) ∙ write-keeps f x (own .0) v
 
-  module _ (area : ℕ) (b : List ℕ) (bytes : Bytes b) (task-is : u < TASKS) where
+  module _ (lent : Lengths) (b : List ℕ) (bytes : Bytes b) (long : lent .control ≡ length b) (task-is : u < TASKS) where
     -- the outcome x leaves the place of u
     abbrev Stays : Outcome → Type 0
     Stays x = seen (changed (x .writes) b) (TaskPlace u) ≡ seen b (TaskPlace u)
@@ -139,18 +140,18 @@ module _ {t u : ℕ} (other : u ≢ t) where
         seen-changed (x .writes) b (TaskPlace u) l (f .sound) (omega (arith, task-is))
         ∙ writes-keep (x .writes) (f .own) (seen b)
 
-    tested-stays : (x : Outcome) → (Tested (length b) area (seen b) t → Fit t x)
-        → Stays (Calls.tested (length b) area (seen b) t x)
-    tested-stays x f = tests Stays (length b) area (seen b) t x (λ n h. refl) (λ T. stays x (T .control-is) (f T))
+    tested-stays : (x : Outcome) → (Tested lent (seen b) t → Fit t x)
+        → Stays (Calls.tested lent (seen b) t x)
+    tested-stays x f = tests Stays lent (seen b) t x (λ n h. refl) (λ T. stays x (sym long ∙ T .control-is) (f T))
 
-    pub step-others : (link : ℕ → ℕ) → Stays (Calls.stepOutcome (length b) area (seen b) link t)
+    pub step-others : (link : ℕ → ℕ) → Stays (Calls.stepOutcome lent (seen b) link t)
     unfolding Calls.stepOutcome
     step-others link = tested-stays _ (λ T. step-fit (seen-fitting b bytes) link T)
 
-    pub allocate-others : (size : ℕ) → Stays (Calls.allocateOutcome (length b) area (seen b) t size)
+    pub allocate-others : (size : ℕ) → Stays (Calls.allocateOutcome lent (seen b) t size)
     unfolding Calls.allocateOutcome
     allocate-others size = tested-stays _ (λ T. allocate-fit (seen-fitting b bytes) T size)
 
-    pub free-others : (unit : ℕ) → Stays (Calls.freeOutcome (length b) area (seen b) t unit)
+    pub free-others : (unit : ℕ) → Stays (Calls.freeOutcome lent (seen b) t unit)
     unfolding Calls.freeOutcome
     free-others unit = tested-stays _ (λ T. free-fit (seen-fitting b bytes) T unit)

@@ -8,6 +8,7 @@ use lib.Dec.{ltb}
 use lib.ListN.{getD}
 use Rattle.limits.specs.Limits.{REGIONS, TASKS, CLASSES}
 use Rattle.fields.specs.Columns.{View}
+use Rattle.plain.specs.Calls.{Lengths}
 use Rattle.control.specs.Layout.{Regions}
 use Rattle.control.specs.Layout.{TaskPlace, TaskClass}
 use Rattle.control.specs.Places.{IDLE}
@@ -29,9 +30,9 @@ use Rattle.stepped.specs.Calls.{Tested}
 module _ (v : View) (fits : Fitting v) (link : ℕ → ℕ) {regions t c : ℕ} (few : regions ≤ REGIONS) (task : t < TASKS)
     (class : c < CLASSES) where
   -- each outcome of a list is sound
-  data Each : List Outcome → Type 0 where
-    end : Each []
-    _then_ : {o : Outcome} {os : List Outcome} → Fit t o → Each os → Each (o ∷ os)
+  data EachSound : List Outcome → Type 0 where
+    end : EachSound []
+    _then_ : {o : Outcome} {os : List Outcome} → Fit t o → EachSound os → EachSound (o ∷ os)
 
   infixr 5 _then_
   pop-sound : (p : Pop) → Fit t (Lists.popRead v regions t c p) × Fit t (Lists.popNext v regions t c p)
@@ -52,7 +53,7 @@ module _ (v : View) (fits : Fitting v) (link : ℕ → ℕ) {regions t c : ℕ} 
         task class p,
   )
 
-  all : Each (Steps.steps v link regions t c)
+  all : EachSound (Steps.stepList v link regions t c)
   all =
       none
       then Allocate.a1 v fits link few task class
@@ -90,19 +91,19 @@ module _ (v : View) (fits : Fitting v) (link : ℕ → ℕ) {regions t c : ℕ} 
       then Free.f4-clear v fits link few task class
       then end
 
-  found : (os : List Outcome) → Each os → (place : ℕ) → Fit t (getD os place bad)
+  found : (os : List Outcome) → EachSound os → (place : ℕ) → Fit t (getD os place bad)
   found [] end place = none
   found (o ∷ os) (f then fs) zero = f
   found (o ∷ os) (f then fs) (suc place) = found os fs place
 
   step-at : (place : ℕ) → Fit t (Steps.stepAt v link regions t c place)
   unfolding Steps.stepAt
-  step-at place = found (Steps.steps v link regions t c) all place
+  step-at place = found (Steps.stepList v link regions t c) all place
 
 -- the step of a task, once the tests have passed
-module _ {control area : ℕ} {v : View} (fits : Fitting v) (link : ℕ → ℕ) {t : ℕ} (T : Tested control area v t) where
-  pub step-fit : Fit t (Steps.step v link (v Regions) t)
-  unfolding Steps.step
+module _ {lent : Lengths} {v : View} (fits : Fitting v) (link : ℕ → ℕ) {t : ℕ} (T : Tested lent v t) where
+  pub step-fit : Fit t (Steps.stepOf v link (v Regions) t)
+  unfolding Steps.stepOf
   step-fit =
       let task : t < TASKS = omega (arith, T .below, T .tasks) in
       branch (Fit t) (ltb IDLE (v (TaskPlace t))) (λ e. branch (Fit t) (ltb (v (TaskClass t)) CLASSES)

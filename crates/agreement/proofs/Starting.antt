@@ -10,7 +10,7 @@ use lib.ListN.{length, replicate, length-replicate}
 use Rattle.limits.specs.Limits.{CONTROL-BYTES, REGIONS, REGION-BYTES, AREA-BYTES, UNITS, TASKS, DESCRIPTORS}
 use Rattle.rows.specs.Branch.{if}
 use Rattle.rows.proofs.Branch.{if-yes}
-use Rattle.fields.specs.Columns.{Field, at, width, Has, Sound}
+use Rattle.fields.specs.Columns.{Field, firstByte, width, Has, Sound}
 use Rattle.fields.proofs.Layouts.{length-written, bytes-written}
 use Rattle.plain.specs.Moves.{going, nothing}
 use Rattle.plain.specs.Calls.{Pool, Start}
@@ -18,12 +18,14 @@ use Rattle.control.specs.declared.answer.Answer.the-variants.{Accepted}
 use Rattle.plain.specs.Calls as Plain
 use Rattle.plain.specs.Invariant.{Good}
 use Rattle.plain.proofs.Starts.{start-inv}
-use Rattle.control.specs.Layout.{CACHES, layout, Tasks, Regions, seen, DescriptorNext, RegionNext, Top, descriptorNexts}
+use Rattle.control.specs.Layout.{CACHES, layout, Tasks, Regions, seen, DescriptorNext, RegionNext, TopOfCache}
+use Rattle.control.specs.Layout.{descriptorNexts}
 use Rattle.control.specs.Layout.{regionNexts, cacheTops}
 use Rattle.control.proofs.Fields.{seen-changed}
 use Rattle.stepped.specs.Outcome.{effect, refuse, Memories}
 use Rattle.stepped.specs.Ranges.{oneTo}
 use Rattle.stepped.specs.Start.{fill, nextUp, startWrites, startImage}
+use Rattle.stepped.specs.Calls.{Lent}
 use Rattle.stepped.specs.Calls as Stepped
 use Rattle.agreement.specs.Events.{ran, stepped}
 use Rattle.agreement.specs.Reached.{starting}
@@ -47,10 +49,10 @@ module _ (tasks regions : ℕ) (few : tasks ≤ TASKS) (small : regions ≤ REGI
         (
           omega arith,
           append-sound (fill DescriptorNext (nextUp DESCRIPTORS) DESCRIPTORS)
-              (fill RegionNext (nextUp regions) regions ++ fill Top (λ i. UNITS) CACHES)
+              (fill RegionNext (nextUp regions) regions ++ fill TopOfCache (λ i. UNITS) CACHES)
               (fill-sound descriptorNexts (nextUp DESCRIPTORS) DESCRIPTORS DESCRIPTORS 256 (λ i x l k. omega arith)
               (λ i l. omega (arith, next-max DESCRIPTORS i l)) (omega arith))
-              (append-sound (fill RegionNext (nextUp regions) regions) (fill Top (λ i. UNITS) CACHES)
+              (append-sound (fill RegionNext (nextUp regions) regions) (fill TopOfCache (λ i. UNITS) CACHES)
               (fill-sound regionNexts (nextUp regions) regions REGIONS 256 (λ i x l k. omega arith)
               (λ i l. omega (arith, next-max regions i l)) small)
               (fill-sound cacheTops (λ i. UNITS) CACHES CACHES 65536 (λ i x l k. omega arith) (λ i l. omega arith)
@@ -67,7 +69,7 @@ module _ (tasks regions : ℕ) (few : tasks ≤ TASKS) (small : regions ≤ REGI
       seen-changed (startWrites tasks regions) (replicate CONTROL-BYTES 0) g (length-replicate {A = ℕ} CONTROL-BYTES 0)
       start-sound h
       ∙ assigned-same (startWrites tasks regions) (seen (replicate CONTROL-BYTES 0)) zeroed g
-      (getLE-zeros CONTROL-BYTES (at layout g) (width layout g))
+      (getLE-zeros CONTROL-BYTES (firstByte layout g) (width layout g))
       ∙ start-view tasks regions g
 
   -- the image and any area of the length are related to the plain pool after a start
@@ -96,18 +98,26 @@ module _ (tasks regions : ℕ) (few : tasks ≤ TASKS) (small : regions ≤ REGI
 abbrev new : ℕ → ℕ → Pool
 new tasks regions = record { tasks = tasks; regions = regions; mem = Plain.startMem regions }
 
-module _ {s₁ : Memories} {s : Pool} (S : Tied s₁ s) (control : ℕ) (area : List ℕ) (tasks : ℕ) where
+module _ {s₁ : Memories} {s : Pool} (S : Tied s₁ s) (b : Start) (lent : Lent) where
+  abbrev tasks : ℕ
+  tasks = b .tasks
+
   abbrev bytes : ℕ
-  bytes = length area
+  bytes = length (lent .area)
 
   -- ---- tests 3, 2 and 1
 
-  test-three : Plain.Area bytes → (d : Dec (Plain.Tasks tasks))
-      → (Plain.Tasks tasks → Good (new tasks (bytes / REGION-BYTES)))
+  test-three : Plain.StartArea bytes → (d : Dec (Plain.StartTasks tasks))
+      → (Plain.StartTasks tasks → Good (new tasks (bytes / REGION-BYTES)))
       → Alike (λ z. Unit {0})
       (ran (cond (oneTo TASKS tasks)
-      (record { answer = Accepted; decided = nothing; control = startImage tasks (bytes / REGION-BYTES); area = area })
-      (effect (refuse 3) (s₁ .control) (s₁ .area))))
+      (record {
+        answer = Accepted;
+        decided = nothing;
+        control = startImage tasks (bytes / REGION-BYTES);
+        area = lent .area;
+      })
+      (effect (refuse 3) s₁)))
       (if d (new tasks (bytes / REGION-BYTES), going nothing) (Plain.refuse 3 s))
   test-three a (yes t) g =
       rw (le-leb 1 tasks (t .0), le-leb tasks TASKS (t .1))
@@ -115,7 +125,8 @@ module _ {s₁ : Memories} {s : Pool} (S : Tied s₁ s) (control : ℕ) (area : 
         says = refl;
         shows = tt;
         tied =
-            started tasks (bytes / REGION-BYTES) (t .1) (omega (arith, a)) area (omega (arith, a)) (omega (arith, a))
+            started tasks (bytes / REGION-BYTES) (t .1) (omega (arith, a)) (lent .area) (omega (arith, a))
+            (omega (arith, a))
             (new tasks (bytes / REGION-BYTES)) refl (g t);
       })
   test-three a (no t) g = elim (decLe 1 tasks) [
@@ -124,15 +135,15 @@ module _ {s₁ : Memories} {s : Pool} (S : Tied s₁ s) (control : ℕ) (area : 
     | no l ↦ rw (lt-leb 1 tasks (omega arith)) (stays S (λ z. Unit {0}) tt 3)
   ]
 
-  test-two : (d : Dec (Plain.Area bytes))
-      → (Plain.Area bytes → Plain.Tasks tasks → Good (new tasks (bytes / REGION-BYTES)))
-      → Alike (λ z. Unit {0}) (ran (Stepped.startIn CONTROL-BYTES area tasks (s₁ .control) (s₁ .area)))
-      (if d (if (Plain.tasks? tasks) (new tasks (bytes / REGION-BYTES), going nothing) (Plain.refuse 3 s))
+  test-two : (d : Dec (Plain.StartArea bytes))
+      → (Plain.StartArea bytes → Plain.StartTasks tasks → Good (new tasks (bytes / REGION-BYTES)))
+      → Alike (λ z. Unit {0}) (ran (Stepped.startIn b (record { control = CONTROL-BYTES; area = lent .area }) s₁))
+      (if d (if (Plain.startTasks? tasks) (new tasks (bytes / REGION-BYTES), going nothing) (Plain.refuse 3 s))
       (Plain.refuse 2 s))
   unfolding Stepped.startIn
   test-two (yes a) g =
       rw (eq-eqb (bytes % REGION-BYTES) 0 (a .0), le-leb 1 bytes (a .1 .0), le-leb bytes AREA-BYTES (a .1 .1))
-      (test-three a (Plain.tasks? tasks) (g a))
+      (test-three a (Plain.startTasks? tasks) (g a))
   test-two (no a) g = elim (ℕ-discrete (bytes % REGION-BYTES) 0) [
     | no l ↦ rw (ne-eqb (bytes % REGION-BYTES) 0 l) (stays S (λ z. Unit {0}) tt 2)
     | yes e ↦ elim (decLt 0 bytes) [
@@ -146,20 +157,21 @@ module _ {s₁ : Memories} {s : Pool} (S : Tied s₁ s) (control : ℕ) (area : 
     ]
   ]
 
-  pub start-alike : (d : Dec (control ≡ CONTROL-BYTES))
-      → (Plain.Area bytes → Plain.Tasks tasks → Good (new tasks (bytes / REGION-BYTES)))
-      → Alike (λ z. Unit {0}) (ran (Stepped.startIn control area tasks (s₁ .control) (s₁ .area)))
+  pub start-alike : (d : Dec (lent .control ≡ CONTROL-BYTES))
+      → (Plain.StartArea bytes → Plain.StartTasks tasks → Good (new tasks (bytes / REGION-BYTES)))
+      → Alike (λ z. Unit {0}) (ran (Stepped.startIn b lent s₁))
       (if d
-      (if (Plain.area? bytes)
-      (if (Plain.tasks? tasks) (new tasks (bytes / REGION-BYTES), going nothing) (Plain.refuse 3 s)) (Plain.refuse 2 s))
+      (if (Plain.startArea? bytes)
+      (if (Plain.startTasks? tasks) (new tasks (bytes / REGION-BYTES), going nothing) (Plain.refuse 3 s))
+      (Plain.refuse 2 s))
       (Plain.refuse 1 s))
   unfolding Stepped.startIn
-  start-alike (yes e) g = rw e (test-two (Plain.area? bytes) g)
-  start-alike (no e) g = rw (ne-eqb control CONTROL-BYTES e) (stays S (λ z. Unit {0}) tt 1)
+  start-alike (yes e) g = rw e (test-two (Plain.startArea? bytes) g)
+  start-alike (no e) g = rw (ne-eqb (lent .control) CONTROL-BYTES e) (stays S (λ z. Unit {0}) tt 1)
 
 -- an accepted start, whatever was before: the control memory may have looked like a started pool, or have held anything
-pub accepted-start : (s₁ : Memories) (s : Pool) (b : Start) (area : List ℕ) → Plain.Area (length area)
-    → Plain.Tasks (b .tasks)
+pub accepted-start : (s₁ : Memories) (s : Pool) (b : Start) (area : List ℕ) → Plain.StartArea (length area)
+    → Plain.StartTasks (b .tasks)
     → Alike (λ z. Unit {0}) (stepped (starting b area) s₁)
     (Plain.startCall b (record { control = CONTROL-BYTES; area = length area }) s)
 unfolding Stepped.startIn
@@ -173,12 +185,13 @@ accepted-start s₁ s b area a t =
       le-leb 1 tasks (t .0),
       le-leb tasks TASKS (t .1),
       if-yes (ℕ-discrete CONTROL-BYTES CONTROL-BYTES)
-          (if (Plain.area? (length area))
-          (if (Plain.tasks? tasks) (new tasks regions, going nothing) (Plain.refuse 3 s))
+          (if (Plain.startArea? (length area))
+          (if (Plain.startTasks? tasks) (new tasks regions, going nothing) (Plain.refuse 3 s))
           (Plain.refuse 2 s)) (Plain.refuse 1 s) refl,
-      if-yes (Plain.area? (length area)) (if (Plain.tasks? tasks) (new tasks regions, going nothing) (Plain.refuse 3 s))
+      if-yes (Plain.startArea? (length area)) (if (Plain.startTasks? tasks) (new tasks regions, going nothing)
+          (Plain.refuse 3 s))
           (Plain.refuse 2 s) a,
-      if-yes (Plain.tasks? tasks) (new tasks regions, going nothing) (Plain.refuse 3 s) t,
+      if-yes (Plain.startTasks? tasks) (new tasks regions, going nothing) (Plain.refuse 3 s) t,
     )
     (record {
       says = refl;

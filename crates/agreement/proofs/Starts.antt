@@ -10,7 +10,7 @@ use borrow.Author.Tests.{eq-eqb, ne-eqb}
 use lib.Dec.{eqb}
 use lib.ListN.{length}
 use Rattle.limits.specs.Limits.{REGIONS, REGION-BYTES, UNITS, CLASSES, DESCRIPTORS, SPARE-DESCRIPTORS, SPARE-REGIONS}
-use Rattle.limits.specs.Limits.{DESCRIPTOR-LISTS}
+use Rattle.limits.specs.Limits.{DESCRIPTOR-LISTS, WORD-MARKS}
 use Rattle.rows.specs.Branch.{if}
 use Rattle.rows.specs.Linked.{Linked, ends, links}
 use Rattle.rows.proofs.Branch.{if-yes}
@@ -19,7 +19,8 @@ use Rattle.words.specs.Head.{itemOf, tagOf}
 use Rattle.words.specs.Mark.{bitAt}
 use Rattle.plain.specs.Steps.{top}
 use Rattle.plain.specs.Calls.{rising, startMem}
-use Rattle.control.specs.Layout.{CACHES, field, Head, Tasks, Regions, DescriptorNext, RegionNext, Top, TaskState}
+use Rattle.control.specs.Layout.{CACHES, fieldOf, Head, Tasks, Regions, DescriptorNext, RegionNext, TopOfCache}
+use Rattle.control.specs.Layout.{TaskState}
 use Rattle.control.specs.Layout
 use Rattle.stepped.specs.Start.{fill, nextUp, startWrites}
 use Rattle.agreement.specs.Contents.{contentsOf}
@@ -43,20 +44,20 @@ module _ (tasks regions : ℕ) where
   third = assigned (fill RegionNext (nextUp regions) regions) second
 
   abbrev pub startView : View
-  startView = assigned (fill Top (λ i. UNITS) CACHES) third
+  startView = assigned (fill TopOfCache (λ i. UNITS) CACHES) third
 
   -- these are all its writes
   pub start-view : (g : Field) → assigned (startWrites tasks regions) zeroed g ≡ startView g
   unfolding startWrites
   start-view g =
       assigned-append (fill DescriptorNext (nextUp DESCRIPTORS) DESCRIPTORS)
-      (fill RegionNext (nextUp regions) regions ++ fill Top (λ i. UNITS) CACHES) first g
-      ∙ assigned-append (fill RegionNext (nextUp regions) regions) (fill Top (λ i. UNITS) CACHES) second g
+      (fill RegionNext (nextUp regions) regions ++ fill TopOfCache (λ i. UNITS) CACHES) first g
+      ∙ assigned-append (fill RegionNext (nextUp regions) regions) (fill TopOfCache (λ i. UNITS) CACHES) second g
 
   -- a column that is not filled
   unfilled : (e : Column) (j : ℕ) → eqb (Layout.cacheTops .start) (e .start) ≡ false
       → eqb (Layout.regionNexts .start) (e .start) ≡ false → eqb (Layout.descriptorNexts .start) (e .start) ≡ false
-      → startView (field e j) ≡ first (field e j)
+      → startView (fieldOf e j) ≡ first (fieldOf e j)
   unfilled e j p q r =
       other-fill Layout.cacheTops (λ i. UNITS) CACHES third e j p
       ∙ other-fill Layout.regionNexts (nextUp regions) regions second e j q
@@ -87,7 +88,7 @@ module _ (tasks regions : ℕ) where
       other-fill Layout.cacheTops (λ i. UNITS) CACHES third Layout.regionNexts r refl
       ∙ filled Layout.regionNexts (nextUp regions) regions second r l
 
-  at-top : (i : ℕ) → i < CACHES → startView (Top i) ≡ UNITS
+  at-top : (i : ℕ) → i < CACHES → startView (TopOfCache i) ≡ UNITS
   at-top i l = filled Layout.cacheTops (λ i. UNITS) CACHES third i l
 
 -- ---- the lists
@@ -177,8 +178,9 @@ module _ (tasks regions : ℕ) (few : 1 ≤ regions) where
       entries = record {
         maps = λ r l. unfilled tasks regions Layout.mapEntries r refl refl refl;
         marks =
-            λ u l. ap (λ (x : ℕ). bitAt x (u % 64)) (unfilled tasks regions Layout.unitMarks (u / 64) refl refl refl)
-            ∙ no-bit (u % 64);
+            λ u l. ap (λ (x : ℕ). bitAt x (u % WORD-MARKS))
+            (unfilled tasks regions Layout.unitMarks (u / WORD-MARKS) refl refl refl)
+            ∙ no-bit (u % WORD-MARKS);
       };
       length = e;
     };

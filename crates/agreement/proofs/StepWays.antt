@@ -165,13 +165,13 @@ module _ (v : View) (link : ℕ → ℕ) (t : ℕ) (fits : v (TaskClass t) < CLA
   not-idle busy e = absurd (omega arith)
 
   -- a list of steps from the place k on
-  data Each : ℕ → List Outcome → Type 0 where
-    end : {k : ℕ} → Each k []
-    _then_ : {k : ℕ} {o : Outcome} {os : List Outcome} → (v (TaskPlace t) ≡ k → End o) → Each (suc k) os
-        → Each k (o ∷ os)
+  data EachEnds : ℕ → List Outcome → Type 0 where
+    end : {k : ℕ} → EachEnds k []
+    _then_ : {k : ℕ} {o : Outcome} {os : List Outcome} → (v (TaskPlace t) ≡ k → End o) → EachEnds (suc k) os
+        → EachEnds k (o ∷ os)
 
   infixr 5 _then_
-  all : 1 ≤ v (TaskPlace t) → Each 0 (Steps.steps v link regions t c)
+  all : 1 ≤ v (TaskPlace t) → EachEnds 0 (Steps.stepList v link regions t c)
   all busy =
       not-idle busy
       then (λ e. a1)
@@ -210,7 +210,7 @@ module _ (v : View) (link : ℕ → ℕ) (t : ℕ) (fits : v (TaskClass t) < CLA
       then end
 
   -- the step at a place ends so, and a place past the list is outside its range
-  at-place : {k : ℕ} {os : List Outcome} → Each k os → (n : ℕ) → v (TaskPlace t) ≡ k + n → End (getD os n bad)
+  at-place : {k : ℕ} {os : List Outcome} → EachEnds k os → (n : ℕ) → v (TaskPlace t) ≡ k + n → End (getD os n bad)
   at-place end n e = wrong
   at-place (_then_ h hs) zero e = h (omega arith)
   at-place (_then_ h hs) (suc n) e = at-place hs n (omega arith)

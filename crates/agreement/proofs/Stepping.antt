@@ -70,8 +70,9 @@ module _ {regions : ℕ} {v : View} {area : List ℕ} {m : Mem} {t : ℕ} {k : �
   -- one step: test 7, the class, and the step at the place
   place-both : {p : Place} → At regions v area m t p k → v (TaskClass t) < CLASSES
       → PlaceRelated regions (contentsOf v area) m (slotOf v t) p → Events.Near (m .won) (noted p)
-      → Both regions v area m (Stepped.step v (link area) regions t) (Steps.whenWorking p (λ q. Steps.stepAt t k q m) m)
-  unfolding Stepped.step
+      → Both regions v area m (Stepped.stepOf v (link area) regions t)
+      (Steps.whenWorking p (λ q. Steps.stepAt t k q m) m)
+  unfolding Stepped.stepOf
   place-both w l (r-idle e) n =
       choose (ltb IDLE (v (TaskPlace t))) (λ h. absurd (omega (arith, ltb-true IDLE (v (TaskPlace t)) h)))
       (λ h. refusal (w .pair .rel) 7)
@@ -82,7 +83,7 @@ module _ {regions : ℕ} {v : View} {area : List ℕ} {m : Mem} {t : ℕ} {k : �
 
 pub step-both : {regions : ℕ} {v : View} {area : List ℕ} {m : Mem} (t : ℕ) → t < TASKS → regions ≤ REGIONS → Fitting v
     → Related regions (contentsOf v area) m → Invariant regions m → Events.Near (m .won) (noted (m .task t .place))
-    → Both regions v area m (Stepped.step v (link area) regions t) (Steps.stepOf t m)
+    → Both regions v area m (Stepped.stepOf v (link area) regions t) (Steps.stepOf t m)
 unfolding Steps.stepOf
 step-both {regions} {v} {area} {m} t l small F R I near =
     let w : At regions v area m t (m .task t .place) (m .task t .cache) =

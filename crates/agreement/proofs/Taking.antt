@@ -7,7 +7,7 @@ use native.Mathlib.Omega.{arith}
 use borrow.Author.Tests.{eq-eqb, ne-eqb, le-leb}
 use lib.Dec.{eqb, leb}
 use lib.ListN.{length}
-use Rattle.limits.specs.Limits.{UNITS}
+use Rattle.limits.specs.Limits.{UNITS, WORD-MARKS}
 use Rattle.rows.specs.Counting.{count}
 use Rattle.rows.specs.Linked.{Linked}
 use Rattle.rows.specs.Update.{update}
@@ -68,19 +68,21 @@ module _ {regions : ℕ} {v : View} {area : List ℕ} {m : Mem} {t : ℕ} {k : �
       let sub : (y : ℕ) → count y q ≤ count y (k c) = λ y. omega (arith, ap (count y) e) in
       let in-cache : 1 ≤ count u (k c) = omega (arith, ap (count u) e, ap (one u) i, when-same u 1) in
       let low : u < UNITS = omega (arith, w .pair .small, home-below (w .pair) (cached-home (w .pair) c u in-cache)) in
-      let word = v (Marks (u / 64)) in
+      let word = v (Marks (u / WORD-MARKS)) in
       pass (Ranges.isBlock regions c u && isTop regions c (n - 1) b)
       (both-true (cached-unit (w .pair) c u in-cache) (rw n′ (below-tested (w .pair) c b q sub below)))
       (subst (λ (z : ℕ). Both regions v area m
       (over (Allocated u) nothing
-      (TaskPlace t := IDLE ∷ CacheTop t c := b ∷ CacheCount t c := (n - 1) ∷ Marks (u / 64) := withSet word (u % 64)
+      (TaskPlace t := IDLE ∷ CacheTop t c := b ∷ CacheCount t c := (n - 1)
+      ∷ Marks (u / WORD-MARKS) := withSet word (u % WORD-MARKS)
       ∷ []) [])
       (Steps.a1Step t k c (z ∷ q) m)) i
       (record {
         says = refl;
         keeps = (refl, refl);
         rel = subst (λ (z : Contents). Related regions z (Steps.cached t k c q idle (setHands u 1 m)))
-            (sym (cache-becomes v (assigned (TaskPlace t := IDLE ∷ Marks (u / 64) := withSet word (u % 64) ∷ []) v)
+            (sym (cache-becomes v (assigned (TaskPlace t := IDLE
+            ∷ Marks (u / WORD-MARKS) := withSet word (u % WORD-MARKS) ∷ []) v)
             area t c b (n - 1) (toPlace IDLE (slotOf v t)) (setMark u 1 (contentsOf v area)) l
             (mark-set-written v (slotOf (assigned (TaskPlace t := IDLE ∷ []) v)) area u) refl
             (rw (eq-eqb t t refl)) (λ j d. rw (ne-eqb t j d))))
@@ -95,7 +97,7 @@ module _ {regions : ℕ} {v : View} {area : List ℕ} {m : Mem} {t : ℕ} {k : �
           low,
           top-max (w .pair) c b q below sub,
           w .fitting (CacheCount t c) (omega (arith, w .pair .turn .fits, l)),
-          set-below word (u % 64) 64 (w .fitting (Marks (u / 64)) (omega (arith, low))) (omega arith),
+          set-below word (u % WORD-MARKS) 64 (w .fitting (Marks (u / WORD-MARKS)) (omega (arith, low))) (omega arith),
         );
         apart = tt;
       }))

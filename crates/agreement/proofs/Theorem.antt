@@ -11,13 +11,14 @@ use Rattle.plain.specs.Calls as Plain
 use Rattle.plain.proofs.Answers.{never-14}
 use Rattle.stepped.specs.Outcome.{Memories}
 use Rattle.stepped.specs.Calls.{Lent, lengths, effectIn}
-use Rattle.agreement.specs.Events.{Event, call, write, stepped, whole, Premises, Unstarted}
+use Rattle.agreement.specs.Events.{Event, call, write, stepped, whole, Premise, Premises, Unstarted}
+use Rattle.agreement.specs.Tied.{Tied}
 use Rattle.agreement.specs.Reached.{starting, from-unstarted, from-start, Wherever}
 use Rattle.agreement.specs.Agreement.{Agrees, Unchanged, CallUntouched, Untouched, AgreesAt, Agree}
 use Rattle.agreement.proofs.Simulation.{Alike}
 use Rattle.agreement.proofs.Starting.{accepted-start}
 use Rattle.agreement.proofs.OneEvent.{CallKeeps, EventKeeps, alike}
-use Rattle.agreement.proofs.Reaching.{reached-tied, along}
+use Rattle.agreement.proofs.Reaching.{reached-tied, along-kept, along}
 use Rattle.agreement.proofs.Lent.{start-leaves, refused-leaves}
 use Rattle.agreement.proofs.Ends.{effect-leaves}
 use Rattle.agreement.proofs.Observing.{observed}
@@ -29,7 +30,7 @@ never (write at b) s = λ e. absurd (omega arith)
 
 call-untouched : (k : Call) (lent : Lent) (s₁ : Memories) (s : Pool) → CallKeeps k s₁ s (stepped (call k lent) s₁ .0)
     → CallUntouched k lent s₁ (stepped (call k lent) s₁) s
-call-untouched (start b) lent s₁ s h = start-leaves (lent .area) (b .tasks) (lent .control) (s₁ .control) (s₁ .area)
+call-untouched (start b) lent s₁ s h = start-leaves b lent s₁
 call-untouched (allocate t size) lent s₁ s h = h
 call-untouched (free t u) lent s₁ s h = h
 call-untouched (step t) lent s₁ s h = h
@@ -56,11 +57,20 @@ agrees e s₁ s A = record {
   same = λ h. observed (A .tied .good .small h) (A .tied .related h) (A .tied .good .inv h);
 }
 
--- an event that meets its premise, wherever a run has come
+-- an event that meets its premise, on memories that are tied to the plain pool: the two agree, and are tied again
+tied-agrees : (e : Event) (s₁ : Memories) (s : Pool) → Tied s₁ s → Premise e s
+    → AgreesAt e s₁ s × Tied (stepped e s₁ .0) (whole e s .0)
+tied-agrees e s₁ s T p =
+    let A = alike e s₁ s T p in
+    ((agrees e s₁ s A, unchanged e s₁, untouched e s₁ s (A .shows)), A .tied)
+
+-- .. wherever a run has come
 pub reached-agrees : Wherever AgreesAt
-reached-agrees h s₁ s R e p =
-    let A = alike e s₁ s (reached-tied R) p in
-    (agrees e s₁ s A, unchanged e s₁, untouched e s₁ s (A .shows))
+reached-agrees h s₁ s R e p = tied-agrees e s₁ s (reached-tied R) p .0
+
+-- The agreement from any two that are tied, whether a run has come there or not.
+pub agreement-from-tied : (es : List Event) (s₁ : Memories) (s : Pool) → Tied s₁ s → Premises es s → Agree es s₁ s
+agreement-from-tied = along-kept Tied AgreesAt tied-agrees
 
 -- Demand 3, and demand 1's last sentence. For every list of calls with users' writes between them, from any control
 -- memory that is not started, under the premises: the stepped run and the whole run decide the same moves at the same
@@ -72,9 +82,9 @@ agreement es s₁ U p = along AgreesAt reached-agrees (from-unstarted U) es p
 -- The same from an accepted start on any memories and in any pool, the start itself with it: the control memory before
 -- it may look like a started pool, or hold anything.
 pub agreement-from-start : (es : List Event) (s₁ : Memories) (s : Pool) (b : Start) (area : List ℕ)
-    → Plain.Area (length area) → Plain.Tasks (b .tasks) → Premises es (whole (starting b area) s .0)
+    → Plain.StartArea (length area) → Plain.StartTasks (b .tasks) → Premises es (whole (starting b area) s .0)
     → Agree (starting b area ∷ es) s₁ s
-unfolding Plain.call
+unfolding Plain.plainCall
 agreement-from-start es s₁ s b area a t p =
     let e = starting b area in
     let A = accepted-start s₁ s b area a t in (

@@ -9,7 +9,7 @@ use Rattle.limits.specs.Limits.{CLASSES}
 use Rattle.rows.proofs.Branch.{if-yes}
 use Rattle.fields.specs.Columns.{View, Write, assigned}
 use Rattle.plain.specs.State.{Place, Mem}
-use Rattle.plain.specs.Steps.{at}
+use Rattle.plain.specs.Steps.{atPlace}
 use Rattle.plain.proofs.Places.{taskOf}
 use Rattle.control.specs.Layout.{CacheTop, CacheCount, TaskClass}
 use Rattle.agreement.specs.Contents.{Slot, Contents, slotOf, contentsOf}
@@ -32,10 +32,10 @@ module _ {regions : ℕ} {v : View} {area : List ℕ} {m : Mem} {t : ℕ} {p : P
       → contentsOf (assigned ws v) area ≡ withSlots (slotOf (assigned ws v)) (contentsOf v area)
       → slotOf (assigned ws v) t ≡ s → ((j : ℕ) → t ≢ j → slotOf (assigned ws v) j ≡ slotOf v j)
       → s .class ≡ slotOf v t .class → s .caches ≡ slotOf v t .caches
-      → PlaceRelated regions (setSlot t s (contentsOf v area)) (at t k p′ m) s p′
-      → Related regions (contentsOf (assigned ws v) area) (at t k p′ m)
+      → PlaceRelated regions (setSlot t s (contentsOf v area)) (atPlace t k p′ m) s p′
+      → Related regions (contentsOf (assigned ws v) area) (atPlace t k p′ m)
   goes ws s p′ e own others f g pl =
-      subst (λ (z : Contents). Related regions z (at t k p′ m))
+      subst (λ (z : Contents). Related regions z (atPlace t k p′ m))
       (sym (becomes v (assigned ws v) area t s (contentsOf v area) e refl own others))
       (quiet (w .pair) s (taskOf p′ k) (re-slot (w .pair) _ _ s p′ refl f g pl))
 

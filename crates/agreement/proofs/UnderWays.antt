@@ -17,6 +17,7 @@ use Rattle.plain.proofs.Blocks.{counts-block}
 use Rattle.plain.proofs.Places.{placeHolds}
 use Rattle.control.specs.Places.{IDLE, A1, A3-READ, A3-EXCHANGE, A4, A7, A8, F1, F2, F3-READ, F3-LINK, F3-EXCHANGE}
 use Rattle.control.specs.Places.{F4-CLEAR}
+use Rattle.control.specs.Places.{TO-NEXT, TO-EXCHANGE}
 use Rattle.agreement.specs.Contents.{Contents}
 use Rattle.agreement.specs.Relation.{PopRelated, PushRelated, GroupRelated, PlaceRelated, r-idle, r-a1, r-partial}
 use Rattle.agreement.specs.Relation.{r-spare, r-region, r-retire, r-back, r-release, r-offer, r-a3-read}
@@ -55,20 +56,20 @@ module _ {regions : ℕ} {a : Contents} {m : Mem} {t : ℕ} {k : ℕ → List �
 
   -- so it is at the three places of a list move
   in-pop : {p : Place} {b ℓ items : ℕ} {φ : Phase} (w : Pair regions a m t p k)
-      → (blocksAt (underWays (a .slot t) a) b ≡ []) × (blocksAt (underWays (a .slot t) a) (b + 1) ≡ [])
-      × (blocksAt (underWays (a .slot t) a) (b + 2) ≡ [])
+      → (blocksAt (underWays (a .slot t) a) b ≡ []) × (blocksAt (underWays (a .slot t) a) (b + TO-NEXT) ≡ [])
+      × (blocksAt (underWays (a .slot t) a) (b + TO-EXCHANGE) ≡ [])
       → PopRelated m (a .slot t) b ℓ items φ → blocksAt (underWays (a .slot t) a) (a .slot t .place) ≡ []
   in-pop {b = b} w h (PopRelated.at-read e) = at-place w b [] e (h .0)
-  in-pop {b = b} w h (PopRelated.at-next e N i l) = at-place w (b + 1) [] e (h .1)
-  in-pop {b = b} w h (PopRelated.at-exchange e N i l x f) = at-place w (b + 2) [] e (h .2)
+  in-pop {b = b} w h (PopRelated.at-next e N i l) = at-place w (b + TO-NEXT) [] e (h .1)
+  in-pop {b = b} w h (PopRelated.at-exchange e N i l x f) = at-place w (b + TO-EXCHANGE) [] e (h .2)
 
   in-push : {p : Place} {b ℓ items z : ℕ} {nx : ℕ → ℕ} {φ : Phase} (w : Pair regions a m t p k) (q : List ℕ)
-      → (blocksAt (underWays (a .slot t) a) b ≡ q) × (blocksAt (underWays (a .slot t) a) (b + 1) ≡ q)
-      × (blocksAt (underWays (a .slot t) a) (b + 2) ≡ q)
+      → (blocksAt (underWays (a .slot t) a) b ≡ q) × (blocksAt (underWays (a .slot t) a) (b + TO-NEXT) ≡ q)
+      × (blocksAt (underWays (a .slot t) a) (b + TO-EXCHANGE) ≡ q)
       → PushRelated m (a .slot t) b ℓ items z nx φ → blocksAt (underWays (a .slot t) a) (a .slot t .place) ≡ q
   in-push {b = b} w q h (PushRelated.at-read e) = at-place w b q e (h .0)
-  in-push {b = b} w q h (PushRelated.at-next e N l) = at-place w (b + 1) q e (h .1)
-  in-push {b = b} w q h (PushRelated.at-exchange e N l f) = at-place w (b + 2) q e (h .2)
+  in-push {b = b} w q h (PushRelated.at-next e N l) = at-place w (b + TO-NEXT) q e (h .1)
+  in-push {b = b} w q h (PushRelated.at-exchange e N l f) = at-place w (b + TO-EXCHANGE) q e (h .2)
 
   at-work : {p : Work} (w : Pair regions a m t (working p) k) → WorkRelated regions a m (a .slot t) p
       → blocksAt (underWays (a .slot t) a) (a .slot t .place) ≡ underWay (working p)

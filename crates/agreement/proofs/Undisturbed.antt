@@ -15,7 +15,8 @@ use Rattle.classes.specs.Geometry.{unitOf}
 use Rattle.plain.specs.State.{FULL, read, next, exchange, Pop, partial, spare, region, a1, popping, a7, a8, Task, Mem}
 use Rattle.plain.specs.State.{setTask, setRow, setDescriptor, setMap, working}
 use Rattle.plain.specs.Moves.{Decided, nothing, found-empty, popped, Answer, going, finished}
-use Rattle.plain.specs.Steps.{popList, whenPopped, stepOf, whenWorking, to, stepAt, popRead, popTake, popLost, a1Step}
+use Rattle.plain.specs.Steps.{popList, whenPopped, stepOf, whenWorking, atWork, stepAt, popRead, popTake, popLost}
+use Rattle.plain.specs.Steps.{a1Step}
 use Rattle.plain.proofs.Places.{taskOf}
 
 -- a code and a value
@@ -69,7 +70,7 @@ module _ (t : ℕ) where
     carves r b zero i e l {m} k is =
         on (taskOf (working (a8 c r i)) k) (taskOf (working (a1 c)) (update k c (unitOf r c i ∷ k c))) m nothing is
         (rw (if-yes (ℕ-discrete (suc i) (perRegion c)) (a1 c) (a8 c r (suc i)) (omega arith)))
-        (λ T. subst (λ x. Finishes x 0 (to t (update k c (unitOf r c i ∷ k c)) (a1 c) m))
+        (λ T. subst (λ x. Finishes x 0 (atWork t (update k c (unitOf r c i ∷ k c)) (a1 c) m))
         (ap (unitOf r c) (omega arith))
         (takes k (unitOf r c i) (k c) T))
     carves r b (suc j) i e l {m} k is =
@@ -87,8 +88,8 @@ module _ (t : ℕ) where
     pops {m = m} k p x q row is rest =
         let ℓ = popList p in
         let won = m .won ℓ in
-        let m₁ = to t k (popping p (next won)) m in
-        let m₂ = to t k (popping p (exchange won)) m₁ in
+        let m₁ = atWork t k (popping p (next won)) m in
+        let m₂ = atWork t k (popping p (exchange won)) m₁ in
         on (taskOf (working (popping p read)) k) (taskOf (working (popping p (next won))) k) m nothing is
         (ap (λ z. popRead t k p z m) row) (λ T₁.
         on (taskOf (working (popping p (next won))) k) (taskOf (working (popping p (exchange won))) k) m₁ nothing T₁
@@ -97,7 +98,7 @@ module _ (t : ℕ) where
         (popped ℓ x) T₂
         (if-yes (ℕ-discrete won won) (popTake t k p (m .row ℓ) m₂) (popLost t k p m₂) refl
         ∙ ap (λ z. popTake t k p z m₂) row)
-        (rest (to t k (whenPopped p x) (setRow ℓ q m₂)) refl)))
+        (rest (atWork t k (whenPopped p x) (setRow ℓ q m₂)) refl)))
 
     -- The whole of it: the class's cache and its list are empty, there are a spare descriptor d and a spare region r,
     -- and b is the last block of a region.
@@ -106,7 +107,7 @@ module _ (t : ℕ) where
         → m .row SPARE-REGIONS ≡ r ∷ rs → suc b ≡ perRegion c → m .task t ≡ taskOf (working (a1 c)) k
         → Finishes (unitOf r c b) (b + 10) m
     opens {m} k d r b ds rs none unlisted spares regions l is =
-        let m₁ = to t k (popping (partial c) read) m in
+        let m₁ = atWork t k (popping (partial c) read) m in
         subst (λ n. Finishes (unitOf r c b) n m) (omega arith)
         (on (taskOf (working (a1 c)) k) (taskOf (working (popping (partial c) read)) k) m nothing is
         (ap (λ z. a1Step t k c z m) none) (λ T₁.

@@ -5,7 +5,7 @@ use Prim.Native.Nat.{ℕ, _/_, _≤_, _<_}
 use native.Mathlib.Omega.{arith}
 use native.Mathlib.Decide.{decLt}
 use lib.ListN.{length}
-use Rattle.limits.specs.Limits.{REGIONS, TASKS, CLASSES, DESCRIPTORS, SPARE-REGIONS, LISTS}
+use Rattle.limits.specs.Limits.{REGIONS, TASKS, CLASSES, DESCRIPTORS, SPARE-REGIONS, LISTS, WORD-MARKS}
 use Rattle.rows.specs.Branch.{if}
 use Rattle.rows.proofs.Linked.{linked-frame}
 use Rattle.fields.specs.Columns.{Field, View, Has}
@@ -107,7 +107,7 @@ module _ {v v′ : View} (same : (g : Field) → Has layout g → v′ g ≡ v g
       };
       entries = record {
         maps = λ r l. rw (same (Layout.Map r) (omega arith)) (R .core .entries .maps r l);
-        marks = λ u l. rw (same (Layout.Marks (u / 64)) (omega arith)) (R .core .entries .marks u l);
+        marks = λ u l. rw (same (Layout.Marks (u / WORD-MARKS)) (omega arith)) (R .core .entries .marks u l);
       };
       length = R .core .length;
     }

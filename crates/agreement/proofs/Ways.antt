@@ -12,6 +12,7 @@ use Rattle.limits.specs.Limits.{CONTROL-BYTES, REGIONS, REGION-BYTES, TASKS}
 use Rattle.fields.specs.Columns.{View, Write, _:=_, assign, assigned}
 use Rattle.links.specs.Link.{LinkWrite}
 use Rattle.plain.specs.Moves.{Decided}
+use Rattle.plain.specs.Calls.{Lengths}
 use Rattle.control.specs.Layout.{TaskPlace, Tasks, Regions}
 use Rattle.control.specs.Places.{IDLE}
 use Rattle.control.specs.declared.answer.Answer.{Answer}
@@ -58,39 +59,39 @@ only m n h = alone (eqb n m) (eqb-true n m) h
 -- ---- the tests 1, 4, 2, 5
 
 -- what holds of a refusal by the tests, and of what follows them, holds of the call
-pub tests : (P : Outcome → Type 0) (control area : ℕ) (v : View) (t : ℕ) (x : Outcome)
-    → ((n : ℕ) → oneOf testRefusals n ≡ true → P (refuse n)) → (Tested control area v t → P x)
-    → P (Calls.tested control area v t x)
+pub tests : (P : Outcome → Type 0) (lent : Lengths) (v : View) (t : ℕ) (x : Outcome)
+    → ((n : ℕ) → oneOf testRefusals n ≡ true → P (refuse n)) → (Tested lent v t → P x)
+    → P (Calls.tested lent v t x)
 unfolding Calls.tested
-tests P control area v t x r k =
-    branch P (eqb control CONTROL-BYTES) (λ e.
+tests P lent v t x r k =
+    branch P (eqb (lent .control) CONTROL-BYTES) (λ e.
     branch P (leb (v Tasks) TASKS) (λ f.
     branch P (eqb (v Tasks) 0) (λ g. r 4 refl) (λ g.
     branch P (oneTo REGIONS (v Regions)) (λ h.
-    branch P (eqb area (REGION-BYTES * v Regions)) (λ i.
+    branch P (eqb (lent .area) (REGION-BYTES * v Regions)) (λ i.
     branch P (ltb t (v Tasks)) (λ j.
     let z : v Tasks ≢ 0 = eqb-false (v Tasks) 0 g in
     k (record {
-      control-is = eqb-true control CONTROL-BYTES e;
+      control-is = eqb-true (lent .control) CONTROL-BYTES e;
       started = omega arith;
       tasks = leb-true (v Tasks) TASKS f;
       some = leb-true 1 (v Regions) (left-true (leb 1 (v Regions)) (leb (v Regions) REGIONS) h);
       regions = leb-true (v Regions) REGIONS (right-true (leb 1 (v Regions)) (leb (v Regions) REGIONS) h);
-      area-is = eqb-true area (REGION-BYTES * v Regions) i;
+      area-is = eqb-true (lent .area) (REGION-BYTES * v Regions) i;
       below = ltb-true t (v Tasks) j;
     })) (λ j. r 5 refl)) (λ i. r 2 refl)) (λ h. r 14 refl))) (λ f. r 14 refl)) (λ e. r 1 refl)
 
 -- a call that passes them does what follows
-pub passed : (control area : ℕ) (v : View) (t : ℕ) (x : Outcome) → Tested control area v t
-    → Calls.tested control area v t x ≡ x
+pub passed : (lent : Lengths) (v : View) (t : ℕ) (x : Outcome) → Tested lent v t
+    → Calls.tested lent v t x ≡ x
 unfolding Calls.tested
-passed control area v t x T = rw (
-  eq-eqb control CONTROL-BYTES (T .control-is),
+passed lent v t x T = rw (
+  eq-eqb (lent .control) CONTROL-BYTES (T .control-is),
   le-leb (v Tasks) TASKS (T .tasks),
   ne-eqb (v Tasks) 0 (omega arith),
   le-leb 1 (v Regions) (T .some),
   le-leb (v Regions) REGIONS (T .regions),
-  eq-eqb area (REGION-BYTES * v Regions) (T .area-is),
+  eq-eqb (lent .area) (REGION-BYTES * v Regions) (T .area-is),
   lt-ltb t (v Tasks) (T .below),
 )
 

@@ -3,6 +3,7 @@ use Prim.Native.Nat.{ℕ, _+_, _≤_, _<_}
 use native.Mathlib.Omega.{arith}
 use Rattle.plain.specs.State.{Phase, Work, Mem}
 use Rattle.control.specs.Places.{PLACES}
+use Rattle.control.specs.Places.{TO-EXCHANGE}
 use Rattle.agreement.specs.Contents.{Contents, Slot}
 use Rattle.agreement.specs.Relation.{PopRelated, PushRelated, WorkRelated, r-a1, r-partial, r-spare, r-region}
 use Rattle.agreement.specs.Relation.{r-retire, r-back, r-release, r-offer, r-a3-read, r-a3-exchange, r-a4, r-a7}
@@ -10,13 +11,13 @@ use Rattle.agreement.specs.Relation.{r-a8, r-f1, r-f2, r-f2-more, r-f3-r
 
 -- a move's places, which are three
 pub pop-span : {m : Mem} {s : Slot} {b ℓ items : ℕ} {φ : Phase} → PopRelated m s b ℓ items φ
-    → (b ≤ s .place) × (s .place ≤ b + 2)
+    → (b ≤ s .place) × (s .place ≤ b + TO-EXCHANGE)
 pop-span (PopRelated.at-read e) = omega arith
 pop-span (PopRelated.at-next e N i j) = omega arith
 pop-span (PopRelated.at-exchange e N i j x f) = omega arith
 
 pub push-span : {m : Mem} {s : Slot} {b ℓ items x : ℕ} {nx : ℕ → ℕ} {φ : Phase} → PushRelated m s b ℓ items x nx φ
-    → (b ≤ s .place) × (s .place ≤ b + 2)
+    → (b ≤ s .place) × (s .place ≤ b + TO-EXCHANGE)
 push-span (PushRelated.at-read e) = omega arith
 push-span (PushRelated.at-next e N i) = omega arith
 push-span (PushRelated.at-exchange e N i j) = omega arith

@@ -9,7 +9,7 @@ use Rattle.fields.specs.Columns.{View}
 use Rattle.links.specs.Link.{link, withLink}
 use Rattle.words.specs.Anchor.{anchorOf}
 use Rattle.plain.specs.State as State
-use Rattle.plain.specs.State.{Descriptor, Mem, Place, Task, numberOf, setDescriptor, setTask}
+use Rattle.plain.specs.State.{Descriptor, Mem, Place, Task, stateNumber, setDescriptor, setTask}
 use Rattle.plain.specs.States.{IfOpen}
 use Rattle.plain.specs.Weights.{blockWeight}
 use Rattle.plain.proofs.Places.{taskOf}
@@ -25,14 +25,14 @@ use Rattle.agreement.proofs.Caching.{withCache, cache-own, cache-others
 
 -- Writes that change the view v to v′: what is shared is as in b, and of the tasks' parts only that of t, now s, has
 -- changed.
-pub record Writes (v v′ : View) (area : List ℕ) (t : ℕ) (s : Slot) (b : Contents) : Type 0 where
+pub record OwnWrites (v v′ : View) (area : List ℕ) (t : ℕ) (s : Slot) (b : Contents) : Type 0 where
   pub shared : contentsOf v′ area ≡ withSlots (slotOf v′) b
   pub own : slotOf v′ t ≡ s
   pub others : (j : ℕ) → t ≢ j → slotOf v′ j ≡ slotOf v j
 
 -- so they are with a cache's two fields
 pub with-cache : {v : View} (v′ : View) {area : List ℕ} {t : ℕ} {s : Slot} {b : Contents} (c u n : ℕ) → c < CLASSES
-    → Writes v v′ area t s b → Writes v (withCache t c u n v′) area t (toCache c u n s) b
+    → OwnWrites v v′ area t s b → OwnWrites v (withCache t c u n v′) area t (toCache c u n s) b
 with-cache v′ {t = t} c u n l h = record {
   shared = ap (withSlots (slotOf (withCache t c u n v′))) (h .shared);
   own = cache-own v′ t c u n l ∙ ap (toCache c u n) (h .own);
@@ -42,14 +42,14 @@ with-cache v′ {t = t} c u n l h = record {
 module _ {regions : ℕ} {v : View} {area : List ℕ} {m : Mem} {t : ℕ} {p : Place} {k : ℕ → List ℕ}
     (w : At regions v area m t p k) (v′ : View) (s : Slot) (T : Task) where
   -- the task's own part changes alone
-  pub own-written : Writes v v′ area t s (contentsOf v area)
+  pub own-written : OwnWrites v v′ area t s (contentsOf v area)
       → SlotRelated regions (setSlot t s (contentsOf v area)) (setTask t T m) s T
       → Related regions (contentsOf v′ area) (setTask t T m)
   own-written c h =
       rw (becomes v v′ area t s (contentsOf v area) (c .shared) refl (c .own) (c .others)) (quiet (w .pair) s T h)
 
   -- and the link of a block of the task
-  pub link-written : (u x : ℕ) → Writes v v′ (withLink area u x) t s (setLink u x (contentsOf v area))
+  pub link-written : (u x : ℕ) → OwnWrites v v′ (withLink area u x) t s (setLink u x (contentsOf v area))
       → 1 ≤ blockWeight u t (taskOf p k)
       → SlotRelated regions (setSlot t s (setLink u x (contentsOf v area))) (setTask t T m) s T
       → Related regions (contentsOf v′ (withLink area u x)) (setTask t T m)
@@ -59,8 +59,8 @@ module _ {regions : ℕ} {v : View} {area : List ℕ} {m : Mem} {t : ℕ} {p : P
 
   -- and an anchor
   pub anchor-exchanged : (d word : ℕ) (E : Descriptor)
-      → Writes v v′ area t s (setAnchor d (anchorOf word) (contentsOf v area))
-      → d < DESCRIPTORS → anchorOf word .state ≡ numberOf (E .state) → E .region ≡ m .descriptor d .region
+      → OwnWrites v v′ area t s (setAnchor d (anchorOf word) (contentsOf v area))
+      → d < DESCRIPTORS → anchorOf word .state ≡ stateNumber (E .state) → E .region ≡ m .descriptor d .region
       → E .class ≡ m .descriptor d .class → IfOpen (E .state) (ChainRelated (link area) (anchorOf word) E)
       → anchorOf word .avail ≤ MOST-BLOCKS → anchorOf word .count ≤ MOST-BLOCKS
       → SlotRelated regions (setSlot t s (setAnchor d (anchorOf word) (contentsOf v area)))
@@ -71,7 +71,7 @@ module _ {regions : ℕ} {v : View} {area : List ℕ} {m : Mem} {t : ℕ} {p : P
       (anchoring (w .pair) d (anchorOf word) E s T l e f g i a n h)
 
   -- and a map entry
-  pub entry-cleared : (r : ℕ) → Writes v v′ area t s (setMap r 0 (contentsOf v area))
+  pub entry-cleared : (r : ℕ) → OwnWrites v v′ area t s (setMap r 0 (contentsOf v area))
       → SlotRelated regions (setSlot t s (setMap r 0 (contentsOf v area))) (setTask t T (State.setMap r 0 m)) s T
       → Related regions (contentsOf v′ area) (setTask t T (State.setMap r 0 m))
   entry-cleared r c h =

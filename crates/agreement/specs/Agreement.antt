@@ -46,6 +46,7 @@ CallUntouched (allocate t size) lent s₁ x s = HandsKept s₁ s (x .0)
 CallUntouched (free t u) lent s₁ x s = HandsKept s₁ s (x .0)
 CallUntouched (step t) lent s₁ x s = HandsKept s₁ s (x .0)
 
+-- the same of an event
 abbrev pub Untouched : Event → Memories → Memories × Answer → Pool → Type 0
 Untouched (call k lent) s₁ x s = CallUntouched k lent s₁ x s
 Untouched (write at b) s₁ x s = Unit {0}

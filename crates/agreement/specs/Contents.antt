@@ -2,7 +2,7 @@
 use Prim.Native.Nat.{ℕ, _/_, _%_}
 use native.Mathlib.Decide.{decLt}
 use mathlib.Core.List.{List}
-use Rattle.limits.specs.Limits.{CLASSES}
+use Rattle.limits.specs.Limits.{CLASSES, WORD-MARKS}
 use Rattle.rows.specs.Branch.{if}
 use Rattle.fields.specs.Columns.{View}
 use Rattle.words.specs.Head.{headOf}
@@ -114,7 +114,7 @@ slotOf v t = record {
 
 -- "One mark per unit": that of the unit u is a bit of its word
 abbrev pub markOf : View → ℕ → ℕ
-markOf v u = bitAt (v (Layout.Marks (u / 64))) (u % 64)
+markOf v u = bitAt (v (Layout.Marks (u / WORD-MARKS))) (u % WORD-MARKS)
 
 -- all parts, with the area
 abbrev pub contentsOf : View → List ℕ → Contents

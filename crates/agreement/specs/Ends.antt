@@ -5,19 +5,20 @@ use mathlib.Core.Path.{_≡_}
 use mathlib.Core.List.{List, [], _∷_, _++_}
 use mathlib.Core.Bool.{Bool, true, false, _||_}
 use lib.Dec.{eqb}
-use Rattle.limits.specs.Limits.{CLASSES, MOST-BYTES}
+use Rattle.limits.specs.Limits.{CLASSES, LARGEST-SIZE}
 use Rattle.fields.specs.Columns.{View, _:=_, assigned}
 use Rattle.words.specs.Head.{itemOf}
 use Rattle.classes.specs.Classes.{block}
 use Rattle.classes.specs.Sizes.{classOf}
 use Rattle.control.specs.Layout.{Head, TaskHead, TaskPlace, TaskClass, Regions}
 use Rattle.control.specs.Places.{IDLE, A1}
+use Rattle.control.specs.Places.{TO-EXCHANGE}
 use Rattle.control.specs.declared.answer.Answer.{Answer}
 use Rattle.control.specs.declared.answer.Answer.the-variants.{Accepted, Allocated, Freed, NoDescriptor, NoRegion}
 use Rattle.control.specs.declared.answer.Answer.the-variants.{Refused}
 use Rattle.control.specs.declared.moves.Pop.{Pop}
 use Rattle.control.specs.declared.moves.Push.{Push}
-use Rattle.stepped.specs.Outcome.{Outcome, Effect}
+use Rattle.stepped.specs.Outcome.{Outcome, Memories, Effect}
 use Rattle.stepped.specs.Lists.{popPlace, popList, pushPlace, pushList, pushItems, itemField}
 
 -- ---- refusals
@@ -26,9 +27,9 @@ use Rattle.stepped.specs.Lists.{popPlace, popList, pushPlace, pushList, pushIte
 abbrev pub WritesNothing : Outcome → Type 0
 WritesNothing o = (n : ℕ) → o .answer ≡ Refused n → (o .writes ≡ []) × (o .links ≡ [])
 
--- the same of the bytes: they are those that were lent
-abbrev pub Leaves : Effect → List ℕ → List ℕ → Type 0
-Leaves e control area = (n : ℕ) → e .answer ≡ Refused n → (e .control ≡ control) × (e .area ≡ area)
+-- the same of the bytes: they are those of the memories s
+abbrev pub Leaves : Effect → Memories → Type 0
+Leaves e s = (n : ℕ) → e .answer ≡ Refused n → (e .control ≡ s .control) × (e .area ≡ s .area)
 
 -- n is one of the numbers ns
 abbrev pub oneOf : List ℕ → ℕ → Bool
@@ -77,9 +78,9 @@ Goes ns NoDescriptor = Unit {0}
 Goes ns NoRegion = Unit {0}
 Goes ns (Refused n) = oneOf ns n ≡ true
 
--- how a start ends, by its effect on the memories `control` and `area`
-pub record StartEnds (control area : List ℕ) (e : Effect) : Type 0 where
-  pub leaves : Leaves e control area
+-- how a start ends, by its effect on the memories s
+pub record StartEnds (s : Memories) (e : Effect) : Type 0 where
+  pub leaves : Leaves e s
   pub answers : Begins startRefusals (e .answer)
 
 -- how the beginning of a request ends, which the numbers ns can refuse
@@ -98,7 +99,7 @@ pub record FindsEmpty (p : Pop) (v : View) (t : ℕ) : Type 0 where
 -- The task t is at the exchange of the push p, and wins it: its item and the noted head are in their ranges, and the
 -- head word is the noted one.
 pub record WinsPush (p : Push) (v : View) (t : ℕ) : Type 0 where
-  pub place : v (TaskPlace t) ≡ pushPlace p + 2
+  pub place : v (TaskPlace t) ≡ pushPlace p + TO-EXCHANGE
   pub class : v (TaskClass t) < CLASSES
   pub item : v (itemField p t) < pushItems p (v Regions)
   pub noted : itemOf (v (TaskHead t)) ≤ pushItems p (v Regions)
@@ -107,7 +108,7 @@ pub record WinsPush (p : Push) (v : View) (t : ℕ) : Type 0 where
 -- one of the three places of the push p
 pub record InPush (p : Push) (place : ℕ) : Type 0 where
   pub from : pushPlace p ≤ place
-  pub to : place ≤ pushPlace p + 2
+  pub to : place ≤ pushPlace p + TO-EXCHANGE
 
 -- where the outcome o leaves the task t: idle, or a place in the step list
 abbrev pub placeAfter : Outcome → View → ℕ → ℕ
@@ -134,7 +135,7 @@ pub record StepEnds (v : View) (t : ℕ) (o : Outcome) : Type 0 where
 -- smallest whose block holds the size.
 pub record BegunOutcome (t size : ℕ) (o : Outcome) : Type 0 where
   pub from : 1 ≤ size
-  pub to : size ≤ MOST-BYTES
+  pub to : size ≤ LARGEST-SIZE
   pub writes : o .writes ≡ (TaskPlace t := A1 ∷ TaskClass t := classOf size ∷ [])
   pub class : classOf size < CLASSES
   pub holds : size ≤ block (classOf size)

@@ -51,7 +51,7 @@ stepped (write at b) s = (record { control = s .control; area = set (s .area) at
 
 -- an event of the whole run
 abbrev pub whole : Event → Pool → Pool × Answer
-whole (call k lent) s = Plain.call k (lengths lent) s
+whole (call k lent) s = Plain.plainCall k (lengths lent) s
 whole (write at b) s = (s, going nothing)
 
 -- ---- the premises

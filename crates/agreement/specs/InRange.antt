@@ -16,6 +16,7 @@ use Rattle.control.specs.Layout.{DescriptorNext, RegionNext, DescriptorRegion, 
 use Rattle.control.specs.Layout.{seen}
 use Rattle.control.specs.Places.{POP-REGION, PUSH-BACK, PUSH-RELEASE, PUSH-OFFER, A3-EXCHANGE, A4, A7, A8, F1, F2}
 use Rattle.control.specs.Places.{F3-READ, F3-LINK, F3-EXCHANGE, F4-CLEAR, PLACES}
+use Rattle.control.specs.Places.{TO-NEXT, TO-EXCHANGE}
 use Rattle.control.specs.declared.moves.Pop.{Pop}
 use Rattle.control.specs.declared.moves.Push.{Push}
 use Rattle.stepped.specs.Ranges.{isBlock, isTop}
@@ -37,25 +38,26 @@ AtPlaces v t a b X = a ≤ v (TaskPlace t) → v (TaskPlace t) ≤ b → X
 -- read; elsewhere it is left over.
 
 -- the noted head's item, where a pop has one, and the noted next: a number plus one, or 0
-pub record TaskLists (regions : ℕ) (v : View) (t : ℕ) : Type 0 where
-  pub pop-head : (p : Pop) → AtPlaces v t (popPlace p + 1) (popPlace p + 2)
+pub record ListsInRange (regions : ℕ) (v : View) (t : ℕ) : Type 0 where
+  pub pop-head : (p : Pop) → AtPlaces v t (popPlace p + TO-NEXT) (popPlace p + TO-EXCHANGE)
       (OneTo (popItems p regions) (itemOf (v (TaskHead t))))
-  pub pop-next : (p : Pop) → AtPlaces v t (popPlace p + 2) (popPlace p + 2) (v (TaskNext t) ≤ popItems p regions)
-  pub push-head : (p : Push) → AtPlaces v t (pushPlace p + 1) (pushPlace p + 2)
+  pub pop-next : (p : Pop) → AtPlaces v t (popPlace p + TO-EXCHANGE) (popPlace p + TO-EXCHANGE)
+      (v (TaskNext t) ≤ popItems p regions)
+  pub push-head : (p : Push) → AtPlaces v t (pushPlace p + TO-NEXT) (pushPlace p + TO-EXCHANGE)
       (itemOf (v (TaskHead t)) ≤ pushItems p regions)
 
 -- its place, and what it has in hand beside blocks
-pub record TaskHands (regions : ℕ) (v : View) (t : ℕ) : Type 0 where
+pub record HandInRange (regions : ℕ) (v : View) (t : ℕ) : Type 0 where
   -- idle, or a place of the step list
   pub place : v (TaskPlace t) < PLACES
   -- the descriptor, spare or for the partial list
-  pub descriptor-spare : AtPlaces v t POP-REGION (PUSH-BACK + 2) (v (TaskDescriptor t) < DESCRIPTORS)
+  pub descriptor-spare : AtPlaces v t POP-REGION (PUSH-BACK + TO-EXCHANGE) (v (TaskDescriptor t) < DESCRIPTORS)
   pub descriptor-listed : AtPlaces v t PUSH-OFFER A3-EXCHANGE (v (TaskDescriptor t) < DESCRIPTORS)
   pub descriptor-opens : AtPlaces v t A7 A7 (v (TaskDescriptor t) < DESCRIPTORS)
   -- the descriptor to whose chain the group returns
   pub descriptor-group : AtPlaces v t F3-LINK F3-EXCHANGE (v (TaskDescriptor t) < DESCRIPTORS)
   -- the region that is released, the one whose blocks are moved or carved, and the group's
-  pub region-released : AtPlaces v t PUSH-RELEASE (PUSH-RELEASE + 2) (v (TaskRegion t) < regions)
+  pub region-released : AtPlaces v t PUSH-RELEASE (PUSH-RELEASE + TO-EXCHANGE) (v (TaskRegion t) < regions)
   pub region-filled : AtPlaces v t A4 A8 (v (TaskRegion t) < regions)
   pub region-grouped : AtPlaces v t F2 F2 (1 ≤ v (GroupCount t) → v (TaskRegion t) < regions)
   pub region-group : AtPlaces v t F3-READ F4-CLEAR (v (TaskRegion t) < regions)
@@ -63,15 +65,17 @@ pub record TaskHands (regions : ℕ) (v : View) (t : ℕ) : Type 0 where
   pub state : v (TaskState t) ≤ FULL
 
 -- what it noted of an anchor, and the blocks that it moves or groups
-pub record TaskChains (v : View) (t : ℕ) : Type 0 where
+pub record ChainsInRange (v : View) (t : ℕ) : Type 0 where
   -- the noted anchor from which an allocation takes the chain
   pub anchor-state : AtPlaces v t A3-EXCHANGE A3-EXCHANGE (anchorOf (v (TaskAnchor t)) .state ≡ PARTIAL)
-  pub anchor-avail : AtPlaces v t A3-EXCHANGE A3-EXCHANGE (anchorOf (v (TaskAnchor t)) .avail < perRegion (v (TaskClass t)))
+  pub anchor-avail : AtPlaces v t A3-EXCHANGE A3-EXCHANGE
+      (anchorOf (v (TaskAnchor t)) .avail < perRegion (v (TaskClass t)))
   pub anchor-count : AtPlaces v t A3-EXCHANGE A3-EXCHANGE
       (OneTo (perRegion (v (TaskClass t))) (anchorOf (v (TaskAnchor t)) .count))
   -- and that before whose chain a free puts its group: n as avail is none
   pub returns-state : AtPlaces v t F3-LINK F3-EXCHANGE (anchorOf (v (TaskAnchor t)) .state ≤ FULL)
-  pub returns-avail : AtPlaces v t F3-LINK F3-EXCHANGE (anchorOf (v (TaskAnchor t)) .avail ≤ perRegion (v (TaskClass t)))
+  pub returns-avail : AtPlaces v t F3-LINK F3-EXCHANGE
+      (anchorOf (v (TaskAnchor t)) .avail ≤ perRegion (v (TaskClass t)))
   pub returns-count : AtPlaces v t F3-LINK F3-EXCHANGE
       (anchorOf (v (TaskAnchor t)) .count + v (GroupCount t) ≤ perRegion (v (TaskClass t)))
   -- the index of the block that is moved or carved next
@@ -92,14 +96,15 @@ pub record TaskChains (v : View) (t : ℕ) : Type 0 where
 pub record TaskInRange (regions : ℕ) (v : View) (t : ℕ) : Type 0 where
   -- one of the classes
   pub class : v (TaskClass t) < CLASSES
-  pub lists : TaskLists regions v t
-  pub hands : TaskHands regions v t
-  pub chains : TaskChains v t
+  pub lists : ListsInRange regions v t
+  pub hands : HandInRange regions v t
+  pub chains : ChainsInRange v t
   -- the unit that is freed: a block of the class
-  pub unit-pushing : AtPlaces v t PUSH-RELEASE (PUSH-OFFER + 2) (isBlock regions (v (TaskClass t)) (v (TaskUnit t)) ≡ true)
+  pub unit-pushing : AtPlaces v t PUSH-RELEASE (PUSH-OFFER + TO-EXCHANGE)
+      (isBlock regions (v (TaskClass t)) (v (TaskUnit t)) ≡ true)
   pub unit : AtPlaces v t F1 F4-CLEAR (isBlock regions (v (TaskClass t)) (v (TaskUnit t)) ≡ true)
   -- the descriptor that a free has in hand where it found the anchor FULL
-  pub descriptor-released : AtPlaces v t PUSH-RELEASE (PUSH-RELEASE + 2)
+  pub descriptor-released : AtPlaces v t PUSH-RELEASE (PUSH-RELEASE + TO-EXCHANGE)
       (v (TaskState t) ≡ FULL → v (TaskDescriptor t) < DESCRIPTORS)
   pub descriptor-cleared : AtPlaces v t F4-CLEAR F4-CLEAR (v (TaskState t) ≡ FULL → v (TaskDescriptor t) < DESCRIPTORS)
   -- each class's cache: how many blocks, and its top: a block of the class, or, where there is none, the number past

@@ -21,6 +21,7 @@ use Rattle.plain.specs.Blocks.{blocksFrom}
 use Rattle.plain.specs.Weights.{blockWeight}
 use Rattle.plain.specs.OnePlace.{OpenBlock}
 use Rattle.control.specs.Places.{A4, A8, F1, F2, F3-EXCHANGE, F4-CLEAR, PUSH-RELEASE, PUSH-OFFER}
+use Rattle.control.specs.Places.{TO-EXCHANGE}
 use Rattle.agreement.specs.Contents.{Slot, Contents}
 
 -- ---- lists
@@ -31,11 +32,12 @@ listFrom next zero f = []
 listFrom next (suc n) zero = []
 listFrom next (suc n) (suc x) = x ∷ listFrom next n (next x)
 
--- The list ℓ of descriptors, and that of the spare regions: one item more is read than there are descriptors or
--- regions, so that a list that does not end is not taken for one that does.
+-- The list ℓ of descriptors. One item more is read than there are descriptors (below: regions), so that a list that
+-- does not end is not taken for one that does.
 abbrev pub listOf : Contents → ℕ → List ℕ
 listOf a ℓ = listFrom (a .lists .descriptorNext) (suc DESCRIPTORS) (a .lists .head ℓ .item)
 
+-- the list of the spare regions
 abbrev pub spareRegions : Contents → ℕ → List ℕ
 spareRegions a regions = listFrom (a .lists .regionNext) (suc regions) (a .lists .head SPARE-REGIONS .item)
 
@@ -56,18 +58,21 @@ chainBy (suc d) r a =
     (walk (link (a .area)) (unitOf r (a .descriptors .class d)) (a .descriptors .anchor d .avail)
     (a .descriptors .anchor d .count)) []
 
--- the same of the plain pool
+-- the same of the plain pool: the class
 abbrev pub plainClassBy : ℕ → ℕ → Mem → ℕ
 plainClassBy zero r m = 0
 plainClassBy (suc d) r m = if (opens? (m .descriptor d) r) (suc (m .descriptor d .class)) 0
 
+-- its chain, by its map entry
 abbrev pub plainChainBy : ℕ → ℕ → Mem → List ℕ
 plainChainBy zero r m = []
 plainChainBy (suc d) r m = if (opens? (m .descriptor d) r) (m .descriptor d .chain) []
 
+-- the class in which the plain pool has the region r open, plus one, 0 where it has not
 abbrev pub plainClass : Mem → ℕ → ℕ
 plainClass m r = plainClassBy (m .map r) r m
 
+-- the chain of the region r in the plain pool
 abbrev pub plainChain : Mem → ℕ → List ℕ
 plainChain m r = plainChainBy (m .map r) r m
 
@@ -97,8 +102,8 @@ underWays s a =
     ∷ (F1, F1, freed)
     ∷ (F2, F3-EXCHANGE, s .unit ∷ groupOf s a)
     ∷ (F4-CLEAR, F4-CLEAR, freed)
-    ∷ (PUSH-RELEASE, PUSH-RELEASE + 2, freed)
-    ∷ (PUSH-OFFER, PUSH-OFFER + 2, freed)
+    ∷ (PUSH-RELEASE, PUSH-RELEASE + TO-EXCHANGE, freed)
+    ∷ (PUSH-OFFER, PUSH-OFFER + TO-EXCHANGE, freed)
     ∷ []
 
 -- how often a cache of n blocks with the top u has the block v
@@ -114,6 +119,7 @@ withTask a t v =
 
 -- ---- holders: "a user's hands, a task or its region's chain"
 
+-- who has a block
 pub data Holder : Type 0 where
   hands : Holder
   task : ℕ → Holder
@@ -129,10 +135,11 @@ holderOf (suc n) has inChain t = if (decLe 1 (has t)) (task t) (holderOf n has i
 abbrev pub holder : ℕ → (ℕ → ℕ) → ℕ → Holder
 holder mark has inChain = if (decLe 1 mark) hands (holderOf TASKS has inChain 0)
 
--- the holder of the block v with regard to the region r: in the memories, and in the plain pool
+-- the holder of the block v with regard to the region r, in the memories
 abbrev pub holderIn : Contents → ℕ → ℕ → Holder
 holderIn a r v = holder (a .entries .mark v) (λ t. withTask a t v) (count v (chainBy (a .entries .map r) r a))
 
+-- the same in the plain pool
 abbrev pub plainHolder : Mem → ℕ → ℕ → Holder
 plainHolder m r v = holder (m .hands v) (λ t. blockWeight v t (m .task t)) (count v (plainChain m r))
 

@@ -32,8 +32,8 @@ starting b area = call (Plain.start b) (record { control = CONTROL-BYTES; area =
 -- the pool of the whole run.
 pub data Reached : History → Memories → Pool → Type 0 where
   from-unstarted : {s₁ : Memories} → Unstarted s₁ → Reached [] s₁ unstarted
-  from-start : (s₁ : Memories) (s : Pool) (b : Start) (area : List ℕ) → Plain.Area (length area)
-      → Plain.Tasks (b .tasks)
+  from-start : (s₁ : Memories) (s : Pool) (b : Start) (area : List ℕ) → Plain.StartArea (length area)
+      → Plain.StartTasks (b .tasks)
       → Reached (happened (starting b area) s₁ s ∷ []) (stepped (starting b area) s₁ .0) (whole (starting b area) s .0)
   by-event : {h : History} {s₁ : Memories} {s : Pool} → Reached h s₁ s → (e : Event) → Premise e s
       → Reached (happened e s₁ s ∷ h) (stepped e s₁ .0) (whole e s .0)

@@ -4,25 +4,26 @@ use mathlib.Core.List.{List, [], _∷_, _++_}
 use Prim.Native.Nat.{ℕ, zero, suc, _+_, _*_, _%_, _≤_, _<_}
 use lib.ListN.{length}
 use Rattle.limits.specs.Limits.{REGION-BYTES, UNITS, TASKS, CLASSES, DESCRIPTORS, MOST-BLOCKS, TAGS, SPARE-DESCRIPTORS}
-use Rattle.limits.specs.Limits.{DESCRIPTOR-LISTS}
-use Rattle.limits.specs.Limits.{SPARE-REGIONS, LISTS}
+use Rattle.limits.specs.Limits.{SPARE-REGIONS, DESCRIPTOR-LISTS, LISTS}
 use Rattle.rows.specs.Counting.{count}
 use Rattle.rows.specs.Linked.{Linked}
 use Rattle.classes.specs.Classes.{perRegion}
 use Rattle.classes.specs.Geometry.{indexOf, regionOf, Block}
+use Rattle.words.specs.Anchor.{PARTIAL}
 use Rattle.words.specs.declared.head.Head.{Head}
 use Rattle.words.specs.declared.anchor.Anchor.{Anchor}
 use Rattle.links.specs.Link.{link}
-use Rattle.plain.specs.State.{State, numberOf, Descriptor, Note, Phase, read, next, exchange, Pop, partial, spare}
+use Rattle.plain.specs.State.{State, stateNumber, Descriptor, Note, Phase, read, next, exchange, Pop, partial, spare}
 use Rattle.plain.specs.State.{region, retire, back, release, offer, Place, idle, a1, popping, pushing, a3-read}
 use Rattle.plain.specs.State.{a3-exchange, a4, a7, a8, f1, f2, f3-read, f3-link, f3-exchange, f4-clear, Task, Mem, Work}
 use Rattle.plain.specs.State.{working}
 use Rattle.plain.specs.Steps.{top}
 use Rattle.plain.specs.States.{IfOpen}
-use Rattle.plain.specs.Blocks.{isBlock}
+use Rattle.plain.specs.Blocks.{countBlock}
 use Rattle.control.specs.Places.{IDLE, A1, POP-PARTIAL, POP-SPARE, POP-REGION, PUSH-RETIRE, PUSH-BACK, PUSH-RELEASE}
 use Rattle.control.specs.Places.{PUSH-OFFER, A3-READ, A3-EXCHANGE, A4, A7, A8, F1, F2, F3-READ, F3-LINK, F3-EXCHANGE}
 use Rattle.control.specs.Places.{F4-CLEAR}
+use Rattle.control.specs.Places.{TO-NEXT, TO-EXCHANGE}
 use Rattle.agreement.specs.Contents.{TaskCaches, Slot, Lists, Descriptors, Entries, Contents}
 
 -- the tag of a number of won exchanges
@@ -46,10 +47,10 @@ pub record HeadNoted (m : Mem) (ℓ : ℕ) (h : Head) (n : ℕ) : Type 0 where
 -- is what stands below the row's top: nothing is said of the links, so that the steps of others leave it.
 pub data PopRelated (m : Mem) (s : Slot) (b ℓ items : ℕ) : Phase → Type 0 where
   at-read : s .place ≡ b → PopRelated m s b ℓ items read
-  at-next : {n : ℕ} → s .place ≡ b + 1 → HeadNoted m ℓ (s .noted .head) n → 1 ≤ s .noted .head .item
+  at-next : {n : ℕ} → s .place ≡ b + TO-NEXT → HeadNoted m ℓ (s .noted .head) n → 1 ≤ s .noted .head .item
       → s .noted .head .item ≤ items
       → PopRelated m s b ℓ items (next n)
-  at-exchange : {n : ℕ} → s .place ≡ b + 2 → HeadNoted m ℓ (s .noted .head) n → 1 ≤ s .noted .head .item
+  at-exchange : {n : ℕ} → s .place ≡ b + TO-EXCHANGE → HeadNoted m ℓ (s .noted .head) n → 1 ≤ s .noted .head .item
       → s .noted .head .item ≤ items
       → s .noted .next ≤ items → (n ≡ m .won ℓ → s .noted .next ≡ top (tail (m .row ℓ)))
       → PopRelated m s b ℓ items (exchange n)
@@ -57,9 +58,9 @@ pub data PopRelated (m : Mem) (s : Slot) (b ℓ items : ℕ) : Phase → Type 0 
 -- A push of the item x, whose next, which its owner alone writes, is the noted head's item.
 pub data PushRelated (m : Mem) (s : Slot) (b ℓ items x : ℕ) (nx : ℕ → ℕ) : Phase → Type 0 where
   at-read : s .place ≡ b → PushRelated m s b ℓ items x nx read
-  at-next : {n : ℕ} → s .place ≡ b + 1 → HeadNoted m ℓ (s .noted .head) n → s .noted .head .item ≤ items
+  at-next : {n : ℕ} → s .place ≡ b + TO-NEXT → HeadNoted m ℓ (s .noted .head) n → s .noted .head .item ≤ items
       → PushRelated m s b ℓ items x nx (next n)
-  at-exchange : {n : ℕ} → s .place ≡ b + 2 → HeadNoted m ℓ (s .noted .head) n → s .noted .head .item ≤ items
+  at-exchange : {n : ℕ} → s .place ≡ b + TO-EXCHANGE → HeadNoted m ℓ (s .noted .head) n → s .noted .head .item ≤ items
       → nx x ≡ s .noted .head .item
       → PushRelated m s b ℓ items x nx (exchange n)
 
@@ -75,7 +76,7 @@ FirstIn r c (suc x) = Block r c x
 
 -- A noted anchor: state, first block and length are those of the plain pool's note; it may be stale for ever.
 pub record NoteRelated (m : Mem) (c d : ℕ) (n : Note) (a : Anchor) : Type 0 where
-  pub state : a .state ≡ numberOf (n .state)
+  pub state : a .state ≡ stateNumber (n .state)
   pub count : a .count ≡ n .length
   pub avail : a .avail ≡ firstIndex c (n .first)
   pub first : FirstIn (m .descriptor d .region) c (n .first)
@@ -108,7 +109,7 @@ pub data WorkRelated (regions : ℕ) (a : Contents) (m : Mem) (s : Slot) : Work 
   r-back : {φ : Phase} → PushRelated m s PUSH-BACK SPARE-DESCRIPTORS DESCRIPTORS (s .hand .descriptor)
       (a .lists .descriptorNext) φ
       → WorkRelated regions a m s (pushing (back (s .class) (s .hand .descriptor)) φ)
-  r-release : {w : State} {φ : Phase} → s .hand .state ≡ numberOf w
+  r-release : {w : State} {φ : Phase} → s .hand .state ≡ stateNumber w
       → PushRelated m s PUSH-RELEASE SPARE-REGIONS regions (s .hand .region) (a .lists .regionNext) φ
       → WorkRelated regions a m s (pushing (release (s .class) (s .unit) (s .hand .descriptor) w (s .hand .region)) φ)
   r-offer : {φ : Phase} → PushRelated m s PUSH-OFFER (s .class) DESCRIPTORS (s .hand .descriptor)
@@ -118,12 +119,12 @@ pub data WorkRelated (regions : ℕ) (a : Contents) (m : Mem) (s : Slot) : Work 
   -- the noted anchor is PARTIAL, names a block, and counts 1 to n
   r-a3-exchange : {n : Note} → s .place ≡ A3-EXCHANGE
       → NoteRelated m (s .class) (s .hand .descriptor) n (s .noted .anchor)
-      → s .noted .anchor .state ≡ 1 → 1 ≤ s .noted .anchor .count → s .noted .anchor .count ≤ perRegion (s .class)
+      → s .noted .anchor .state ≡ PARTIAL → 1 ≤ s .noted .anchor .count → s .noted .anchor .count ≤ perRegion (s .class)
       → s .noted .anchor .avail < perRegion (s .class)
       → WorkRelated regions a m s (a3-exchange (s .class) (s .hand .descriptor) n)
   r-a4 : {x : ℕ} {q : List ℕ} → s .place ≡ A4
       → Linked (link (a .area)) (indexOf (s .class)) (perRegion (s .class)) (s .hand .index) (x ∷ q)
-      → s .hand .left ≡ suc (length q) → ((v : ℕ) → count v (x ∷ q) ≤ isBlock v (s .hand .region) (s .class))
+      → s .hand .left ≡ suc (length q) → ((v : ℕ) → count v (x ∷ q) ≤ countBlock v (s .hand .region) (s .class))
       → WorkRelated regions a m s (a4 (s .class) x q)
   r-a7 : s .place ≡ A7 → WorkRelated regions a m s (a7 (s .class) (s .hand .descriptor) (s .hand .region))
   r-a8 : s .place ≡ A8 → WorkRelated regions a m s (a8 (s .class) (s .hand .region) (s .hand .index))
@@ -142,7 +143,7 @@ pub data WorkRelated (regions : ℕ) (a : Contents) (m : Mem) (s : Slot) : Work 
       → s .group .count + s .noted .anchor .count ≤ perRegion (s .class)
       → link (a .area) (G .last) ≡ s .noted .anchor .avail
       → WorkRelated regions a m s (f3-exchange (s .class) (s .unit) y g (s .hand .descriptor) n)
-  r-f4-clear : {w : State} → s .place ≡ F4-CLEAR → s .hand .state ≡ numberOf w
+  r-f4-clear : {w : State} → s .place ≡ F4-CLEAR → s .hand .state ≡ stateNumber w
       → WorkRelated regions a m s (f4-clear (s .class) (s .unit) (s .hand .descriptor) w (s .hand .region))
 
 -- Any place: a task is idle, or at work.
@@ -170,7 +171,7 @@ pub record ChainRelated (nx : ℕ → ℕ) (a : Anchor) (D : Descriptor) : Type 
 
 -- state, region and class; and the chain while it is not EMPTY
 pub record DescriptorRelated (nx : ℕ → ℕ) (a : Anchor) (r c : ℕ) (D : Descriptor) : Type 0 where
-  pub state : a .state ≡ numberOf (D .state)
+  pub state : a .state ≡ stateNumber (D .state)
   pub region : r ≡ D .region
   pub class : c ≡ D .class
   pub chain : IfOpen (D .state) (ChainRelated nx a D)

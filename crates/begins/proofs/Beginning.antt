@@ -7,7 +7,7 @@ use Prim.Native.Nat.{ℕ, _≤_, _<_}
 use native.Mathlib.Omega.{arith}
 use borrow.Author.Tests.{eq-eqb, ne-eqb, lt-ltb, le-ltb}
 use lib.Dec.{eqb, ltb}
-use Rattle.limits.specs.Limits.{MOST-BYTES}
+use Rattle.limits.specs.Limits.{LARGEST-SIZE}
 use Rattle.fields.specs.Columns.{View, _:=_}
 use Rattle.classes.specs.Sizes.{choice, classOf}
 use Rattle.classes.specs.declared.size.Choice.{Choice}
@@ -52,7 +52,7 @@ by-tests false false t c = refl
 
 by-choice : (t size : ℕ) → beginAllocate t size ≡ given t (choice size)
 unfolding beginAllocate choice
-by-choice t size = by-tests (eqb size 0) (ltb MOST-BYTES size) t (classOf size)
+by-choice t size = by-tests (eqb size 0) (ltb LARGEST-SIZE size) t (classOf size)
 
 module _ (v : View) (t size : ℕ) (idle : v (TaskPlace t) ≡ IDLE) where
   pub size-refused : (n : ℕ) → choice size ≡ Refused n → whenIdle v t (beginAllocate t size) ≡ refuse n

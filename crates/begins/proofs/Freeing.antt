@@ -6,7 +6,7 @@ use mathlib.Core.List.{List, [], _∷_}
 use Prim.Native.Nat.{ℕ, _-_, _/_, _%_, _≤_, _<_}
 use native.Mathlib.Omega.{arith}
 use borrow.Author.Tests.{eq-eqb, ne-eqb, lt-ltb, le-ltb, le-leb, lt-leb}
-use Rattle.limits.specs.Limits.{CLASSES, DESCRIPTORS}
+use Rattle.limits.specs.Limits.{CLASSES, DESCRIPTORS, WORD-MARKS}
 use Rattle.fields.specs.Columns.{View, _:=_}
 use Rattle.words.specs.Anchor.{EMPTY, anchorOf}
 use Rattle.words.specs.Mark.{isSet, withClear}
@@ -26,29 +26,33 @@ use Rattle.begins.proofs.Beginning.{idle-is}
 module _ (v : View) (t u c : ℕ) where
   -- the request begins, and the unit's word of marks becomes x
   abbrev begun : ℕ → Outcome
-  begun x = accept nothing (TaskPlace t := F1 ∷ TaskClass t := c ∷ TaskUnit t := u ∷ Marks (u / 64) := x ∷ []) []
+  begun x =
+      accept nothing (TaskPlace t := F1 ∷ TaskClass t := c ∷ TaskUnit t := u ∷ Marks (u / WORD-MARKS) := x ∷ []) []
 
-  pub mark-clear : (w : ℕ) → w ≡ v (Marks (u / 64)) → isSet w (u % 64) ≡ false → freeMarked v t u c ≡ refuse 11
+  pub mark-clear : (w : ℕ) → w ≡ v (Marks (u / WORD-MARKS)) → isSet w (u % WORD-MARKS) ≡ false
+      → freeMarked v t u c ≡ refuse 11
   unfolding freeMarked
-  mark-clear w e h = rw (subst (λ (x : ℕ). isSet x (u % 64) ≡ false) e h)
+  mark-clear w e h = rw (subst (λ (x : ℕ). isSet x (u % WORD-MARKS) ≡ false) e h)
 
-  mark-set : (w cleared : ℕ) → w ≡ v (Marks (u / 64)) → isSet w (u % 64) ≡ true → cleared ≡ withClear w (u % 64)
+  mark-set : (w cleared : ℕ) → w ≡ v (Marks (u / WORD-MARKS)) → isSet w (u % WORD-MARKS) ≡ true
+      → cleared ≡ withClear w (u % WORD-MARKS)
       → freeMarked v t u c ≡ begun cleared
   unfolding freeMarked
   mark-set w cleared e h k =
-      ap (λ (b : Bool). cond b (begun (withClear (v (Marks (u / 64))) (u % 64))) (refuse 11))
-      (subst (λ (x : ℕ). isSet x (u % 64) ≡ true) e h)
-      ∙ ap begun (sym (k ∙ ap (λ (x : ℕ). withClear x (u % 64)) e))
+      ap (λ (b : Bool). cond b (begun (withClear (v (Marks (u / WORD-MARKS))) (u % WORD-MARKS))) (refuse 11))
+      (subst (λ (x : ℕ). isSet x (u % WORD-MARKS) ≡ true) e h)
+      ∙ ap begun (sym (k ∙ ap (λ (x : ℕ). withClear x (u % WORD-MARKS)) e))
 
   -- the four stores of an accepted beginning
-  pub stored : (w cleared : ℕ) → w ≡ v (Marks (u / 64)) → isSet w (u % 64) ≡ true → cleared ≡ withClear w (u % 64)
+  pub stored : (w cleared : ℕ) → w ≡ v (Marks (u / WORD-MARKS)) → isSet w (u % WORD-MARKS) ≡ true
+      → cleared ≡ withClear w (u % WORD-MARKS)
       → (before : List ℕ) {b₁ b₂ b₃ b₄ : List ℕ} → b₁ ≡ changed (TaskPlace t := F1 ∷ []) before
       → b₂ ≡ changed (TaskClass t := c ∷ []) b₁
       → b₃ ≡ changed (TaskUnit t := u ∷ []) b₂
-      → b₄ ≡ changed (Marks (u / 64) := cleared ∷ []) b₃ → Done (freeMarked v t u c) before b₄ Accepted
+      → b₄ ≡ changed (Marks (u / WORD-MARKS) := cleared ∷ []) b₃ → Done (freeMarked v t u c) before b₄ Accepted
   stored w cleared e h k before h₁ h₂ h₃ h₄ =
       done (mark-set w cleared e h k) refl
-      (h₄ ∙ ap (changed (Marks (u / 64) := cleared ∷ []))
+      (h₄ ∙ ap (changed (Marks (u / WORD-MARKS) := cleared ∷ []))
       (h₃ ∙ ap (changed (TaskUnit t := u ∷ [])) (h₂ ∙ ap (changed (TaskClass t := c ∷ [])) h₁)))
       refl
 

@@ -4,15 +4,15 @@ use mathlib.Core.Bool.{cond}
 use Prim.Native.Nat.{ℕ}
 use lib.Dec.{eqb}
 use Rattle.fields.specs.Columns.{View}
+use Rattle.plain.specs.Calls.{Lengths}
 use Rattle.stepped.specs.Outcome.{Outcome, refuse}
-use Rattle.stepped.specs.Calls.{tested}
-use Rattle.stepped.specs.Calls.{Tested}
+use Rattle.stepped.specs.Calls.{tested, Tested}
 
 -- the first test that fails is r, or all pass where r is 0, and x follows
 abbrev pub unlessRefused : ℕ → Outcome → Outcome
 unlessRefused r x = cond (eqb r 0) x (refuse r)
 
 -- The number r is that of the first of the tests 1, 4, 2, 5 that fails, whatever follows them; 0 tells that they pass.
-pub record TestsAre (control area : ℕ) (v : View) (t r : ℕ) : Type 0 where
-  pub is : (x : Outcome) → tested control area v t x ≡ unlessRefused r x
-  pub passed : r ≡ 0 → Tested control area v t
+pub record TestsAre (lent : Lengths) (v : View) (t r : ℕ) : Type 0 where
+  pub is : (x : Outcome) → tested lent v t x ≡ unlessRefused r x
+  pub passed : r ≡ 0 → Tested lent v t

@@ -18,8 +18,8 @@ fn marked(control: &mut [u8], task: usize, unit: usize, class: u8) -> Answer
     ensures { λ r. ⌜ Done (freeMarked (seen (now (control .entry))) task unit class)
         (now (control .entry)) (now (control .exit)) r ⌝ }
 {
-    let bit = (unit % 64) as u32;
-    let word = control::regions::marks(control, unit / 64);
+    let bit = (unit % limits::WORD_MARKS) as u32;
+    let word = control::regions::marks(control, unit / limits::WORD_MARKS);
     if !mark::test(word, bit) {
         return Answer::Refused(11);
     }
@@ -27,7 +27,7 @@ fn marked(control: &mut [u8], task: usize, unit: usize, class: u8) -> Answer
     control::tasks::set_task_place(control, task, places::F1);
     control::tasks::set_task_class(control, task, class);
     control::notes::set_task_unit(control, task, unit as u16);
-    control::regions::set_marks(control, unit / 64, cleared);
+    control::regions::set_marks(control, unit / limits::WORD_MARKS, cleared);
     Answer::Accepted
 }
 

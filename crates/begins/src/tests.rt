@@ -7,7 +7,8 @@ ghost use Rattle.begins.specs.Tests.{TestsAre};
 // The tests 1, 4, 2, 5, in this order: the number of the first that fails, 14 where a stored number is out of its
 // range, and 0 where all pass. The callers are the exported calls.
 pub fn tests(control: &[u8], area: usize, task: u64) -> u8
-    ensures { λ r. ⌜ TestsAre (length (now (control .entry))) area (seen (now (control .entry))) task r ⌝ }
+    ensures { λ r. ⌜ TestsAre (record { control = length (now (control .entry)); area = area })
+        (seen (now (control .entry))) task r ⌝ }
 {
     if control.len() != limits::CONTROL_BYTES {
         return 1;

@@ -4,8 +4,8 @@ use mathlib.Core.Bool.{cond, _&&_}
 use mathlib.Core.List.{List, [], _∷_}
 use Prim.Native.Nat.{ℕ, zero, suc, _+_, _*_, _/_, _%_}
 use lib.Dec.{leb, eqb}
-use Rattle.limits.specs.Limits.{UNIT-BYTES, MOST-BYTES}
-use Rattle.classes.specs.Classes.{blocks}
+use Rattle.limits.specs.Limits.{UNIT-BYTES, LARGEST-SIZE}
+use Rattle.classes.specs.Classes.{blockSizes}
 
 -- the series for the n powers of two from p on; a member that is no whole number is below 8, and rounded down
 abbrev pub series : ℕ → ℕ → List ℕ
@@ -13,10 +13,10 @@ series p zero = []
 series p (suc n) = p ∷ (p + p / 4) ∷ (p + p / 2) ∷ (p + 3 * p / 4) ∷ series (2 * p) n
 
 -- the members that are multiples of 8, up to 256
-abbrev pub served : List ℕ → List ℕ
-served [] = []
-served (b ∷ bs) = cond (eqb (b % UNIT-BYTES) 0 && leb b MOST-BYTES) (b ∷ served bs) (served bs)
+abbrev pub usable : List ℕ → List ℕ
+usable [] = []
+usable (b ∷ bs) = cond (eqb (b % UNIT-BYTES) 0 && leb b LARGEST-SIZE) (b ∷ usable bs) (usable bs)
 
 -- of the powers from 1 to 256 these are the blocks
-pub in-series : served (series 1 9) ≡ blocks
+pub in-series : usable (series 1 9) ≡ blockSizes
 in-series = refl

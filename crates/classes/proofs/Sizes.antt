@@ -8,8 +8,8 @@ use native.Mathlib.Decide.{decLe, decLt}
 use lib.Dec.{T, ltb, ltb→lt}
 use lib.ListN.{length, getD}
 use borrow.Author.Tests.{le-leb, lt-leb, lt-ltb, le-ltb, eq-eqb, ne-eqb}
-use Rattle.limits.specs.Limits.{UNIT-BYTES, CLASSES, MOST-BYTES}
-use Rattle.classes.specs.Classes.{blocks, SMALLEST, units, block}
+use Rattle.limits.specs.Limits.{UNIT-BYTES, CLASSES, LARGEST-SIZE}
+use Rattle.classes.specs.Classes.{blockSizes, SMALLEST-SIZE, units, block}
 use Rattle.classes.specs.Sizes.{firstHolding, classOf, choice}
 use Rattle.classes.specs.declared.size.Choice.the-variants.{Class, Refused}
 use Rattle.classes.proofs.Below.{at}
@@ -40,10 +40,10 @@ passed s (b ∷ bs) d (suc k) h = passed s bs d k (omega (arith, further s b bs 
 -- every class before that of s has a smaller block than s
 pub smallest : (s d : ℕ) → d < classOf s → block d < s
 unfolding classOf
-smallest s d h = rw (rows d .0) (passed s blocks SMALLEST d h)
+smallest s d h = rw (rows d .0) (passed s blockSizes SMALLEST-SIZE d h)
 
 -- a size up to the largest has a class
-pub is-class : (s : ℕ) → s ≤ MOST-BYTES → classOf s < CLASSES
+pub is-class : (s : ℕ) → s ≤ LARGEST-SIZE → classOf s < CLASSES
 unfolding units
 is-class s h = elim (decLt (classOf s) CLASSES) [
   | yes k ↦ k
@@ -51,16 +51,16 @@ is-class s h = elim (decLt (classOf s) CLASSES) [
 ]
 
 -- .. whose block holds it
-pub holds : (s : ℕ) → s ≤ MOST-BYTES → s ≤ block (classOf s)
+pub holds : (s : ℕ) → s ≤ LARGEST-SIZE → s ≤ block (classOf s)
 unfolding classOf
-holds s h = rw (rows (classOf s) .0) (found s blocks SMALLEST (is-class s h))
+holds s h = rw (rows (classOf s) .0) (found s blockSizes SMALLEST-SIZE (is-class s h))
 
 -- the class x of k units is that of every number of units that is k
 pub class-at : (u k : ℕ) {x : ℕ} → x ≡ classOf (UNIT-BYTES * k) → u ≡ k → x ≡ classOf (UNIT-BYTES * u)
 class-at u k h e = h ∙ ap (λ (n : ℕ). classOf (UNIT-BYTES * n)) (sym e)
 
 -- a size and the bytes of its units, rounded up, have one class
-pub rounded : (s : ℕ) → s ≤ MOST-BYTES → classOf (UNIT-BYTES * ((s + UNIT-BYTES - 1) / UNIT-BYTES)) ≡ classOf s
+pub rounded : (s : ℕ) → s ≤ LARGEST-SIZE → classOf (UNIT-BYTES * ((s + UNIT-BYTES - 1) / UNIT-BYTES)) ≡ classOf s
 rounded s h =
     let w = UNIT-BYTES * ((s + UNIT-BYTES - 1) / UNIT-BYTES) in
     elim (decLt (classOf s) (classOf w)) [
@@ -76,12 +76,12 @@ abbrev little : ℕ → Bool
 little s = ltb (4 * (block (classOf s) - s)) (block (classOf s))
 
 -- so it is for the sizes from 25 up
-pub quarter : (s : ℕ) → 25 ≤ s → s ≤ MOST-BYTES → 4 * (block (classOf s) - s) < block (classOf s)
+pub quarter : (s : ℕ) → 25 ≤ s → s ≤ LARGEST-SIZE → 4 * (block (classOf s) - s) < block (classOf s)
 unfolding classOf units
 quarter s l h =
     let e : 25 + (s - 25) ≡ s = omega arith in
     ltb→lt (4 * (block (classOf s) - s)) (block (classOf s))
-    (subst (λ (k : ℕ). T (little k)) e (at (λ k. little (25 + k)) (suc MOST-BYTES - 25) tt (s - 25) (omega arith)))
+    (subst (λ (k : ℕ). T (little k)) e (at (λ k. little (25 + k)) (suc LARGEST-SIZE - 25) tt (s - 25) (omega arith)))
 
 -- and at 17 it is not
 pub not-at-17 : 4 * (block (classOf 17) - 17) < block (classOf 17) → ⊥
@@ -94,11 +94,11 @@ unfolding choice
 refuses-none s e = rw (eq-eqb s 0 e)
 
 -- a size above the largest,
-pub refuses-large : (s : ℕ) → MOST-BYTES < s → choice s ≡ Refused 9
+pub refuses-large : (s : ℕ) → LARGEST-SIZE < s → choice s ≡ Refused 9
 unfolding choice
-refuses-large s h = rw (ne-eqb s 0 (omega arith), lt-ltb MOST-BYTES s h)
+refuses-large s h = rw (ne-eqb s 0 (omega arith), lt-ltb LARGEST-SIZE s h)
 
 -- and the others
-pub serves : (s : ℕ) → 1 ≤ s → s ≤ MOST-BYTES → choice s ≡ Class (classOf s)
+pub serves : (s : ℕ) → 1 ≤ s → s ≤ LARGEST-SIZE → choice s ≡ Class (classOf s)
 unfolding choice
-serves s l h = rw (ne-eqb s 0 (omega arith), le-ltb MOST-BYTES s h)
+serves s l h = rw (ne-eqb s 0 (omega arith), le-ltb LARGEST-SIZE s h)

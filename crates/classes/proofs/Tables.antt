@@ -9,12 +9,13 @@ use native.Mathlib.Decide.{decLt}
 use lib.Dec.{T, leb, ltb, eqb, leb→le, ltb→lt, eqb→eq}
 use lib.ListN.{getD, List·getD-eq-default}
 use Rattle.limits.specs.Limits.{UNIT-BYTES, REGION-BYTES, REGION-UNITS, CLASSES, MOST-BLOCKS}
-use Rattle.classes.specs.Classes.{blocks, counts, SMALLEST, MOST-UNITS, LEAST-BLOCKS, units, block, perRegion}
+use Rattle.classes.specs.Classes.{blockSizes, blockCounts, SMALLEST-SIZE, LARGEST-UNITS, LEAST-BLOCKS, units}
+use Rattle.classes.specs.Classes.{block, perRegion}
 use Rattle.classes.proofs.Below.{all, at}
 
 -- a test of the two entries of class c, its block and its n; past the table they are those of class 0
 entry : (ℕ → ℕ → Bool) → ℕ → Bool
-entry f c = f (getD blocks c SMALLEST) (getD counts c MOST-BLOCKS)
+entry f c = f (getD blockSizes c SMALLEST-SIZE) (getD blockCounts c MOST-BLOCKS)
 
 -- a test that passes at the classes, and at class 0 again, passes at every c
 every-class : (f : ℕ → ℕ → Bool) → T (all (entry f) (suc CLASSES)) → (c : ℕ) → T (entry f c)
@@ -22,15 +23,18 @@ unfolding entry
 every-class f t c = elim (decLt c CLASSES) [
   | yes h ↦ at (entry f) (suc CLASSES) t c (omega arith)
   | no h ↦ (let past : CLASSES ≤ c = omega arith in
-      rw (List·getD-eq-default blocks SMALLEST past, List·getD-eq-default counts MOST-BLOCKS past)
+      rw (List·getD-eq-default blockSizes SMALLEST-SIZE past, List·getD-eq-default blockCounts MOST-BLOCKS past)
       (at (entry f) (suc CLASSES) t CLASSES (omega arith)))
 ]
 
 -- the definitions are the table's rows
-pub rows : (c : ℕ) → (block c ≡ getD blocks c SMALLEST) × (perRegion c ≡ getD counts c MOST-BLOCKS)
+pub rows : (c : ℕ) → (block c ≡ getD blockSizes c SMALLEST-SIZE) × (perRegion c ≡ getD blockCounts c MOST-BLOCKS)
 unfolding units perRegion entry
-rows c =
-    (eqb→eq (block c) (getD blocks c SMALLEST) (every-class (λ b n. eqb (UNIT-BYTES * (b / UNIT-BYTES)) b) tt c), refl)
+rows c = (
+  eqb→eq (block c) (getD blockSizes c SMALLEST-SIZE)
+      (every-class (λ b n. eqb (UNIT-BYTES * (b / UNIT-BYTES)) b) tt c),
+  refl,
+)
 
 -- a number that is none of the first n, as a match leaves it to its last arm
 abbrev pub Others : ℕ → ℕ → Type 0
@@ -66,9 +70,9 @@ unfolding units entry
 units-low c = leb→le 1 (units c) (every-class (λ b n. leb 1 (b / UNIT-BYTES)) tt c)
 
 -- .. and at most those of the largest
-pub units-high : (c : ℕ) → units c ≤ MOST-UNITS
+pub units-high : (c : ℕ) → units c ≤ LARGEST-UNITS
 unfolding units entry
-units-high c = leb→le (units c) MOST-UNITS (every-class (λ b n. leb (b / UNIT-BYTES) MOST-UNITS) tt c)
+units-high c = leb→le (units c) LARGEST-UNITS (every-class (λ b n. leb (b / UNIT-BYTES) LARGEST-UNITS) tt c)
 
 -- a region has at least the blocks of the largest class
 pub perRegion-low : (c : ℕ) → LEAST-BLOCKS ≤ perRegion c

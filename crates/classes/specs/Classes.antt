@@ -2,30 +2,31 @@
 use mathlib.Core.List.{List, [], _∷_}
 use Prim.Native.Nat.{ℕ, _*_, _/_}
 use lib.ListN.{getD}
-use Rattle.limits.specs.Limits.{UNIT-BYTES, REGION-BYTES, MOST-BYTES, MOST-BLOCKS}
+use Rattle.limits.specs.Limits.{UNIT-BYTES, REGION-BYTES, LARGEST-SIZE, MOST-BLOCKS}
 
 -- the table's row "block": the bytes of a block of each class
-abbrev pub blocks : List ℕ
-blocks = 8 ∷ 16 ∷ 24 ∷ 32 ∷ 40 ∷ 48 ∷ 56 ∷ 64 ∷ 80 ∷ 96 ∷ 112 ∷ 128 ∷ 160 ∷ 192 ∷ 224 ∷ 256 ∷ []
+abbrev pub blockSizes : List ℕ
+blockSizes = 8 ∷ 16 ∷ 24 ∷ 32 ∷ 40 ∷ 48 ∷ 56 ∷ 64 ∷ 80 ∷ 96 ∷ 112 ∷ 128 ∷ 160 ∷ 192 ∷ 224 ∷ 256 ∷ []
 
 -- the table's row "n, per region": how many blocks of each class a region has
-abbrev pub counts : List ℕ
-counts = 512 ∷ 256 ∷ 170 ∷ 128 ∷ 102 ∷ 85 ∷ 73 ∷ 64 ∷ 51 ∷ 42 ∷ 36 ∷ 32 ∷ 25 ∷ 21 ∷ 18 ∷ 16 ∷ []
+abbrev pub blockCounts : List ℕ
+blockCounts = 512 ∷ 256 ∷ 170 ∷ 128 ∷ 102 ∷ 85 ∷ 73 ∷ 64 ∷ 51 ∷ 42 ∷ 36 ∷ 32 ∷ 25 ∷ 21 ∷ 18 ∷ 16 ∷ []
 
 -- the block of class 0, the smallest
-abbrev pub SMALLEST : ℕ
-SMALLEST = 8
+abbrev pub SMALLEST-SIZE : ℕ
+SMALLEST-SIZE = 8
 
--- the units of the largest block, and how many blocks of it a region has
-abbrev pub MOST-UNITS : ℕ
-MOST-UNITS = MOST-BYTES / UNIT-BYTES
+-- the units of the largest block
+abbrev pub LARGEST-UNITS : ℕ
+LARGEST-UNITS = LARGEST-SIZE / UNIT-BYTES
 
+-- how many blocks of the largest class a region has
 abbrev pub LEAST-BLOCKS : ℕ
-LEAST-BLOCKS = REGION-BYTES / MOST-BYTES
+LEAST-BLOCKS = REGION-BYTES / LARGEST-SIZE
 
 -- a block of class c in units. Past the table it is that of class 0, so that laws hold for every c
 unfoldable pub units : ℕ → ℕ
-units c = getD blocks c SMALLEST / UNIT-BYTES
+units c = getD blockSizes c SMALLEST-SIZE / UNIT-BYTES
 
 -- a block of class c in bytes
 abbrev pub block : ℕ → ℕ
@@ -33,4 +34,4 @@ block c = UNIT-BYTES * units c
 
 -- n of class c
 unfoldable pub perRegion : ℕ → ℕ
-perRegion c = getD counts c MOST-BLOCKS
+perRegion c = getD blockCounts c MOST-BLOCKS

@@ -3,8 +3,8 @@ use mathlib.Core.Bool.{cond}
 use mathlib.Core.List.{List, [], _∷_}
 use Prim.Native.Nat.{ℕ, suc}
 use lib.Dec.{leb, ltb, eqb}
-use Rattle.limits.specs.Limits.{MOST-BYTES}
-use Rattle.classes.specs.Classes.{blocks}
+use Rattle.limits.specs.Limits.{LARGEST-SIZE}
+use Rattle.classes.specs.Classes.{blockSizes}
 use Rattle.classes.specs.declared.size.Choice.{Choice}
 use Rattle.classes.specs.declared.size.Choice.the-variants.{Class, Refused}
 
@@ -15,8 +15,8 @@ firstHolding s (b ∷ bs) = cond (leb s b) 0 (suc (firstHolding s bs))
 
 -- the class of size s: the first, and so the smallest, whose block holds s bytes; past the last where none does
 unfoldable pub classOf : ℕ → ℕ
-classOf s = firstHolding s blocks
+classOf s = firstHolding s blockSizes
 
 -- what size s is given: 8 refuses size 0, then 9 a size above 256; 1 to 256 bytes are served, by their class
 unfoldable pub choice : ℕ → Choice
-choice s = cond (eqb s 0) (Refused 8) (cond (ltb MOST-BYTES s) (Refused 9) (Class (classOf s)))
+choice s = cond (eqb s 0) (Refused 8) (cond (ltb LARGEST-SIZE s) (Refused 9) (Class (classOf s)))

@@ -32,9 +32,9 @@ pub fn index_of(class: usize, unit: usize) -> usize
 }
 
 // A factor's product is taken modulo 2^32, and that of a first unit is below 2^16.
-const PRODUCTS: usize = 4294967296;
+const PRODUCT_MODULUS: usize = 4294967296;
 
-const FIRSTS: usize = 65536;
+const FIRST_PRODUCTS: usize = 65536;
 
 // Whether a unit is the first of a block of the class. Callers have the class of the unit's region, or of the cache:
 // the beginning of a free, and the steps that take a block from a cache or put one on it.
@@ -42,5 +42,5 @@ pub fn is_first(class: usize, unit: usize) -> bool
     requires { ⌜ class < CLASSES ⌝ }
     ensures { λ r. ⌜ r ≡ isFirst class unit ⌝ }
 {
-    unit % limits::REGION_UNITS * table::factor(class) % PRODUCTS < FIRSTS
+    unit % limits::REGION_UNITS * table::factor(class) % PRODUCT_MODULUS < FIRST_PRODUCTS
 }

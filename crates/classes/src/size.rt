@@ -2,7 +2,7 @@
 ghost use mathlib.Core.Path.{_≡_};
 ghost use Prim.Native.Nat.{_*_, _≤_};
 ghost use Rattle.limits.specs.Limits.{UNIT-BYTES};
-ghost use Rattle.classes.specs.Classes.{MOST-UNITS};
+ghost use Rattle.classes.specs.Classes.{LARGEST-UNITS};
 ghost use Rattle.classes.specs.Sizes.{choice, classOf};
 
 // The class that serves a size, or the number that refuses it.
@@ -13,7 +13,7 @@ pub enum Choice {
 
 // The class of so many units, a block of which holds them. No size that is served is of 0 units. Caller: `size_class`.
 fn class_of(units: usize) -> u8
-    requires { ⌜ units ≤ MOST-UNITS ⌝ }
+    requires { ⌜ units ≤ LARGEST-UNITS ⌝ }
     ensures { λ r. ⌜ r ≡ classOf (UNIT-BYTES * units) ⌝ }
 {
     match units {
@@ -62,7 +62,7 @@ pub fn size_class(size: u64) -> Choice
     if bytes == 0 {
         return Choice::Refused(8);
     }
-    if limits::MOST_BYTES < bytes {
+    if limits::LARGEST_SIZE < bytes {
         return Choice::Refused(9);
     }
     let units = (bytes + limits::UNIT_BYTES - 1) / limits::UNIT_BYTES;

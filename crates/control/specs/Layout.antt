@@ -5,26 +5,28 @@ use Prim.Native.Nat.{ℕ, _+_, _*_, _/_}
 use mathlib.Core.Path.{_≡_}
 use mathlib.Core.List.{List, [], _∷_}
 use lib.ListN.{length}
-use Rattle.limits.specs.Limits.{CONTROL-BYTES, UNITS, TASKS, REGIONS, DESCRIPTORS, LISTS}
+use Rattle.limits.specs.Limits.{CONTROL-BYTES, UNITS, TASKS, REGIONS, DESCRIPTORS, LISTS, WORD-MARKS}
 use Rattle.fields.specs.Columns.{Column, Field, View, Write, view, written}
 
+-- `count` numbers of `width` bytes each, from the byte `start` on
 abbrev column : ℕ → ℕ → ℕ → Column
 column start width count = record { start = start; width = width; count = count }
 
 -- the number of a column at an index
-abbrev pub field : Column → ℕ → Field
-field k index = record { column = k .start; index = index }
+abbrev pub fieldOf : Column → ℕ → Field
+fieldOf k index = record { column = k .start; index = index }
 
 -- how many words the marks of all units take, 64 in each
 abbrev pub MARK-WORDS : ℕ
-MARK-WORDS = UNITS / 64
+MARK-WORDS = UNITS / WORD-MARKS
 
 -- the caches stand task by task, with room for so many classes of a task
-abbrev pub STRIDE : ℕ
-STRIDE = 16
+abbrev pub CACHES-OF-TASK : ℕ
+CACHES-OF-TASK = 16
 
+-- how many caches there are places for
 abbrev pub CACHES : ℕ
-CACHES = STRIDE * TASKS
+CACHES = CACHES-OF-TASK * TASKS
 
 -- the head word of a list: first those of the partial descriptors of each class, then the spare descriptors, then the
 -- spare regions
@@ -32,189 +34,190 @@ abbrev pub heads : Column
 heads = column 0 8 LISTS
 
 abbrev pub Head : ℕ → Field
-Head = field heads
+Head = fieldOf heads
 
 -- a descriptor's anchor
 abbrev pub anchors : Column
 anchors = column 256 8 DESCRIPTORS
 
 abbrev pub Anchor : ℕ → Field
-Anchor = field anchors
+Anchor = fieldOf anchors
 
 -- 64 marks, of the units 64 × k to 64 × k + 63
 abbrev pub unitMarks : Column
 unitMarks = column 768 8 MARK-WORDS
 
 abbrev pub Marks : ℕ → Field
-Marks = field unitMarks
+Marks = fieldOf unitMarks
 
 -- the head word that a task noted
 abbrev pub taskHeads : Column
 taskHeads = column 4864 8 TASKS
 
 abbrev pub TaskHead : ℕ → Field
-TaskHead = field taskHeads
+TaskHead = fieldOf taskHeads
 
 -- the anchor that a task noted
 abbrev pub taskAnchors : Column
 taskAnchors = column 4928 8 TASKS
 
 abbrev pub TaskAnchor : ℕ → Field
-TaskAnchor = field taskAnchors
+TaskAnchor = fieldOf taskAnchors
 
 -- the top block of a cache: its unit, 8,192 for none
 abbrev pub cacheTops : Column
 cacheTops = column 4992 2 CACHES
 
-abbrev pub Top : ℕ → Field
-Top = field cacheTops
+abbrev pub TopOfCache : ℕ → Field
+TopOfCache = fieldOf cacheTops
 
 -- how many blocks a cache has
 abbrev pub cacheCounts : Column
 cacheCounts = column 5248 2 CACHES
 
-abbrev pub Count : ℕ → Field
-Count = field cacheCounts
+abbrev pub CountOfCache : ℕ → Field
+CountOfCache = fieldOf cacheCounts
 
--- those of the task t for the class c
+-- the top block of the cache of the task t for the class c
 abbrev pub CacheTop : ℕ → ℕ → Field
-CacheTop t c = Top (STRIDE * t + c)
+CacheTop t c = TopOfCache (CACHES-OF-TASK * t + c)
 
+-- how many blocks the cache of the task t for the class c has
 abbrev pub CacheCount : ℕ → ℕ → Field
-CacheCount t c = Count (STRIDE * t + c)
+CacheCount t c = CountOfCache (CACHES-OF-TASK * t + c)
 
 -- the unit of the block that a task frees
 abbrev pub taskUnits : Column
 taskUnits = column 5504 2 TASKS
 
 abbrev pub TaskUnit : ℕ → Field
-TaskUnit = field taskUnits
+TaskUnit = fieldOf taskUnits
 
 -- the index of the block that a task moves or carves next
 abbrev pub taskIndexes : Column
 taskIndexes = column 5520 2 TASKS
 
 abbrev pub TaskIndex : ℕ → Field
-TaskIndex = field taskIndexes
+TaskIndex = fieldOf taskIndexes
 
 -- how many blocks of a taken chain are left to move
 abbrev pub taskLefts : Column
 taskLefts = column 5536 2 TASKS
 
 abbrev pub TaskLeft : ℕ → Field
-TaskLeft = field taskLefts
+TaskLeft = fieldOf taskLefts
 
 -- the index of the first block of a task's group
 abbrev pub groupFirsts : Column
 groupFirsts = column 5552 2 TASKS
 
 abbrev pub GroupFirst : ℕ → Field
-GroupFirst = field groupFirsts
+GroupFirst = fieldOf groupFirsts
 
 -- the index of its last block
 abbrev pub groupLasts : Column
 groupLasts = column 5568 2 TASKS
 
 abbrev pub GroupLast : ℕ → Field
-GroupLast = field groupLasts
+GroupLast = fieldOf groupLasts
 
 -- how many blocks it has
 abbrev pub groupCounts : Column
 groupCounts = column 5584 2 TASKS
 
 abbrev pub GroupCount : ℕ → Field
-GroupCount = field groupCounts
+GroupCount = fieldOf groupCounts
 
--- a task's place in the step list: one of Places, and `steps` of the stepped pool is their list
+-- a task's place in the step list: one of Places, and `stepList` of the stepped pool is their list
 abbrev pub taskPlaces : Column
 taskPlaces = column 5632 1 TASKS
 
 abbrev pub TaskPlace : ℕ → Field
-TaskPlace = field taskPlaces
+TaskPlace = fieldOf taskPlaces
 
 -- the class of a task's request
 abbrev pub taskClasses : Column
 taskClasses = column 5640 1 TASKS
 
 abbrev pub TaskClass : ℕ → Field
-TaskClass = field taskClasses
+TaskClass = fieldOf taskClasses
 
 -- the item's next that a pop noted: a number plus one, 0 for none
 abbrev pub taskNexts : Column
 taskNexts = column 5648 1 TASKS
 
 abbrev pub TaskNext : ℕ → Field
-TaskNext = field taskNexts
+TaskNext = fieldOf taskNexts
 
 -- the descriptor that a task has in hand; in a free, the group's
 abbrev pub taskDescriptors : Column
 taskDescriptors = column 5656 1 TASKS
 
 abbrev pub TaskDescriptor : ℕ → Field
-TaskDescriptor = field taskDescriptors
+TaskDescriptor = fieldOf taskDescriptors
 
 -- the region that a task has in hand; in a free, the group's
 abbrev pub taskRegions : Column
 taskRegions = column 5664 1 TASKS
 
 abbrev pub TaskRegion : ℕ → Field
-TaskRegion = field taskRegions
+TaskRegion = fieldOf taskRegions
 
 -- the state in which a free found the anchor that it exchanged
 abbrev pub taskStates : Column
 taskStates = column 5672 1 TASKS
 
 abbrev pub TaskState : ℕ → Field
-TaskState = field taskStates
+TaskState = fieldOf taskStates
 
 -- the next of a descriptor on its list: a number plus one, 0 for none
 abbrev pub descriptorNexts : Column
 descriptorNexts = column 5696 1 DESCRIPTORS
 
 abbrev pub DescriptorNext : ℕ → Field
-DescriptorNext = field descriptorNexts
+DescriptorNext = fieldOf descriptorNexts
 
 -- the next of a spare region: a number plus one, 0 for none
 abbrev pub regionNexts : Column
 regionNexts = column 5760 1 REGIONS
 
 abbrev pub RegionNext : ℕ → Field
-RegionNext = field regionNexts
+RegionNext = fieldOf regionNexts
 
 -- a descriptor's region
 abbrev pub descriptorRegions : Column
 descriptorRegions = column 5776 1 DESCRIPTORS
 
 abbrev pub DescriptorRegion : ℕ → Field
-DescriptorRegion = field descriptorRegions
+DescriptorRegion = fieldOf descriptorRegions
 
 -- a descriptor's class
 abbrev pub descriptorClasses : Column
 descriptorClasses = column 5840 1 DESCRIPTORS
 
 abbrev pub DescriptorClass : ℕ → Field
-DescriptorClass = field descriptorClasses
+DescriptorClass = fieldOf descriptorClasses
 
 -- "A map entry for each region names its descriptor, or none": its number plus one, 0 for none
 abbrev pub mapEntries : Column
 mapEntries = column 5904 1 REGIONS
 
 abbrev pub Map : ℕ → Field
-Map = field mapEntries
+Map = fieldOf mapEntries
 
 -- the started number of tasks, 0 while the pool is not started
 abbrev pub startedTasks : Column
 startedTasks = column 5944 1 1
 
 abbrev pub Tasks : Field
-Tasks = field startedTasks 0
+Tasks = fieldOf startedTasks 0
 
 -- the started number of regions
 abbrev pub startedRegions : Column
 startedRegions = column 5945 1 1
 
 abbrev pub Regions : Field
-Regions = field startedRegions 0
+Regions = fieldOf startedRegions 0
 
 -- the columns, in the order of their bytes
 abbrev pub layout : List Column

@@ -2,6 +2,7 @@
 -- its head read, its next and its exchange. docs/LAYOUT.md has the same table in words.
 use Prim.Native.Nat.{ℕ}
 
+-- no request in hand
 abbrev pub IDLE : ℕ
 IDLE = 0
 
@@ -37,10 +38,11 @@ PUSH-RELEASE = 17
 abbrev pub PUSH-OFFER : ℕ
 PUSH-OFFER = 20
 
--- allocate 3: the anchor is read, and exchanged
+-- allocate 3: the anchor is read
 abbrev pub A3-READ : ℕ
 A3-READ = 23
 
+-- allocate 3: the anchor is exchanged
 abbrev pub A3-EXCHANGE : ℕ
 A3-EXCHANGE = 24
 
@@ -64,13 +66,15 @@ F1 = 28
 abbrev pub F2 : ℕ
 F2 = 29
 
--- free 3: the anchor is read, the group's last link is written, the anchor is exchanged
+-- free 3: the anchor is read
 abbrev pub F3-READ : ℕ
 F3-READ = 30
 
+-- free 3: the last link of the group is written
 abbrev pub F3-LINK : ℕ
 F3-LINK = 31
 
+-- free 3: the anchor is exchanged
 abbrev pub F3-EXCHANGE : ℕ
 F3-EXCHANGE = 32
 
@@ -81,3 +85,11 @@ F4-CLEAR = 33
 -- how many there are
 abbrev pub PLACES : ℕ
 PLACES = 34
+
+-- from the place of a move's head read to that of its next
+abbrev pub TO-NEXT : ℕ
+TO-NEXT = 1
+
+-- .. and to that of its exchange
+abbrev pub TO-EXCHANGE : ℕ
+TO-EXCHANGE = 2

@@ -6,14 +6,17 @@ ghost use mathlib.Core.List.{[], _∷_};
 ghost use Prim.Native.Nat.{_<_};
 ghost use Rattle.limits.specs.Limits.{CLASSES, TASKS};
 ghost use Rattle.fields.specs.Columns.{_:=_};
-ghost use Rattle.control.specs.Layout.{Control, seen, changed, CACHES, Top, CacheTop, CacheCount};
+ghost use Rattle.control.specs.Layout.{Control, seen, changed, CACHES, TopOfCache, CacheTop, CacheCount};
 
 // The top block of a task's cache of a class: its unit, 8,192 for none.
 pub fn cache_top(c: &[u8], task: usize, class: usize) -> u16
     requires { ⌜ Control (now c) × (task < TASKS) × (class < CLASSES) ⌝ }
     ensures { λ r. ⌜ r ≡ seen (now (c .entry)) (CacheTop task class) ⌝ }
 {
-    fields::load16(c, layout::CACHE_TOPS + (layout::STRIDE * task + class) * 2)
+    fields::load16(
+        c,
+        layout::CACHE_TOPS + (layout::CACHES_OF_TASK * task + class) * 2,
+    )
 }
 
 pub fn set_cache_top(c: &mut [u8], task: usize, class: usize, value: u16)
@@ -22,7 +25,7 @@ pub fn set_cache_top(c: &mut [u8], task: usize, class: usize, value: u16)
 {
     fields::store16(
         c,
-        layout::CACHE_TOPS + (layout::STRIDE * task + class) * 2,
+        layout::CACHE_TOPS + (layout::CACHES_OF_TASK * task + class) * 2,
         value,
     );
 }
@@ -31,7 +34,7 @@ pub fn set_cache_top(c: &mut [u8], task: usize, class: usize, value: u16)
 // stores them in a row.
 pub fn set_top(c: &mut [u8], index: usize, value: u16)
     requires { ⌜ Control (now c) × (index < CACHES) ⌝ }
-    ensures { λ r. ⌜ now (c .exit) ≡ changed (Top index := value ∷ []) (now (c .entry)) ⌝ }
+    ensures { λ r. ⌜ now (c .exit) ≡ changed (TopOfCache index := value ∷ []) (now (c .entry)) ⌝ }
 {
     fields::store16(c, layout::CACHE_TOPS + index * 2, value);
 }
@@ -43,7 +46,7 @@ pub fn cache_count(c: &[u8], task: usize, class: usize) -> u16
 {
     fields::load16(
         c,
-        layout::CACHE_COUNTS + (layout::STRIDE * task + class) * 2,
+        layout::CACHE_COUNTS + (layout::CACHES_OF_TASK * task + class) * 2,
     )
 }
 
@@ -53,7 +56,7 @@ pub fn set_cache_count(c: &mut [u8], task: usize, class: usize, value: u16)
 {
     fields::store16(
         c,
-        layout::CACHE_COUNTS + (layout::STRIDE * task + class) * 2,
+        layout::CACHE_COUNTS + (layout::CACHES_OF_TASK * task + class) * 2,
         value,
     );
 }

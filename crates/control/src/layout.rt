@@ -62,4 +62,4 @@ pub const STARTED_TASKS: usize = 5944;
 pub const STARTED_REGIONS: usize = 5945;
 
 // The caches stand task by task, with room for so many classes of a task.
-pub const STRIDE: usize = 16;
+pub const CACHES_OF_TASK: usize = 16;

@@ -52,3 +52,8 @@ pub const F4_CLEAR: u8 = 33;
 
 // How many there are.
 pub const PLACES: u8 = 34;
+
+// From the place of a move's head read to that of its next, and to that of its exchange.
+pub const TO_NEXT: u8 = 1;
+
+pub const TO_EXCHANGE: u8 = 2;

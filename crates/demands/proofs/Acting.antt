@@ -6,17 +6,16 @@ use mathlib.Core.List.{List}
 use Prim.Native.Nat.{ℕ, _<_}
 use native.Mathlib.Omega.{arith}
 use borrow.Author.Tests.{eq-eqb, ne-eqb, le-leb}
-use lib.ListN.{length}
 use Rattle.limits.specs.Limits.{TASKS}
 use Rattle.fields.specs.Columns.{View}
-use Rattle.plain.specs.Calls.{Call, Start, start, allocate, free, step}
+use Rattle.plain.specs.Calls.{Call, Start, start, allocate, free, step, Lengths}
 use Rattle.control.specs.Layout.{Tasks, seen}
 use Rattle.control.specs.Answers.{codeOf, numberOf}
 use Rattle.control.specs.declared.answer.Answer.{Answer}
 use Rattle.control.specs.declared.answer.Answer.the-variants.{Accepted, Allocated, Freed, NoDescriptor, NoRegion}
 use Rattle.control.specs.declared.answer.Answer.the-variants.{Refused}
 use Rattle.stepped.specs.Outcome.{Outcome, refuse, Effect, effect, Memories}
-use Rattle.stepped.specs.Calls.{effectOf}
+use Rattle.stepped.specs.Calls.{effectOf, lengths, lending}
 use Rattle.stepped.specs.Calls as Calls
 use Rattle.agreement.specs.Ends.{Begins, startRefusals, oneOf}
 use Rattle.agreement.specs.Events.{ran, stepped}
@@ -24,21 +23,22 @@ use Rattle.agreement.proofs.Ways.{tests}
 use Rattle.agreement.proofs.Ends.{start-ends}
 use Rattle.agreement.proofs.Lent.{other-control, other-area, start-elsewhere}
 use Rattle.pool.specs.Call.{EffectIs}
-use Rattle.demands.specs.Runs.{Act, own, other, write, Contract, OtherLength, Happens, after, event, Number}
+use Rattle.demands.specs.Runs.{Act, on-own, on-other, write, Contract, OtherLength, Happens, afterAct, eventOfAct}
+use Rattle.demands.specs.Runs.{Number}
 use Rattle.demands.specs.Runs.{Answered}
 use Rattle.demands.proofs.Numbers.{code-small, told-as}
 
 -- the stepped run at the event of an act: the memories and the number are the act's
 pub record Shows (a : Act) (s : Memories) : Type 0 where
-  pub leaves : stepped (event a s) s .0 ≡ after a s
-  pub answers : Answered a (stepped (event a s) s .1)
+  pub leaves : stepped (eventOfAct a s) s .0 ≡ afterAct a s
+  pub answers : Answered a (stepped (eventOfAct a s) s .1)
 
 -- ---- calls on the pool's memories
 
 left-is : {e : Effect} {left : Memories} {r : ℕ} → EffectIs e (left .control) (left .area) r → ran e .0 ≡ left
 left-is C = sym (λ i. record { control = C .control-is i; area = C .area-is i })
 
-own-shows : (k : Call) (left : Memories) (r : ℕ) (s : Memories) → Contract k s left r → Shows (own k left r) s
+own-shows : (k : Call) (left : Memories) (r : ℕ) (s : Memories) → Contract k s left r → Shows (on-own k left r) s
 own-shows k left r s C = record {
   leaves = left-is C;
   answers =
@@ -49,29 +49,28 @@ own-shows k left r s C = record {
 -- ---- calls on other memories
 
 -- a pool that is not started: neither the area nor what is behind the tests matters
-not-started : (control area : ℕ) (v : View) (t : ℕ) (x y : Outcome) → v Tasks ≡ 0
-    → Calls.tested control area v t x ≡ Calls.tested control area v t y
+not-started : (lent : Lengths) (v : View) (t : ℕ) (x y : Outcome) → v Tasks ≡ 0
+    → Calls.tested lent v t x ≡ Calls.tested lent v t y
 unfolding Calls.tested
-not-started control area v t x y h = rw (le-leb (v Tasks) TASKS (omega (arith, h)), eq-eqb (v Tasks) 0 h) refl
+not-started lent v t x y h = rw (le-leb (v Tasks) TASKS (omega (arith, h)), eq-eqb (v Tasks) 0 h) refl
 
 -- a call on other lengths is refused by the same number, whatever the control memory holds and whatever is behind the
 -- tests
 refused-alike : (s lent : Memories) (t : ℕ) (x y : Outcome) → OtherLength s lent
     → (n : ℕ)
-    × ((Calls.tested (length (lent .control)) (length (lent .area)) (seen (s .control)) t x ≡ refuse n)
-    × (Calls.tested (length (lent .control)) (length (lent .area)) (seen (lent .control)) t y ≡ refuse n))
-refused-alike s lent t x y (inl h) = (1, (other-control _ _ _ _ _ h, other-control _ _ _ _ _ h))
+    × ((Calls.tested (lengths (lending lent)) (seen (s .control)) t x ≡ refuse n)
+    × (Calls.tested (lengths (lending lent)) (seen (lent .control)) t y ≡ refuse n))
+refused-alike s lent t x y (inl h) = (1, (other-control _ _ _ _ h, other-control _ _ _ _ h))
 refused-alike s lent t x y (inr h) =
-    let c = length (lent .control) in
-    let a = length (lent .area) in
+    let l = lengths (lending lent) in
     let v = seen (s .control) in
-    let R = tests (λ z. (n : ℕ) × (z ≡ refuse n)) c a v t (refuse 5) (λ n g. (n, refl)) (λ T. (5, refl)) in
-    let unseen : (z : Outcome) → Calls.tested c a v t z ≡ Calls.tested c a v t (refuse 5) =
-    λ z. ⊎-elim (λ g. other-area c a v t z (refuse 5) g) (λ g. not-started c a v t z (refuse 5) g) (h .1) in (
+    let R = tests (λ z. (n : ℕ) × (z ≡ refuse n)) l v t (refuse 5) (λ n g. (n, refl)) (λ T. (5, refl)) in
+    let unseen : (z : Outcome) → Calls.tested l v t z ≡ Calls.tested l v t (refuse 5) =
+    λ z. ⊎-elim (λ g. other-area l v t z (refuse 5) g) (λ g. not-started l v t z (refuse 5) g) (h .1) in (
       R .0,
       (
         unseen x ∙ R .1,
-        ap (λ (k : List ℕ). Calls.tested c a (seen k) t y) (h .0) ∙ unseen y ∙ R .1,
+        ap (λ (k : List ℕ). Calls.tested l (seen k) t y) (h .0) ∙ unseen y ∙ R .1,
       ),
     )
 
@@ -79,28 +78,29 @@ module _ (s lent left : Memories) (r : ℕ) where
   -- two outcomes that refuse by the same number: the pool's memories stay, and the answers are the same
   both-refused : {o o′ : Outcome} {n : ℕ} → o ≡ refuse n → o′ ≡ refuse n → r ≡ numberOf (o′ .answer)
       → codeOf (o′ .answer) < 256
-      → (ran (effect o (s .control) (s .area)) .0 ≡ s) × Number r (ran (effect o (s .control) (s .area)) .1)
+      → (ran (effect o s) .0 ≡ s) × Number r (ran (effect o s) .1)
   both-refused {o} {o′} {n} p q e l = (
-    ap (λ (z : Outcome). ran (effect z (s .control) (s .area)) .0) p,
+    ap (λ (z : Outcome). ran (effect z s) .0) p,
     told-as (o .answer) (o′ .answer) (o .decided) e (ap (λ (z : Outcome). z .answer) (q ∙ sym p)) l,
   )
 
   allocate-shows : (t size : ℕ) → Contract (allocate t size) lent left r → OtherLength s lent
-      → Shows (other (allocate t size) lent left r) s
+      → Shows (on-other (allocate t size) lent left r) s
   unfolding Calls.allocateOutcome
   allocate-shows t size C h =
       let R = refused-alike s lent t _ _ h in
       let B = both-refused (R .1 .0) (R .1 .1) (C .number) (code-small (allocate t size) lent) in
       record { leaves = B .0; answers = B .1 }
 
-  free-shows : (t u : ℕ) → Contract (free t u) lent left r → OtherLength s lent → Shows (other (free t u) lent left r) s
+  free-shows : (t u : ℕ) → Contract (free t u) lent left r → OtherLength s lent
+      → Shows (on-other (free t u) lent left r) s
   unfolding Calls.freeOutcome
   free-shows t u C h =
       let R = refused-alike s lent t _ _ h in
       let B = both-refused (R .1 .0) (R .1 .1) (C .number) (code-small (free t u) lent) in
       record { leaves = B .0; answers = B .1 }
 
-  step-shows : (t : ℕ) → Contract (step t) lent left r → OtherLength s lent → Shows (other (step t) lent left r) s
+  step-shows : (t : ℕ) → Contract (step t) lent left r → OtherLength s lent → Shows (on-other (step t) lent left r) s
   unfolding Calls.stepOutcome
   step-shows t C h =
       let R = refused-alike s lent t _ _ h in
@@ -110,22 +110,22 @@ module _ (s lent left : Memories) (r : ℕ) where
   module _ (b : Start) (C : Contract (start b) lent left r) where
     -- the start by the event, and by the contract
     abbrev e : Effect
-    e = Calls.startIn (length (lent .control)) (lent .area) (b .tasks) (s .control) (s .area)
+    e = Calls.startIn b (lending lent) s
 
     abbrev e′ : Effect
-    e′ = Calls.startIn (length (lent .control)) (lent .area) (b .tasks) (lent .control) (lent .area)
+    e′ = Calls.startIn b (lending lent) lent
 
     abbrev StartShown : Type 0
-    StartShown = Shows (other (start b) lent left r) s
+    StartShown = Shows (on-other (start b) lent left r) s
 
     -- a refused start leaves the pool's memories
     refused-shows : (n : ℕ) → e .answer ≡ Refused n → e′ .answer ≡ Refused n → StartShown
     refused-shows n p q =
-        let L = start-ends (length (lent .control)) (lent .area) (b .tasks) (s .control) (s .area) .leaves n p in
+        let L = start-ends b (lending lent) s .leaves n p in
         let z : n ≢ 0 =
         λ h. false≢true
         (ap (oneOf startRefusals) (sym h) ∙ subst (Begins startRefusals) q
-        (start-ends (length (lent .control)) (lent .area) (b .tasks) (lent .control) (lent .area) .answers)) in
+        (start-ends b (lending lent) lent .answers)) in
         record {
           leaves =
               (λ i. record { control = L .0 i; area = L .1 i })
@@ -157,22 +157,21 @@ module _ (s lent left : Memories) (r : ℕ) where
     start-shows =
         ⊎-elim
         (λ p. equal-shows p (e′ .answer) refl
-        (start-ends (length (lent .control)) (lent .area) (b .tasks) (lent .control) (lent .area) .answers))
+        (start-ends b (lending lent) lent .answers))
         (λ q. refused-shows (q .0) (ap (λ (z : Effect). z .answer) (q .1 .0))
         (ap (λ (z : Effect). z .answer) (q .1 .1)))
-        (start-elsewhere (lent .area) (b .tasks) (length (lent .control)) (s .control) (s .area) (lent .control)
-        (lent .area))
+        (start-elsewhere b (lending lent) s lent)
 
 -- ---- every act
 
-other-shows : (k : Call) (lent left : Memories) (r : ℕ) (s : Memories) → Happens (other k lent left r) s
-    → Shows (other k lent left r) s
+other-shows : (k : Call) (lent left : Memories) (r : ℕ) (s : Memories) → Happens (on-other k lent left r) s
+    → Shows (on-other k lent left r) s
 other-shows (start b) lent left r s h = start-shows s lent left r b (h .0)
 other-shows (allocate t size) lent left r s h = allocate-shows s lent left r t size (h .0) (h .1)
 other-shows (free t u) lent left r s h = free-shows s lent left r t u (h .0) (h .1)
 other-shows (step t) lent left r s h = step-shows s lent left r t (h .0) (h .1)
 
 pub shows : (a : Act) (s : Memories) → Happens a s → Shows a s
-shows (own k left r) s C = own-shows k left r s C
-shows (other k lent left r) s h = other-shows k lent left r s h
+shows (on-own k left r) s C = own-shows k left r s C
+shows (on-other k lent left r) s h = other-shows k lent left r s h
 shows (write at b) s h = record { leaves = refl; answers = tt }

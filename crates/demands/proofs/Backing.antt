@@ -9,8 +9,10 @@ use native.Mathlib.Decide.{ℕ-discrete}
 use lib.Dec.{eqb, ltb, leb}
 use Rattle.limits.specs.Limits.{CLASSES, DESCRIPTORS}
 use Rattle.control.specs.Places.{IDLE, PUSH-BACK}
+use Rattle.control.specs.Places.{TO-NEXT, TO-EXCHANGE}
 use Rattle.fields.specs.Columns.{View, Write, _:=_, assigned}
 use Rattle.words.specs.Head.{itemOf}
+use Rattle.plain.specs.Calls.{Lengths}
 use Rattle.control.specs.Layout.{Head, TaskHead, TaskPlace, TaskClass, Regions}
 use Rattle.control.specs.declared.answer.Answer.the-variants.{NoRegion}
 use Rattle.control.specs.declared.moves.Push.the-variants.{Back}
@@ -28,7 +30,7 @@ module _ (v : View) (t : ℕ) where
   Stays o = (o .answer ≡ NoRegion) ⊎ InPush Back (placeAfter o v t)
 
   -- a step that writes this place of the push
-  to : (q : ℕ) (ws : List Write) → PUSH-BACK ≤ q → q ≤ PUSH-BACK + 2 → Keeps t ws
+  to : (q : ℕ) (ws : List Write) → PUSH-BACK ≤ q → q ≤ PUSH-BACK + TO-EXCHANGE → Keeps t ws
       → InPush Back (assigned (TaskPlace t := q ∷ ws) v (TaskPlace t))
   to q ws l m h = record { from = omega (arith, l, sent v t q ws h); to = omega (arith, m, sent v t q ws h) }
 
@@ -39,7 +41,7 @@ module _ (v : View) (t : ℕ) where
     at-read =
         branch Stays (leb (itemOf (v (Head (Lists.pushList Back c)))) DESCRIPTORS)
         (λ e. inr
-        (to (PUSH-BACK + 1) (TaskHead t := v (Head (Lists.pushList Back c)) ∷ []) (omega arith) (omega arith)
+        (to (PUSH-BACK + TO-NEXT) (TaskHead t := v (Head (Lists.pushList Back c)) ∷ []) (omega arith) (omega arith)
         (λ u. refl))) (λ e. inr here)
 
     at-next : Stays (Lists.pushNext v regions t c Back)
@@ -47,7 +49,8 @@ module _ (v : View) (t : ℕ) where
     at-next =
         branch Stays (ltb (v (Lists.itemField Back t)) DESCRIPTORS && leb (itemOf (v (TaskHead t))) DESCRIPTORS)
         (λ e. inr
-        (to (PUSH-BACK + 2) (Lists.pushNextField Back (v (Lists.itemField Back t)) := itemOf (v (TaskHead t)) ∷ [])
+        (to (PUSH-BACK + TO-EXCHANGE) (Lists.pushNextField Back (v (Lists.itemField Back t)) :=
+        itemOf (v (TaskHead t)) ∷ [])
         (omega arith) (omega arith) (λ u. refl))) (λ e. inr here)
 
     at-exchange : Stays (Lists.pushExchange v regions t c Back)
@@ -61,25 +64,26 @@ module _ (v : View) (t : ℕ) where
         (λ e. inr here)
 
     at-place : Stays (Steps.stepAt v link regions t c (v (TaskPlace t)))
-    at-place = by (ℕ-discrete (v (TaskPlace t)) PUSH-BACK) (ℕ-discrete (v (TaskPlace t)) (PUSH-BACK + 1))
+    at-place = by (ℕ-discrete (v (TaskPlace t)) PUSH-BACK) (ℕ-discrete (v (TaskPlace t)) (PUSH-BACK + TO-NEXT))
       where
         is : (q : ℕ) {x : Outcome} → Stays x → v (TaskPlace t) ≡ q → Steps.stepAt v link regions t c q ≡ x
             → Stays (Steps.stepAt v link regions t c (v (TaskPlace t)))
         is q h e p = subst Stays (sym (ap (Steps.stepAt v link regions t c) e ∙ p)) h
 
-        by : Dec (v (TaskPlace t) ≡ PUSH-BACK) → Dec (v (TaskPlace t) ≡ PUSH-BACK + 1)
+        by : Dec (v (TaskPlace t) ≡ PUSH-BACK) → Dec (v (TaskPlace t) ≡ PUSH-BACK + TO-NEXT)
             → Stays (Steps.stepAt v link regions t c (v (TaskPlace t)))
         by (yes e) d = is PUSH-BACK at-read e (push-steps v link regions t c Back .0)
-        by (no n) (yes e) = is (PUSH-BACK + 1) at-next e (push-steps v link regions t c Back .1)
+        by (no n) (yes e) = is (PUSH-BACK + TO-NEXT) at-next e (push-steps v link regions t c Back .1)
         by (no n) (no m) =
-            is (PUSH-BACK + 2) at-exchange (omega (arith, here .from, here .to)) (push-steps v link regions t c Back .2)
+            is (PUSH-BACK + TO-EXCHANGE) at-exchange (omega (arith, here .from, here .to))
+            (push-steps v link regions t c Back .2)
 
 -- at any step of the task, whatever the memories hold
-pub stays-back : (control area : ℕ) (v : View) (link : ℕ → ℕ) (t : ℕ) → InPush Back (v (TaskPlace t))
-    → Stays v t (Calls.stepOutcome control area v link t)
-unfolding Calls.stepOutcome Steps.step
-stays-back control area v link t here =
-    tests (Stays v t) control area v t _ (λ n h. inr here)
+pub stays-back : (lent : Lengths) (v : View) (link : ℕ → ℕ) (t : ℕ) → InPush Back (v (TaskPlace t))
+    → Stays v t (Calls.stepOutcome lent v link t)
+unfolding Calls.stepOutcome Steps.stepOf
+stays-back lent v link t here =
+    tests (Stays v t) lent v t _ (λ n h. inr here)
     (λ T. branch (Stays v t) (ltb IDLE (v (TaskPlace t)))
     (λ e. branch (Stays v t) (ltb (v (TaskClass t)) CLASSES) (λ f. at-place v t link (v Regions) (v (TaskClass t)) here)
     (λ f. inr here))

@@ -6,16 +6,18 @@ use Prim.Native.Nat.{ℕ, _*_, _/_, _%_, _-_}
 use lib.Dec.{ltb, leb, eqb}
 use lib.ListN.{length}
 use Rattle.limits.specs.Limits.{CONTROL-BYTES, REGION-BYTES, AREA-BYTES, TASKS, REGIONS, CLASSES, DESCRIPTORS}
-use Rattle.limits.specs.Limits.{MOST-BYTES}
+use Rattle.limits.specs.Limits.{LARGEST-SIZE, WORD-MARKS}
 use Rattle.control.specs.Places.{IDLE, PLACES}
 use Rattle.fields.specs.Columns.{View}
 use Rattle.words.specs.Anchor.{EMPTY, anchorOf}
 use Rattle.words.specs.Mark.{isSet}
 use Rattle.classes.specs.Geometry.{regionOf, isFirst}
+use Rattle.plain.specs.Calls.{Start, Lengths}
+use Rattle.stepped.specs.Calls.{Lent, lengths}
 use Rattle.control.specs.Layout.{Anchor, Marks, TaskPlace, TaskClass, DescriptorRegion, DescriptorClass, Map, Tasks}
 use Rattle.control.specs.Layout.{Regions}
 use Rattle.control.specs.Answers.{numberOf}
-use Rattle.stepped.specs.Outcome.{Outcome, Effect}
+use Rattle.stepped.specs.Outcome.{Outcome, Memories, Effect}
 use Rattle.stepped.specs.Ranges.{oneTo, isAnchor}
 use Rattle.stepped.specs.Steps as Steps
 use Rattle.stepped.specs.Calls as Calls
@@ -36,16 +38,16 @@ module _ {A : Type 0} (f : A → ℕ) where
 abbrev numbered : Outcome → ℕ
 numbered o = numberOf (o .answer)
 
-module _ (control area : ℕ) (v : View) (t : ℕ) where
+module _ (lent : Lengths) (v : View) (t : ℕ) where
   after-tests : (ts : List Test) (k : ℕ) (x : Outcome) → numbered x ≡ firstFailed ts k
-      → numbered (Calls.tested control area v t x) ≡ firstFailed (callTests control area v t ++ ts) k
+      → numbered (Calls.tested lent v t x) ≡ firstFailed (callTests lent v t ++ ts) k
   unfolding Calls.tested
   after-tests ts k x p =
-      passes numbered (eqb control CONTROL-BYTES) _ _
+      passes numbered (eqb (lent .control) CONTROL-BYTES) _ _
       (passes numbered (leb (v Tasks) TASKS) _ _
       (fails numbered (eqb (v Tasks) 0) _ _ refl
       (passes numbered (oneTo REGIONS (v Regions)) _ _
-      (passes numbered (eqb area (REGION-BYTES * v Regions)) _ _
+      (passes numbered (eqb (lent .area) (REGION-BYTES * v Regions)) _ _
       (passes numbered (ltb t (v Tasks)) _ _ p refl)
       refl)
       refl))
@@ -60,7 +62,7 @@ module _ (control area : ℕ) (v : View) (t : ℕ) where
 
   sized : (size : ℕ) → numbered (Calls.beginAllocate t size) ≡ firstFailed (sizeTests size) 0
   unfolding Calls.beginAllocate
-  sized size = fails numbered (eqb size 0) _ _ refl (fails numbered (ltb MOST-BYTES size) _ _ refl refl)
+  sized size = fails numbered (eqb size 0) _ _ refl (fails numbered (ltb LARGEST-SIZE size) _ _ refl refl)
 
   unit : (u : ℕ) → numbered (Calls.beginFree v (v Regions) t u) ≡ firstFailed (unitTests v u) 0
   unfolding Calls.beginFree Calls.freeEntry Calls.freeBy Calls.freeOpen Calls.freeMarked
@@ -77,7 +79,7 @@ module _ (control area : ℕ) (v : View) (t : ℕ) where
       (fails numbered (eqb (anchorOf (v (Anchor d)) .state) EMPTY) _ _ refl
       (passes numbered (ltb (v (DescriptorClass d)) CLASSES) _ _
       (passes numbered (isFirst (v (DescriptorClass d)) u) _ _
-      (passes numbered (isSet (v (Marks (u / 64))) (u % 64)) _ _ refl refl)
+      (passes numbered (isSet (v (Marks (u / WORD-MARKS))) (u % WORD-MARKS)) _ _ refl refl)
       refl)
       refl))
       refl)
@@ -86,21 +88,21 @@ module _ (control area : ℕ) (v : View) (t : ℕ) where
       refl))
       refl
 
-  pub allocate-first : (size : ℕ) → numbered (Calls.allocateOutcome control area v t size)
-      ≡ firstFailed (allocateTests control area v t size) 0
+  pub allocate-first : (size : ℕ) → numbered (Calls.allocateOutcome lent v t size)
+      ≡ firstFailed (allocateTests lent v t size) 0
   unfolding Calls.allocateOutcome
   allocate-first size = after-tests (idleTests v t ++ sizeTests size) 0 _ (when-idle (sizeTests size) 0 _ (sized size))
 
-  pub free-first : (u : ℕ) → numbered (Calls.freeOutcome control area v t u)
-      ≡ firstFailed (freeTests control area v t u) 0
+  pub free-first : (u : ℕ) → numbered (Calls.freeOutcome lent v t u)
+      ≡ firstFailed (freeTests lent v t u) 0
   unfolding Calls.freeOutcome
   free-first u = after-tests (idleTests v t ++ unitTests v u) 0 _ (when-idle (unitTests v u) 0 _ (unit u))
 
   pub step-first : (link : ℕ → ℕ)
-      → numbered (Calls.stepOutcome control area v link t)
-      ≡ firstFailed (stepTests control area v t)
+      → numbered (Calls.stepOutcome lent v link t)
+      ≡ firstFailed (stepTests lent v t)
       (numbered (Steps.stepAt v link (v Regions) t (v (TaskClass t)) (v (TaskPlace t))))
-  unfolding Calls.stepOutcome Steps.step
+  unfolding Calls.stepOutcome Steps.stepOf
   step-first link =
       after-tests (requestTests v t) _ _
       (passes numbered (ltb IDLE (v (TaskPlace t))) _ _ (passes numbered (ltb (v (TaskClass t)) CLASSES) _ _ refl refl)
@@ -120,11 +122,12 @@ later (t ∷ ts) us P = later ts us (P .1)
 abbrev answered : Effect → ℕ
 answered e = numberOf (e .answer)
 
-pub start-first : (size : ℕ) (area : List ℕ) (tasks : ℕ) (control before : List ℕ)
-    → answered (Calls.startIn size area tasks control before) ≡ firstFailed (startTests size (length area) tasks) 0
+pub start-first : (b : Start) (lent : Lent) (s : Memories)
+    → answered (Calls.startIn b lent s) ≡ firstFailed (startTests b (lengths lent)) 0
 unfolding Calls.startIn
-start-first size area tasks control before =
-    passes answered (eqb size CONTROL-BYTES) _ _
-    (passes answered (eqb (length area % REGION-BYTES) 0 && oneTo AREA-BYTES (length area)) _ _
-    (passes answered (oneTo TASKS tasks) _ _ refl refl) refl)
+start-first b lent s =
+    let bytes = length (lent .area) in
+    passes answered (eqb (lent .control) CONTROL-BYTES) _ _
+    (passes answered (eqb (bytes % REGION-BYTES) 0 && oneTo AREA-BYTES bytes) _ _
+    (passes answered (oneTo TASKS (b .tasks)) _ _ refl refl) refl)
     refl

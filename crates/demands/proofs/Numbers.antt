@@ -7,7 +7,6 @@ use Prim.Native.Nat.{ℕ, _+_, _*_, _<_}
 use native.Mathlib.Omega.{arith}
 use borrow.Author.Tests.{eqb-true, ltb-true}
 use lib.Dec.{eqb, ltb}
-use lib.ListN.{length}
 use Rattle.links.specs.Link.{link}
 use Rattle.plain.specs.Moves.{Decided}
 use Rattle.plain.specs.Calls.{Call, start, allocate, free, step}
@@ -19,7 +18,7 @@ use Rattle.control.specs.declared.answer.Answer.the-variants.{Refused}
 use Rattle.agreement.specs.Ends.{oneOf, Begins, Goes, IsEnd, startRefusals, allocateRefusals, freeRefusals}
 use Rattle.agreement.specs.Ends.{stepRefusals}
 use Rattle.stepped.specs.Outcome.{Memories}
-use Rattle.stepped.specs.Calls.{effectOf}
+use Rattle.stepped.specs.Calls.{effectOf, lending, lengths}
 use Rattle.stepped.proofs.Conjunction.{left-true, right-true}
 use Rattle.agreement.proofs.Ends.{start-ends, allocate-ends, free-ends, step-ends}
 use Rattle.demands.specs.Answers.{Refusal, Ended}
@@ -62,18 +61,16 @@ goes-small ns s (Refused n) b = among ns n s b
 pub code-small : (k : Call) (s : Memories) → codeOf (effectOf k s .answer) < 256
 unfolding small
 code-small (start b) s =
-    let c = length (s .control) in
-    begins-small startRefusals refl (effectOf (start b) s .answer)
-    (start-ends c (s .area) (b .tasks) (s .control) (s .area) .answers)
+    begins-small startRefusals refl (effectOf (start b) s .answer) (start-ends b (lending s) s .answers)
 code-small (allocate t size) s =
     begins-small allocateRefusals refl (effectOf (allocate t size) s .answer)
-    (allocate-ends (length (s .control)) (length (s .area)) (seen (s .control)) t size .answers)
+    (allocate-ends (lengths (lending s)) (seen (s .control)) t size .answers)
 code-small (free t u) s =
     begins-small freeRefusals refl (effectOf (free t u) s .answer)
-    (free-ends (length (s .control)) (length (s .area)) (seen (s .control)) t u .answers)
+    (free-ends (lengths (lending s)) (seen (s .control)) t u .answers)
 code-small (step t) s =
     goes-small stepRefusals refl (effectOf (step t) s .answer)
-    (step-ends (length (s .control)) (length (s .area)) (seen (s .control)) (link (s .area)) t .answers)
+    (step-ends (lengths (lending s)) (seen (s .control)) (link (s .area)) t .answers)
 
 -- the number is the code and 256 times the value
 number-is : (a : Answer) → numberOf a ≡ codeOf a + 256 * valueOf a

@@ -5,20 +5,21 @@ use Rattle.plain.specs.Calls.{Pool}
 use Rattle.stepped.specs.Outcome.{Memories}
 use Rattle.agreement.specs.Events.{whole, Premise, Premises}
 use Rattle.agreement.specs.Reached.{History, happened, Reached, by-event}
-use Rattle.demands.specs.Runs.{Act, Happens, Run, after, event, events, AlongActs, WhereverActs}
+use Rattle.demands.specs.Runs.{Act, Happens, Run, afterAct, eventOfAct, eventsOfActs, AlongActs, WhereverActs}
 use Rattle.demands.proofs.Acting.{shows}
 
 -- an act leaves what its event reaches
-pub by-act : {h : History} {s : Memories} {p : Pool} → Reached h s p → (a : Act) → Happens a s → Premise (event a s) p
-    → Reached (happened (event a s) s p ∷ h) (after a s) (whole (event a s) p .0)
+pub by-act : {h : History} {s : Memories} {p : Pool} → Reached h s p → (a : Act) → Happens a s
+    → Premise (eventOfAct a s) p
+    → Reached (happened (eventOfAct a s) s p ∷ h) (afterAct a s) (whole (eventOfAct a s) p .0)
 by-act {h} {s} {p} R a H P =
-    let e = event a s in
+    let e = eventOfAct a s in
     subst (λ (z : Memories). Reached (happened e s p ∷ h) z (whole e p .0)) (shows a s H .leaves) (by-event R e P)
 
 -- What holds of every act wherever a run has come holds along every list of acts behind it whose events meet the
 -- premises.
 pub along-acts : (P : Act → Memories → Pool → Type 0) → WhereverActs P → {h : History} {s : Memories} {p : Pool}
-    → Reached h s p → (acts : List Act) → Run acts s → Premises (events acts s) p → AlongActs P acts s p
+    → Reached h s p → (acts : List Act) → Run acts s → Premises (eventsOfActs acts s) p → AlongActs P acts s p
 along-acts P f R [] run premises = tt
 along-acts P f {h} {s} {p} R (a ∷ rest) run premises =
     (f h s p R a (run .0) (premises .0), along-acts P f (by-act R a (run .0) (premises .0)) rest (run .1) (premises .1))

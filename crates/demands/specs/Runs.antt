@@ -22,8 +22,8 @@ use Rattle.demands.specs.Answers.{Refusal}
 -- What happens to a pool: a call on its memories leaves the memories `left` and answers `number`; a call on other
 -- memories, lent as `lent`; a user writes the byte b at the byte `at` of the area.
 pub data Act : Type 0 where
-  own : (call : Call) (left : Memories) (number : ℕ) → Act
-  other : (call : Call) (lent left : Memories) (number : ℕ) → Act
+  on-own : (call : Call) (left : Memories) (number : ℕ) → Act
+  on-other : (call : Call) (lent left : Memories) (number : ℕ) → Act
   write : (at b : ℕ) → Act
 
 -- the contract of the exported function, on memories
@@ -47,8 +47,8 @@ Lendable (step t) s lent = OtherLength s lent
 
 -- all that is known of an act is the contract of the function that was called
 abbrev pub Happens : Act → Memories → Type 0
-Happens (own k left number) s = Contract k s left number
-Happens (other k lent left number) s = Contract k lent left number × Lendable k s lent
+Happens (on-own k left number) s = Contract k s left number
+Happens (on-other k lent left number) s = Contract k lent left number × Lendable k s lent
 Happens (write at b) s = Unit {0}
 
 -- The pool's memories after a call on others: "a later accepted start sets both runs anew"; any other "touches
@@ -59,67 +59,70 @@ afterOther (allocate t size) left number s = s
 afterOther (free t u) left number s = s
 afterOther (step t) left number s = s
 
-abbrev pub after : Act → Memories → Memories
-after (own k left number) s = left
-after (other k lent left number) s = afterOther k left number s
-after (write at b) s = record { control = s .control; area = set (s .area) at b }
+-- the pool's memories after an act
+abbrev pub afterAct : Act → Memories → Memories
+afterAct (on-own k left number) s = left
+afterAct (on-other k lent left number) s = afterOther k left number s
+afterAct (write at b) s = record { control = s .control; area = set (s .area) at b }
 
 -- acts one after the other, from the memories s
 abbrev pub Run : List Act → Memories → Type 0
 Run [] s = Unit {0}
-Run (a ∷ rest) s = Happens a s × Run rest (after a s)
+Run (a ∷ rest) s = Happens a s × Run rest (afterAct a s)
 
 -- ---- the whole run beside it
 
 -- the event of a call that is lent the memories s: the plain pool is fed its numbers and the lengths lent
-abbrev pub eventOf : Call → Memories → Event
-eventOf k s = Events.call k (lending s)
+abbrev pub eventOfCall : Call → Memories → Event
+eventOfCall k s = Events.call k (lending s)
 
-abbrev pub event : Act → Memories → Event
-event (own k left number) s = eventOf k s
-event (other k lent left number) s = eventOf k lent
-event (write at b) s = Events.write at b
+-- the event of an act on the pool's memories s
+abbrev pub eventOfAct : Act → Memories → Event
+eventOfAct (on-own k left number) s = eventOfCall k s
+eventOfAct (on-other k lent left number) s = eventOfCall k lent
+eventOfAct (write at b) s = Events.write at b
 
-abbrev pub events : List Act → Memories → List Event
-events [] s = []
-events (a ∷ rest) s = event a s ∷ events rest (after a s)
+-- the events of acts one after the other
+abbrev pub eventsOfActs : List Act → Memories → List Event
+eventsOfActs [] s = []
+eventsOfActs (a ∷ rest) s = eventOfAct a s ∷ eventsOfActs rest (afterAct a s)
 
--- "code + 256 × value": the number tells the code and the value of y
+-- the code, and 256 times the value: the number tells those of y
 pub record Number (number : ℕ) (y : Answer) : Type 0 where
   pub code : number % 256 ≡ y .code
   pub value : number / 256 ≡ y .value
 
 -- the number that a call answered is that of y; a user's write answers nothing
 abbrev pub Answered : Act → Answer → Type 0
-Answered (own k left number) y = Number number y
-Answered (other k lent left number) y = Number number y
+Answered (on-own k left number) y = Number number y
+Answered (on-other k lent left number) y = Number number y
 Answered (write at b) y = Unit {0}
 
 -- a call on other memories that was refused left them as they were, too
 abbrev pub OtherLeft : Act → Type 0
-OtherLeft (own k left number) = Unit {0}
-OtherLeft (other k lent left number) = Refusal number → left ≡ lent
+OtherLeft (on-own k left number) = Unit {0}
+OtherLeft (on-other k lent left number) = Refusal number → left ≡ lent
 OtherLeft (write at b) = Unit {0}
 
 -- the memories after an act, and beside them the answer and the decided move by the definitions: the move is no byte
 abbrev pub leftBy : Act → Memories → Memories × Answer
-leftBy a s = (after a s, stepped (event a s) s .1)
+leftBy a s = (afterAct a s, stepped (eventOfAct a s) s .1)
 
 -- What demand 3, and demand 1's last sentence, say of one act: the plain pool p gives the same code and value and
 -- decides the same move, never 14; afterwards both have the same lists, chains and holders, each block of an open
 -- region in exactly one place; a refused call left the pool's memories as they were, and the memories that it was lent;
 -- and no call changed a byte of a block in a user's hands.
 pub record Tells (a : Act) (s : Memories) (p : Pool) : Type 0 where
-  pub answered : Answered a (whole (event a s) p .1)
-  pub agrees : Agrees (leftBy a s) (whole (event a s) p)
+  pub answered : Answered a (whole (eventOfAct a s) p .1)
+  pub agrees : Agrees (leftBy a s) (whole (eventOfAct a s) p)
   pub unchanged : Unchanged s (leftBy a s)
   pub other-left : OtherLeft a
-  pub untouched : Untouched (event a s) s (leftBy a s) p
+  pub untouched : Untouched (eventOfAct a s) s (leftBy a s) p
 
 -- P of each act of a run, in its order, with the memories and the plain pool before it
 abbrev pub AlongActs : (Act → Memories → Pool → Type 0) → List Act → Memories → Pool → Type 0
 AlongActs P [] s p = Unit {0}
-AlongActs P (a ∷ rest) s p = P a s p × AlongActs P rest (after a s) (whole (event a s) p .0)
+AlongActs P (a ∷ rest) s p = P a s p × AlongActs P rest (afterAct a s) (whole (eventOfAct a s) p .0)
 
 -- every act of the run, in its order
 abbrev pub Told : List Act → Memories → Pool → Type 0
@@ -128,4 +131,5 @@ Told = AlongActs Tells
 -- P of every act whose event meets its premise, wherever a run has come
 abbrev pub WhereverActs : (Act → Memories → Pool → Type 0) → Type 0
 WhereverActs P =
-    (h : History) (s : Memories) (p : Pool) → Reached h s p → (a : Act) → Happens a s → Premise (event a s) p → P a s p
+    (h : History) (s : Memories) (p : Pool) → Reached h s p → (a : Act) → Happens a s → Premise (eventOfAct a s) p
+    → P a s p

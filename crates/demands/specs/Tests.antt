@@ -6,12 +6,13 @@ use mathlib.Core.Bool.{Bool, true, cond, not, _&&_}
 use mathlib.Core.List.{List, [], _∷_, _++_}
 use lib.Dec.{ltb, leb, eqb}
 use Rattle.limits.specs.Limits.{CONTROL-BYTES, REGION-BYTES, AREA-BYTES, TASKS, REGIONS, CLASSES, DESCRIPTORS}
-use Rattle.limits.specs.Limits.{MOST-BYTES}
+use Rattle.limits.specs.Limits.{LARGEST-SIZE, WORD-MARKS}
 use Rattle.control.specs.Places.{IDLE, PLACES}
 use Rattle.fields.specs.Columns.{View}
 use Rattle.words.specs.Anchor.{EMPTY, anchorOf}
 use Rattle.words.specs.Mark.{isSet}
 use Rattle.classes.specs.Geometry.{regionOf, isFirst}
+use Rattle.plain.specs.Calls.{Start, Lengths}
 use Rattle.control.specs.Layout.{Anchor, Marks, TaskPlace, TaskClass, DescriptorRegion, DescriptorClass, Map, Tasks}
 use Rattle.control.specs.Layout.{Regions}
 use Rattle.stepped.specs.Ranges.{oneTo, isAnchor}
@@ -22,6 +23,7 @@ pub record Test : Type 0 where
   pub number : ℕ
 
 infix 68 _or_
+-- b is asked, and n refuses a call that fails it
 abbrev pub _or_ : Bool → ℕ → Test
 b or n = record { asks = b; number = n }
 
@@ -35,23 +37,23 @@ abbrev pub Passes : List Test → Type 0
 Passes [] = Unit {0}
 Passes (t ∷ ts) = (t .asks ≡ true) × Passes ts
 
--- "1 control not 8,192 bytes; 2 area length zero, no multiple of 4,096 or above 65,536; 3 tasks not 1 to 8"
-abbrev pub startTests : ℕ → ℕ → ℕ → List Test
-startTests control area tasks =
-    eqb control CONTROL-BYTES or 1
-    ∷ (eqb (area % REGION-BYTES) 0 && oneTo AREA-BYTES area) or 2
-    ∷ oneTo TASKS tasks or 3
+-- "1 control not 8,192 bytes; 2 area length zero, no multiple of 4,096 or above 65,536 ..; 3 tasks not 1 to 8"
+abbrev pub startTests : Start → Lengths → List Test
+startTests b lent =
+    eqb (lent .control) CONTROL-BYTES or 1
+    ∷ (eqb (lent .area % REGION-BYTES) 0 && oneTo AREA-BYTES (lent .area)) or 2
+    ∷ oneTo TASKS (b .tasks) or 3
     ∷ []
 
 -- "1, 4, 2, 5": the length of the control memory; the pool is started; the area has the started length; there is such a
 -- task. The started numbers of tasks and regions are read for 4 and 2.
-abbrev pub callTests : ℕ → ℕ → View → ℕ → List Test
-callTests control area v t =
-    eqb control CONTROL-BYTES or 1
+abbrev pub callTests : Lengths → View → ℕ → List Test
+callTests lent v t =
+    eqb (lent .control) CONTROL-BYTES or 1
     ∷ leb (v Tasks) TASKS or 14
     ∷ not (eqb (v Tasks) 0) or 4
     ∷ oneTo REGIONS (v Regions) or 14
-    ∷ eqb area (REGION-BYTES * v Regions) or 2
+    ∷ eqb (lent .area) (REGION-BYTES * v Regions) or 2
     ∷ ltb t (v Tasks) or 5
     ∷ []
 
@@ -61,7 +63,7 @@ idleTests v t = ltb (v (TaskPlace t)) PLACES or 14 ∷ eqb (v (TaskPlace t)) IDL
 
 -- "8 size 0; 9 size above 256"
 abbrev pub sizeTests : ℕ → List Test
-sizeTests size = not (eqb size 0) or 8 ∷ not (ltb MOST-BYTES size) or 9 ∷ []
+sizeTests size = not (eqb size 0) or 8 ∷ not (ltb LARGEST-SIZE size) or 9 ∷ []
 
 -- "10 not the first unit of a block of an open region; 11 such a unit, but its mark is clear". The unit's region is one
 -- of the area's, and its map entry names a descriptor d, which names it back; d's anchor is not EMPTY; the unit is the
@@ -80,19 +82,21 @@ unitTests v u =
     ∷ not (eqb (anchorOf (v (Anchor d)) .state) EMPTY) or 10
     ∷ ltb (v (DescriptorClass d)) CLASSES or 14
     ∷ isFirst (v (DescriptorClass d)) u or 10
-    ∷ isSet (v (Marks (u / 64))) (u % 64) or 11
+    ∷ isSet (v (Marks (u / WORD-MARKS))) (u % WORD-MARKS) or 11
     ∷ []
 
 -- "7 step without one"; at a place other than idle the class of the request is read, too
 abbrev pub requestTests : View → ℕ → List Test
 requestTests v t = ltb IDLE (v (TaskPlace t)) or 7 ∷ ltb (v (TaskClass t)) CLASSES or 14 ∷ []
 
--- all tests of the beginning of an allocation, of the beginning of a free, and of a step before the step itself
-abbrev pub allocateTests : ℕ → ℕ → View → ℕ → ℕ → List Test
-allocateTests control area v t size = callTests control area v t ++ (idleTests v t ++ sizeTests size)
+-- all tests of the beginning of an allocation
+abbrev pub allocateTests : Lengths → View → ℕ → ℕ → List Test
+allocateTests lent v t size = callTests lent v t ++ (idleTests v t ++ sizeTests size)
 
-abbrev pub freeTests : ℕ → ℕ → View → ℕ → ℕ → List Test
-freeTests control area v t u = callTests control area v t ++ (idleTests v t ++ unitTests v u)
+-- all tests of the beginning of a free
+abbrev pub freeTests : Lengths → View → ℕ → ℕ → List Test
+freeTests lent v t u = callTests lent v t ++ (idleTests v t ++ unitTests v u)
 
-abbrev pub stepTests : ℕ → ℕ → View → ℕ → List Test
-stepTests control area v t = callTests control area v t ++ requestTests v t
+-- all tests of a step before the step itself
+abbrev pub stepTests : Lengths → View → ℕ → List Test
+stepTests lent v t = callTests lent v t ++ requestTests v t

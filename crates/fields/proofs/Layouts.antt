@@ -12,7 +12,7 @@ use lib.ListN.{length}
 use lib.Dec.{leb}
 use Rattle.fields.specs.Little.{Bytes}
 use Rattle.fields.specs.Columns.{Column, times, pastOf, inOrder, Field, View, Write, _:=_, assign, assigned}
-use Rattle.fields.specs.Columns.{columnOf, at, width, Has, view, write, written, Sound}
+use Rattle.fields.specs.Columns.{columnOf, firstByte, width, Has, view, write, written, Sound}
 use Rattle.fields.proofs.Numbers.{getLE-same, length-setLE, bytes-setLE}
 use Rattle.fields.proofs.Elsewhere.{getLE-other}
 
@@ -82,7 +82,7 @@ module _ (size : ℕ) where
 
 module _ (size : ℕ) (table : List Column) (o : inOrder size 0 table ≡ true) where
   -- a field lies in its column
-  within : (f : Field) → Has table f → at table f + width table f ≤ endOf table (f .column)
+  within : (f : Field) → Has table f → firstByte table f + width table f ≤ endOf table (f .column)
   within f h =
       let k = columnOf table (f .column) in
       omega (arith, step-le (f .index) (k .count) (k .width) (h .index), times-is (k .count) (k .width))
@@ -93,23 +93,23 @@ module _ (size : ℕ) (table : List Column) (o : inOrder size 0 table ≡ true) 
 
   -- two different fields of the table do not overlap
   pub apart : (f g : Field) → Has table f → Has table g → (f .column ≡ g .column → f .index ≡ g .index → ⊥)
-      → at table g < at table f + width table f → at table g + width table g ≤ at table f
+      → firstByte table g < firstByte table f + width table f → firstByte table g + width table g ≤ firstByte table f
   apart f g hf hg n l = by-column (ℕ-discrete (f .column) (g .column)) (decLt (f .column) (g .column))
     where
       in-row : f .column ≡ g .column → Dec (f .index ≡ g .index) → Dec (f .index < g .index)
-          → at table g + width table g ≤ at table f
+          → firstByte table g + width table g ≤ firstByte table f
       in-row e (yes p) d = absurd (n e p)
       in-row e (no p) d =
           let w = width table f in
           let ew = ap (λ (s : ℕ). columnOf table s .width) e in
           let et = ap (λ (s : ℕ). times (g .index) (columnOf table s .width)) e in
-          elim d as (λ (x : Dec (f .index < g .index)). at table g + width table g ≤ at table f) [
+          elim d as (λ (x : Dec (f .index < g .index)). firstByte table g + width table g ≤ firstByte table f) [
             | yes q ↦ absurd (omega (arith, step-le (f .index) (g .index) w q))
             | no q ↦ omega (arith, step-le (g .index) (f .index) w (omega arith))
           ]
 
       by-column : Dec (f .column ≡ g .column) → Dec (f .column < g .column)
-          → at table g + width table g ≤ at table f
+          → firstByte table g + width table g ≤ firstByte table f
       by-column (yes e) d = in-row e (ℕ-discrete (f .index) (g .index)) (decLt (f .index) (g .index))
       by-column (no p) (yes q) =
           absurd (omega (arith, within f hf, later size table 0 (f .column) (g .column) o q (some f hf) (some g hg)))
@@ -121,13 +121,13 @@ module _ (size : ℕ) (table : List Column) (o : inOrder size 0 table ≡ true) 
       → (f .column ≡ g .column → f .index ≡ g .index → ⊥)
       → view table (write table (f := x) b) g ≡ view table b g
   view-other b f g x hf hg n =
-      getLE-other b (at table f) (width table f) x (at table g) (width table g) (apart f g hf hg n)
+      getLE-other b (firstByte table f) (width table f) x (firstByte table g) (width table g) (apart f g hf hg n)
 
   -- a field holds what was written to it
   pub view-same : (b : List ℕ) (f : Field) (x : ℕ) → length b ≡ size → Has table f → x < 256 ^ width table f
       → view table (write table (f := x) b) f ≡ x
   view-same b f x e hf k =
-      getLE-same b (at table f) (width table f) x
+      getLE-same b (firstByte table f) (width table f) x
       (omega (arith, within f hf, ends size table 0 (f .column) o (some f hf))) k
 
   -- the view of a write is the view with the field assigned
@@ -149,7 +149,7 @@ module _ (size : ℕ) (table : List Column) (o : inOrder size 0 table ≡ true) 
       → view table (written table ws b) g ≡ assigned ws (view table b) g
   view-written [] b g e s hg = refl
   view-written ((f := x) ∷ ws) b g e s hg =
-      view-written ws (write table (f := x) b) g (length-setLE b (at table f) (width table f) x ∙ e) (s .1) hg
+      view-written ws (write table (f := x) b) g (length-setLE b (firstByte table f) (width table f) x ∙ e) (s .1) hg
       ∙ assigned-same ws (view table (write table (f := x) b)) (assign (f := x) (view table b)) g
       (view-write b f g x e (s .0 .0) hg (s .0 .1))
 
@@ -157,10 +157,10 @@ module _ (size : ℕ) (table : List Column) (o : inOrder size 0 table ≡ true) 
 pub length-written : (table : List Column) (ws : List Write) (b : List ℕ) → length (written table ws b) ≡ length b
 length-written table [] b = refl
 length-written table ((f := x) ∷ ws) b =
-    length-written table ws (write table (f := x) b) ∙ length-setLE b (at table f) (width table f) x
+    length-written table ws (write table (f := x) b) ∙ length-setLE b (firstByte table f) (width table f) x
 
 -- writes leave a memory of bytes
 pub bytes-written : (table : List Column) (ws : List Write) (b : List ℕ) → Bytes b → Bytes (written table ws b)
 bytes-written table [] b h = h
 bytes-written table ((f := x) ∷ ws) b h =
-    bytes-written table ws (write table (f := x) b) (bytes-setLE b (at table f) (width table f) x h)
+    bytes-written table ws (write table (f := x) b) (bytes-setLE b (firstByte table f) (width table f) x h)

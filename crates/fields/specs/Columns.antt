@@ -55,12 +55,13 @@ columnOf [] s = record { start = s; width = 0; count = 0 }
 columnOf (k ∷ ks) s = cond (eqb (k .start) s) k (columnOf ks s)
 
 module _ (table : List Column) where
+  -- how many bytes a field has
   abbrev pub width : Field → ℕ
   width f = columnOf table (f .column) .width
 
   -- a field's first byte
-  abbrev pub at : Field → ℕ
-  at f = f .column + times (f .index) (width f)
+  abbrev pub firstByte : Field → ℕ
+  firstByte f = f .column + times (f .index) (width f)
 
   -- the table has the field
   pub record Has (f : Field) : Type 0 where
@@ -68,11 +69,11 @@ module _ (table : List Column) where
 
   -- the view of a memory
   abbrev pub view : List ℕ → View
-  view b f = getLE b (at f) (width f)
+  view b f = getLE b (firstByte f) (width f)
 
   -- a memory after one write
   abbrev pub write : Write → List ℕ → List ℕ
-  write (f := x) b = setLE b (at f) (width f) x
+  write (f := x) b = setLE b (firstByte f) (width f) x
 
   -- a memory after a list of writes, in their order
   abbrev pub written : List Write → List ℕ → List ℕ

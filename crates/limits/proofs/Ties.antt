@@ -1,6 +1,6 @@
 -- The limits that follow from others do: a change of one that leaves another behind does not check.
 use mathlib.Core.Path.{_≡_, refl}
-use Prim.Native.Nat.{ℕ, _*_}
+use Prim.Native.Nat.{_*_}
 use Rattle.limits.specs.Limits.{REGIONS, REGION-BYTES, AREA-BYTES, UNIT-BYTES, REGION-UNITS, UNITS, MOST-BLOCKS}
 
 -- the largest area has all regions

@@ -5,10 +5,11 @@ use Prim.Native.Nat.{ℕ, _+_}
 abbrev pub CONTROL-BYTES : ℕ
 CONTROL-BYTES = 8192
 
--- "The area is 1 to 16 regions of 4,096 bytes": the most regions, and the bytes of one
+-- "The area is 1 to 16 regions of 4,096 bytes": the most regions
 abbrev pub REGIONS : ℕ
 REGIONS = 16
 
+-- the bytes of a region
 abbrev pub REGION-BYTES : ℕ
 REGION-BYTES = 4096
 
@@ -27,6 +28,10 @@ REGION-UNITS = 512
 -- "a block is named by its first unit, 0 to 8,191"; in a cache's links 8,192 is the bottom
 abbrev pub UNITS : ℕ
 UNITS = 8192
+
+-- the marks of so many units stand in one word
+abbrev pub WORD-MARKS : ℕ
+WORD-MARKS = 64
 
 -- "1 to 8 tasks"
 abbrev pub TASKS : ℕ
@@ -49,19 +54,22 @@ abbrev pub TAGS : ℕ
 TAGS = 4294967296
 
 -- the largest size: "9 size above 256"
-abbrev pub MOST-BYTES : ℕ
-MOST-BYTES = 256
+abbrev pub LARGEST-SIZE : ℕ
+LARGEST-SIZE = 256
 
--- The lists by number: first the partial descriptors of each class, then the spare descriptors, then the spare regions.
+-- The lists by number: that of a class's partial descriptors has the class's number, then comes that of the spare
+-- descriptors.
 abbrev pub SPARE-DESCRIPTORS : ℕ
 SPARE-DESCRIPTORS = CLASSES
 
+-- the list of the spare regions
 abbrev pub SPARE-REGIONS : ℕ
 SPARE-REGIONS = CLASSES + 1
 
--- how many lists there are of descriptors, and in all
+-- how many lists there are of descriptors
 abbrev pub DESCRIPTOR-LISTS : ℕ
 DESCRIPTOR-LISTS = CLASSES + 1
 
+-- how many lists there are in all
 abbrev pub LISTS : ℕ
 LISTS = CLASSES + 2

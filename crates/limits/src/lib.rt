@@ -17,13 +17,16 @@ pub const REGION_UNITS: usize = 512;
 
 pub const UNITS: usize = 8192;
 
+// The marks of so many units stand in one word.
+pub const WORD_MARKS: usize = 64;
+
 // 1 to 8 tasks.
 pub const TASKS: usize = 8;
 
 // The classes of the paper's table, and the largest size.
 pub const CLASSES: usize = 16;
 
-pub const MOST_BYTES: usize = 256;
+pub const LARGEST_SIZE: usize = 256;
 
 // There are 64 descriptors.
 pub const DESCRIPTORS: usize = 64;

@@ -9,8 +9,9 @@ use Rattle.classes.specs.Geometry.{regionOf}
 use Rattle.plain.specs.State.{Place, idle, Mem, working}
 use Rattle.plain.specs.Moves.{Answer}
 use Rattle.plain.specs.Steps.{Result, stepOf}
-use Rattle.plain.specs.Calls.{Pool, Call, start, allocate, free, area?, tasks?, beginAllocate, beginFree}
-use Rattle.plain.specs.Calls.{whenIdle, tested, call, Lengths, step}
+use Rattle.plain.specs.Calls.{Pool, Call, start, allocate, free, startArea?, startTasks?, beginAllocate}
+use Rattle.plain.specs.Calls.{beginFree}
+use Rattle.plain.specs.Calls.{whenIdle, tested, plainCall, Lengths, step}
 use Rattle.plain.specs.Invariant.{Invariant, Good, run}
 use Rattle.plain.proofs.Tests.{either, KeepsInvariant}
 use Rattle.plain.proofs.Steps.{step-inv}
@@ -50,12 +51,12 @@ not-started s e =
     record { few = omega arith; small = λ i. absurd (omega arith); inv = λ i. absurd (omega arith) }
 
 -- Every call of a good pool leaves a good pool.
-pub call-good : (c : Call) (lent : Lengths) (s : Pool) → Good s → Good (call c lent s .0)
-unfolding call
+pub call-good : (c : Call) (lent : Lengths) (s : Pool) → Good s → Good (plainCall c lent s .0)
+unfolding plainCall
 call-good (start n) lent s g =
     either GoodAfter (ℕ-discrete (lent .control) CONTROL-BYTES) _ _
-    (λ a. either GoodAfter (area? (lent .area)) _ _
-    (λ b. either GoodAfter (tasks? (n .tasks)) _ _
+    (λ a. either GoodAfter (startArea? (lent .area)) _ _
+    (λ b. either GoodAfter (startTasks? (n .tasks)) _ _
     (λ c. record { few = c .1; small = λ i. omega (arith, b); inv = λ i. start-inv (lent .area / REGION-BYTES) })
     (λ c. g))
     (λ b. g))
@@ -77,4 +78,4 @@ call-good (step t) lent s g = tested-good t lent s (stepOf t (s .mem)) g (λ l I
 pub always : (cs : List (Call × Lengths)) (s : Pool) → Good s → Good (run cs s)
 unfolding run
 always [] s g = g
-always (c ∷ cs) s g = always cs (call (c .0) (c .1) s .0) (call-good (c .0) (c .1) s g)
+always (c ∷ cs) s g = always cs (plainCall (c .0) (c .1) s .0) (call-good (c .0) (c .1) s g)

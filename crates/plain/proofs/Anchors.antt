@@ -13,8 +13,8 @@ use Rattle.rows.proofs.Update.{update-all}
 use Rattle.rows.proofs.Weights.{when-same, when-other, when-zero, when-is, below-max, below-is, weight-update}
 use Rattle.rows.proofs.Totals.{total-one, total-update}
 use Rattle.plain.specs.State.{EMPTY, Descriptor, Place, Task, Mem, setDescriptor}
-use Rattle.plain.specs.Steps.{at}
-use Rattle.plain.specs.States.{IsOpen, IfOpen, IfEmpty, isFull, isEmpty}
+use Rattle.plain.specs.Steps.{atPlace}
+use Rattle.plain.specs.States.{IsOpen, IfOpen, IfEmpty, oneIfFull, oneIfEmpty}
 use Rattle.plain.specs.Held.{Held, held, blockIn, classBlockIn, descriptorIn, spareIn, listedIn, regionIn}
 use Rattle.plain.specs.Held.{unmappedIn}
 use Rattle.plain.specs.Weights.{insideWeight, insideClassWeight, chainWeight, chainClassWeight, openWeight}
@@ -30,7 +30,7 @@ use Rattle.plain.proofs.Places.{taskOf, lengths}
 
 module _ {area : ℕ} {m : Mem} {t : ℕ} {T : Task} (w : Turn area m t T) where
   -- It is one of the 64, and not FULL.
-  pub in-hand : (d : ℕ) → 1 ≤ descriptorWeight d t T → (d < DESCRIPTORS) × (isFull (m .descriptor d .state) ≡ 0)
+  pub in-hand : (d : ℕ) → 1 ≤ descriptorWeight d t T → (d < DESCRIPTORS) × (oneIfFull (m .descriptor d .state) ≡ 0)
   in-hand d h =
       let s = w .inv .descriptors d in
       let a = total-one TASKS (descriptorWeight d) (m .task) t (w .fits) in
@@ -41,7 +41,7 @@ module _ {area : ℕ} {m : Mem} {t : ℕ} {T : Task} (w : Turn area m t T) where
           arith,
           below-max d DESCRIPTORS,
           total-one DESCRIPTORS (fullWeight d) (m .descriptor) d l,
-          when-same d (isFull (m .descriptor d .state)),
+          when-same d (oneIfFull (m .descriptor d .state)),
         ),
       )
 
@@ -72,8 +72,8 @@ pub record Anchored (m : Mem) (d : ℕ) (E : Descriptor) (h h′ : Held) : Type 
   pub class : E .class ≡ m .descriptor d .class
   pub region : E .region ≡ m .descriptor d .region
   pub descriptors : (x : ℕ)
-      → descriptorIn x h′ + when x d (isFull (E .state))
-      ≡ descriptorIn x h + when x d (isFull (m .descriptor d .state))
+      → descriptorIn x h′ + when x d (oneIfFull (E .state))
+      ≡ descriptorIn x h + when x d (oneIfFull (m .descriptor d .state))
   pub regions : (r : ℕ) → regionIn r h′ + openWeight r d E ≡ regionIn r h + openWeight r d (m .descriptor d)
   pub unmapped : (r : ℕ) → unmappedIn r h′ ≤ unmappedIn r h
   pub classes : (c x : ℕ) → listedIn c x h′ ≤ listedIn c x h + when c (m .descriptor d .class) (one x d)
@@ -91,7 +91,7 @@ module _ {area : ℕ} {m : Mem} {t : ℕ} {p : Place} {k : ℕ → List ℕ} (w 
   -- Such an exchange keeps the invariant.
   pub anchored : {h′ : Held} (p′ : Place) (d : ℕ) (E : Descriptor) → held p′ ≡ h′ → Anchored m d E (held p) h′
       → PlaceHolds k p′ → NoteHolds (m .row) (m .won) (m .map) p′
-      → Invariant area (at t k p′ (setDescriptor d E m))
+      → Invariant area (atPlace t k p′ (setDescriptor d E m))
   anchored p′ d E e a o n = turn-inv w _ (taskOf p′ k) refl (record {
     descriptors = λ x. omega (
       arith,
@@ -110,7 +110,7 @@ module _ {area : ℕ} {m : Mem} {t : ℕ} {p : Place} {k : ℕ → List ℕ} (w 
       arith,
       a .spares x,
       ap (spareIn x) e,
-      weight-update (λ (F : Descriptor). isEmpty (F .state)) (m .descriptor) d E x,
+      weight-update (λ (F : Descriptor). oneIfEmpty (F .state)) (m .descriptor) d E x,
       ap (when x d) (open-not-empty (m .descriptor d .state) (a .counts)),
       when-zero x d,
     ));

@@ -6,7 +6,7 @@ use mathlib.Core.List.{List}
 use Prim.Native.Nat.{ℕ, zero, suc, _*_, _≤_, _<_}
 use native.Mathlib.Omega.{arith}
 use native.Mathlib.Decide.{ℕ-discrete, decLt}
-use Rattle.limits.specs.Limits.{CONTROL-BYTES, REGION-BYTES, MOST-BYTES, SPARE-DESCRIPTORS}
+use Rattle.limits.specs.Limits.{CONTROL-BYTES, REGION-BYTES, LARGEST-SIZE, SPARE-DESCRIPTORS}
 use Rattle.rows.specs.Branch.{both}
 use Rattle.rows.proofs.Branch.{if-yes, if-no}
 use Rattle.rows.proofs.Update.{update-same}
@@ -14,8 +14,9 @@ use Rattle.classes.specs.Geometry.{regionOf}
 use Rattle.plain.specs.State.{read, spare, region, back, Place, idle, pushing, Task, Mem, working}
 use Rattle.plain.specs.Moves.{found-empty, pushed, Answer, ended, refused}
 use Rattle.plain.specs.Steps.{Result, popRead, pushPut, stepAt, stepOf, whenWorking}
-use Rattle.plain.specs.Calls.{Pool, Call, start, allocate, free, startMem, area?, tasks?, opens?, first?, freeBy}
-use Rattle.plain.specs.Calls.{whenIdle, refuse, became, tested, call, Lengths, step}
+use Rattle.plain.specs.Calls.{Pool, Call, start, allocate, free, startMem, startArea?, startTasks?, opens?}
+use Rattle.plain.specs.Calls.{first?, freeEntry}
+use Rattle.plain.specs.Calls.{whenIdle, refuse, became, tested, plainCall, Lengths, step}
 use Rattle.plain.specs.Codes.{StepCode, under-way, no-request, no-descriptor, no-region, finishes, ReadsNoSpare}
 use Rattle.plain.specs.Codes.{PushesBack, ReadsNoRegion, CallIs, starts, begins, steps, EndsBy12, EndsBy13}
 use Rattle.plain.specs.Codes.{AtMost}
@@ -69,7 +70,7 @@ module _ (c : Call) (s : Pool) where
   small-idle idle x h = h
   small-idle (working w) x h = small 6 (omega arith)
 
-  small-free : (z t u : ℕ) → Small (freeBy z t u (s .mem))
+  small-free : (z t u : ℕ) → Small (freeEntry z t u (s .mem))
   small-free zero t u = small 10 (omega arith)
   small-free (suc d) t u =
       let D = s .mem .descriptor d in
@@ -93,13 +94,13 @@ module _ (c : Call) (s : Pool) where
   begins-is x h = begins (h .0) refl (h .1)
 
 -- A call is a start, a refusal or beginning, or a step.
-pub call-is : (c : Call) (lent : Lengths) (s : Pool) → CallIs c s (call c lent s)
-unfolding call startMem
+pub call-is : (c : Call) (lent : Lengths) (s : Pool) → CallIs c s (plainCall c lent s)
+unfolding plainCall startMem
 call-is (start n) lent s =
     let c = start n in
     either (CallIs c s) (ℕ-discrete (lent .control) CONTROL-BYTES) _ _
-    (λ a. either (CallIs c s) (area? (lent .area)) _ _
-    (λ b. either (CallIs c s) (tasks? (n .tasks)) _ _
+    (λ a. either (CallIs c s) (startArea? (lent .area)) _ _
+    (λ b. either (CallIs c s) (startTasks? (n .tasks)) _ _
     (λ d. starts refl (λ ℓ. refl)) (λ d. refuses c s 3 (omega arith)))
     (λ b. refuses c s 2 (omega arith)))
     (λ a. refuses c s 1 (omega arith))
@@ -107,7 +108,7 @@ call-is (allocate t size) lent s =
     let c = allocate t size in
     tested-is c s t lent _ (λ l. begins-is c s _ (small-idle c s (s .mem .task t .place) _
     (either (Small c s) (ℕ-discrete size 0) _ _ (λ a. small c s 8 (omega arith))
-    (λ a. either (Small c s) (decLt MOST-BYTES size) _ _
+    (λ a. either (Small c s) (decLt LARGEST-SIZE size) _ _
     (λ b. small c s 9 (omega arith)) (λ b. (omega arith, λ ℓ. refl))))))
 call-is (free t u) lent s =
     let c = free t u in
@@ -119,8 +120,8 @@ call-is (step t) lent s =
 
 -- A step call that passes the tests is a step of its task.
 pub step-is-step : (t : ℕ) (lent : Lengths) (s : Pool) → t < s .tasks → lent .control ≡ CONTROL-BYTES
-    → lent .area ≡ REGION-BYTES * s .regions → call (step t) lent s ≡ became s (stepOf t (s .mem))
-unfolding call
+    → lent .area ≡ REGION-BYTES * s .regions → plainCall (step t) lent s ≡ became s (stepOf t (s .mem))
+unfolding plainCall
 step-is-step t lent s l c e =
     if-yes (ℕ-discrete (lent .control) CONTROL-BYTES) _ _ c
     ∙ if-no (ℕ-discrete (s .tasks) 0) _ _ (omega arith)
@@ -143,20 +144,20 @@ step-not-14 n no-region e = absurd (omega arith)
 step-not-14 n finishes e = absurd (omega arith)
 
 -- No call answers 14.
-pub never-14 : (c : Call) (lent : Lengths) (s : Pool) → call c lent s .1 .code ≢ 14
+pub never-14 : (c : Call) (lent : Lengths) (s : Pool) → plainCall c lent s .1 .code ≢ 14
 never-14 c lent s = go-on (call-is c lent s)
   where
-    go-on : CallIs c s (call c lent s) → call c lent s .1 .code ≢ 14
+    go-on : CallIs c s (plainCall c lent s) → plainCall c lent s .1 .code ≢ 14
     go-on (starts h w) e = absurd (omega arith)
     go-on (begins h k w) e = absurd (omega arith)
     go-on (steps t f l h) e =
         step-not-14 (stepOf t (s .mem) .1 .code) (step-facts t (s .mem) .code) (answer-code s h e)
 
 -- Each call adds at most one won exchange to each list of a started pool.
-pub most : (n : ℕ) (c : Call) (lent : Lengths) (s : Pool) → AtMost n s → AtMost (suc n) (call c lent s .0)
+pub most : (n : ℕ) (c : Call) (lent : Lengths) (s : Pool) → AtMost n s → AtMost (suc n) (plainCall c lent s .0)
 most n c lent s g = go-on (call-is c lent s)
   where
-    go-on : CallIs c s (call c lent s) → AtMost (suc n) (call c lent s .0)
+    go-on : CallIs c s (plainCall c lent s) → AtMost (suc n) (plainCall c lent s .0)
     go-on (starts h w) i ℓ = omega (arith, w ℓ)
     go-on (begins h k w) i ℓ = omega (arith, w ℓ, g (omega arith) ℓ)
     go-on (steps t f l h) i ℓ =
@@ -168,10 +169,11 @@ most n c lent s g = go-on (call-is c lent s)
         )
 
 -- A call answers 12 only if it is a step that reads the empty list of spare descriptors.
-pub only-12 : (c : Call) (lent : Lengths) (s : Pool) → call c lent s .1 .code ≡ 12 → EndsBy12 s (call c lent s .1)
+pub only-12 : (c : Call) (lent : Lengths) (s : Pool) → plainCall c lent s .1 .code ≡ 12
+    → EndsBy12 s (plainCall c lent s .1)
 only-12 c lent s = go-on (call-is c lent s)
   where
-    go-on : CallIs c s (call c lent s) → call c lent s .1 .code ≡ 12 → EndsBy12 s (call c lent s .1)
+    go-on : CallIs c s (plainCall c lent s) → plainCall c lent s .1 .code ≡ 12 → EndsBy12 s (plainCall c lent s .1)
     go-on (starts h w) e = absurd (omega arith)
     go-on (begins h k w) e = absurd (omega arith)
     go-on (steps t f l h) e =
@@ -179,10 +181,11 @@ only-12 c lent s = go-on (call-is c lent s)
         record { t = t; fits = l; reads = r .0; decided = ap (λ (x : Pool × Answer). x .1 .decided) h ∙ r .1 }
 
 -- A call answers 13 only if it is a step that wins the exchange that pushes a descriptor back.
-pub only-13 : (c : Call) (lent : Lengths) (s : Pool) → call c lent s .1 .code ≡ 13 → EndsBy13 s (call c lent s .1)
+pub only-13 : (c : Call) (lent : Lengths) (s : Pool) → plainCall c lent s .1 .code ≡ 13
+    → EndsBy13 s (plainCall c lent s .1)
 only-13 c lent s = go-on (call-is c lent s)
   where
-    go-on : CallIs c s (call c lent s) → call c lent s .1 .code ≡ 13 → EndsBy13 s (call c lent s .1)
+    go-on : CallIs c s (plainCall c lent s) → plainCall c lent s .1 .code ≡ 13 → EndsBy13 s (plainCall c lent s .1)
     go-on (starts h w) e = absurd (omega arith)
     go-on (begins h k w) e = absurd (omega arith)
     go-on (steps t f l h) e =

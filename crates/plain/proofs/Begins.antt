@@ -4,7 +4,7 @@ use mathlib.Core.Logic.{_≢_}
 use Prim.Native.Nat.{ℕ, zero, suc, _+_, _≤_, _<_}
 use native.Mathlib.Omega.{arith}
 use native.Mathlib.Decide.{ℕ-discrete, decLt}
-use Rattle.limits.specs.Limits.{TASKS, CLASSES, DESCRIPTORS, MOST-BYTES}
+use Rattle.limits.specs.Limits.{TASKS, CLASSES, DESCRIPTORS, LARGEST-SIZE}
 use Rattle.rows.specs.Tests.{Equality, same, other, same?}
 use Rattle.rows.specs.Branch.{both}
 use Rattle.rows.specs.Weights.{when, one}
@@ -15,8 +15,8 @@ use Rattle.rows.proofs.Totals.{total-le, total-one}
 use Rattle.classes.specs.Geometry.{regionOf, Block}
 use Rattle.classes.proofs.Sizes.{is-class}
 use Rattle.plain.specs.State.{idle, f1, Task, Mem, working}
-use Rattle.plain.specs.Calls.{beginAllocate, Opens, opens?, First, first?, freeIn, freeBy}
-use Rattle.plain.specs.Blocks.{isBlock}
+use Rattle.plain.specs.Calls.{beginAllocate, Opens, opens?, First, first?, freeIn, freeEntry}
+use Rattle.plain.specs.Blocks.{countBlock}
 use Rattle.plain.specs.States.{IsOpen}
 use Rattle.plain.specs.Held.{classAt, underWay}
 use Rattle.plain.specs.Weights.{rowWeight, insideClassWeight, chainWeight, chainClassWeight, blockWeight}
@@ -56,8 +56,8 @@ module _ {area : ℕ} {m : Mem} (I : Invariant area m) (d u : ℕ) (l : d < DESC
       omega (
         arith,
         total-one DESCRIPTORS (insideClassWeight (D .class) u) (m .descriptor) d l,
-        region-open (when (D .class) (D .class) (isBlock u (D .region) (D .class))),
-        when-same (D .class) (isBlock u (D .region) (D .class)),
+        region-open (when (D .class) (D .class) (countBlock u (D .region) (D .class))),
+        when-same (D .class) (countBlock u (D .region) (D .class)),
         block-counts B,
       )
 
@@ -106,7 +106,7 @@ module _ {area : ℕ} {m : Mem} (t : ℕ) (l : t < TASKS) (I : Invariant area m)
   pub allocate-inv : (size : ℕ) → KeepsInvariant area (beginAllocate t size m)
   allocate-inv size =
       either (KeepsInvariant area) (ℕ-discrete size 0) _ _ (λ a. I)
-      (λ a. either (KeepsInvariant area) (decLt MOST-BYTES size) _ _ (λ b. I)
+      (λ a. either (KeepsInvariant area) (decLt LARGEST-SIZE size) _ _ (λ b. I)
       (λ b. placed-empty turn _ refl refl (is-class size (omega arith)) tt))
 
   -- The beginning of a free: the block leaves the user's hands and is under way.
@@ -140,6 +140,6 @@ module _ {area : ℕ} {m : Mem} (t : ℕ) (l : t < TASKS) (I : Invariant area m)
       (λ b. I)
 
   -- The same by the map's entry of the unit's region.
-  pub free-by-inv : (u z : ℕ) → z ≤ DESCRIPTORS → KeepsInvariant area (freeBy z t u m)
+  pub free-by-inv : (u z : ℕ) → z ≤ DESCRIPTORS → KeepsInvariant area (freeEntry z t u m)
   free-by-inv u zero h = I
   free-by-inv u (suc d) h = free-inv d u h

@@ -10,7 +10,7 @@ use Rattle.classes.specs.Classes.{units, perRegion}
 use Rattle.classes.specs.Sizes.{classOf}
 use Rattle.plain.specs.Moves.{Answer, going, finished, nothing}
 use Rattle.plain.specs.Steps.{stepOf}
-use Rattle.plain.specs.Calls.{Pool, start, allocate, startMem, rising, unstarted, call, Lengths, step}
+use Rattle.plain.specs.Calls.{Pool, start, allocate, startMem, rising, unstarted, plainCall, Lengths, step}
 
 -- the control memory, and an area of one region
 abbrev lent : Lengths
@@ -19,12 +19,12 @@ lent = record { control = CONTROL-BYTES; area = REGION-BYTES }
 -- the answer of the last of n steps of task 0, in a pool of one region
 abbrev last : ℕ → Pool → Answer
 last zero s = going nothing
-last (suc zero) s = call (step 0) lent s .1
-last (suc (suc n)) s = last (suc n) (call (step 0) lent s .0)
+last (suc zero) s = plainCall (step 0) lent s .1
+last (suc (suc n)) s = last (suc n) (plainCall (step 0) lent s .0)
 
 -- "in a fresh pool": one task, one region, and an allocation of the size begun
 unfoldable pub fresh : ℕ → Pool
-fresh size = call (allocate 0 size) lent (call (start (record { tasks = 1 })) lent unstarted .0) .0
+fresh size = plainCall (allocate 0 size) lent (plainCall (start (record { tasks = 1 })) lent unstarted .0) .0
 
 -- the rows: a size, the step at which its first allocation finishes, and the unit
 abbrev pub firsts : List (ℕ × ℕ × ℕ)
@@ -32,10 +32,10 @@ firsts = (256, 26, 480) ∷ (8, 522, 511) ∷ []
 
 -- at that step the allocation finishes with that unit
 pub firsts-hold : map (λ r. last (r .1) (fresh (r .0))) firsts ≡ map (λ r. finished (r .2)) firsts
-unfolding call stepOf startMem rising units perRegion update ℕ-discrete decLt decLe both fresh unstarted classOf
+unfolding plainCall stepOf startMem rising units perRegion update ℕ-discrete decLt decLe both fresh unstarted classOf
 firsts-hold = refl
 
 -- and the step before does not
 pub not-before : map (λ r. last r (fresh 256)) (25 ∷ []) ≡ going nothing ∷ []
-unfolding call stepOf startMem rising units perRegion update ℕ-discrete decLt decLe both fresh unstarted classOf
+unfolding plainCall stepOf startMem rising units perRegion update ℕ-discrete decLt decLe both fresh unstarted classOf
 not-before = refl

@@ -15,7 +15,7 @@ use Rattle.classes.specs.Geometry.{unitOf, regionOf, indexOf, Block}
 use Rattle.classes.proofs.Tables.{units-low}
 use Rattle.classes.proofs.BlockUnits.{region-is, index-below, unit-again}
 use Rattle.plain.specs.Calls.{First}
-use Rattle.plain.specs.Blocks.{blocksFrom, isBlock}
+use Rattle.plain.specs.Blocks.{blocksFrom, countBlock}
 
 -- ---- k blocks from block i on
 
@@ -63,25 +63,25 @@ only-blocks r c v (suc k) i l h = elim (same? v (unitOf r c i)) [
 
 -- ---- all the blocks of a region
 
--- `isBlock` counts in the row of all of them.
-pub isBlock-row : (v r c : ℕ) → isBlock v r c ≡ count v (blocksFrom r c 0 (perRegion c))
-unfolding isBlock
+-- `countBlock` counts in the row of all of them.
+pub isBlock-row : (v r c : ℕ) → countBlock v r c ≡ count v (blocksFrom r c 0 (perRegion c))
+unfolding countBlock
 isBlock-row v r c = refl
 
 -- A block counts 1.
-pub block-counts : {r c v : ℕ} → Block r c v → isBlock v r c ≡ 1
-unfolding isBlock
+pub block-counts : {r c v : ℕ} → Block r c v → countBlock v r c ≡ 1
+unfolding countBlock
 block-counts {r} {c} b =
     rw (b .is) (among-them r c (perRegion c) 0 (b .at) (omega arith) (omega (arith, b .below)))
 
 -- What counts is a block.
-pub counts-block : (r c v : ℕ) → 1 ≤ isBlock v r c → Block r c v
-unfolding isBlock
+pub counts-block : (r c v : ℕ) → 1 ≤ countBlock v r c → Block r c v
+unfolding countBlock
 counts-block r c v h = only-blocks r c v (perRegion c) 0 (omega arith) h
 
 -- It counts at most 1, and only in the region that the unit lies in.
-pub isBlock-region : (r c v : ℕ) → isBlock v r c ≤ one (regionOf v) r
-isBlock-region r c v = elim (order? 0 (isBlock v r c)) [
+pub isBlock-region : (r c v : ℕ) → countBlock v r c ≤ one (regionOf v) r
+isBlock-region r c v = elim (order? 0 (countBlock v r c)) [
   | before h ↦ (let b : Block r c v = counts-block r c v h in
       rw (region-is b) (omega (arith, when-same r 1, block-counts b)))
   | after h ↦ omega arith

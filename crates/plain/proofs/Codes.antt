@@ -17,7 +17,7 @@ use Rattle.plain.specs.State.{region, Push, retire, back, release, offer
 use Rattle.plain.specs.State.{a8, f3-read, f3-link, f4-clear, Task, Mem, working, Note}
 use Rattle.plain.specs.Moves.{Decided, nothing, lost, Answer, going, finished, refused}
 use Rattle.plain.specs.Steps.{popList, pushList, f6, f5, moving, whenPopped, asNoted?, cached, popRead, popTake}
-use Rattle.plain.specs.Steps.{pushPut, a1Step, a3Read, closed, f2Step, f3Read, returned, stepAt, to, popStep}
+use Rattle.plain.specs.Steps.{pushPut, a1Step, a3Read, closed, f2Step, f3Read, f3Won, stepAt, atWork, popStep}
 use Rattle.plain.specs.Steps.{pushStep, a3Exchange, a7Step, a8Step, f1Step, f3Exchange}
 use Rattle.plain.specs.Codes.{StepCode, under-way, no-request, no-descriptor, no-region, finishes, WayBack, stays}
 use Rattle.plain.specs.Codes.{comes, StepFacts}
@@ -167,7 +167,7 @@ module _ (t : ℕ) (k : ℕ → List ℕ) (m : Mem) where
   -- ---- pushes
 
   facts-pushOn : (p : Push) (φ ψ : Phase) (e : Decided) → m .task t .place ≡ working (pushing p φ)
-      → StepFacts t m (to t k (pushing p ψ) m, going e)
+      → StepFacts t m (atWork t k (pushing p ψ) m, going e)
   facts-pushOn (retire c d) φ ψ e h = goes t m _ refl refl none-won
   facts-pushOn (back c d) φ ψ e h = record {
     code = under-way;
@@ -221,7 +221,7 @@ module _ (t : ℕ) (k : ℕ → List ℕ) (m : Mem) where
   facts-f3 (suc d) c u y g h = goes t m _ refl refl none-won
 
   facts-returned : {P : Type 0} (e : Dec P) (c u y : ℕ) (g : List ℕ) (d : ℕ) (w : State)
-      → StepFacts t m (returned t k e c u y g d w m)
+      → StepFacts t m (f3Won t k e c u y g d w m)
   facts-returned (yes e) c u y g d w = goes t m _ refl refl none-won
   facts-returned (no e) c u y g d w = goes t m _ refl (f5-back w (k c) c u d) none-won
 

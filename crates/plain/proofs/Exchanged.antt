@@ -11,7 +11,7 @@ use Rattle.rows.proofs.Update.{update-same, update-other, update-all₂}
 use Rattle.rows.proofs.Weights.{weight-update}
 use Rattle.rows.proofs.Totals.{total-out, total-update}
 use Rattle.plain.specs.State.{Place, Mem, setRow}
-use Rattle.plain.specs.Steps.{at}
+use Rattle.plain.specs.Steps.{atPlace}
 use Rattle.plain.specs.Held.{Held, held, blockIn, classBlockIn, descriptorIn, spareIn, listedIn, regionIn}
 use Rattle.plain.specs.Held.{unmappedIn}
 use Rattle.plain.specs.Weights.{rowWeight}
@@ -29,7 +29,7 @@ exchanged m ℓ q =
     (one-more (omega arith)) (λ j d. as-before refl refl)
 
 -- what an exchange of a list of descriptors, from the row r to q, has to show of what the task has under way
-pub record Listed (ℓ : ℕ) (r q : List ℕ) (h h′ : Held) : Type 0 where
+pub record DescriptorsExchanged (ℓ : ℕ) (r q : List ℕ) (h h′ : Held) : Type 0 where
   pub blocks : (v : ℕ) → blockIn v h′ ≡ blockIn v h
   pub blockClasses : (c v : ℕ) → classBlockIn c v h′ ≤ classBlockIn c v h
   pub descriptors : (x : ℕ) → count x q + descriptorIn x h′ ≡ count x r + descriptorIn x h
@@ -40,7 +40,7 @@ pub record Listed (ℓ : ℕ) (r q : List ℕ) (h h′ : Held) : Type 0 where
   pub unmapped : (x : ℕ) → unmappedIn x h′ ≤ unmappedIn x h
 
 -- what an exchange of the list of spare regions, from the row r to q, has to show of it
-pub record Released (r q : List ℕ) (h h′ : Held) : Type 0 where
+pub record RegionsExchanged (r q : List ℕ) (h h′ : Held) : Type 0 where
   pub blocks : (v : ℕ) → blockIn v h′ ≡ blockIn v h
   pub blockClasses : (c v : ℕ) → classBlockIn c v h′ ≤ classBlockIn c v h
   pub descriptors : (x : ℕ) → descriptorIn x h′ ≡ descriptorIn x h
@@ -52,9 +52,9 @@ pub record Released (r q : List ℕ) (h h′ : Held) : Type 0 where
 module _ {area : ℕ} {m : Mem} {t : ℕ} {p : Place} {k : ℕ → List ℕ} (w : Turn area m t (taskOf p k)) where
   -- An exchange of a list of descriptors keeps the invariant.
   pub relisted : {h′ : Held} (p′ : Place) (ℓ : ℕ) (q : List ℕ) → held p′ ≡ h′ → ℓ < DESCRIPTOR-LISTS
-      → Listed ℓ (m .row ℓ) q (held p) h′ → PlaceHolds k p′
+      → DescriptorsExchanged ℓ (m .row ℓ) q (held p) h′ → PlaceHolds k p′
       → NoteHolds (update (m .row) ℓ q) (update (m .won) ℓ (m .won ℓ + 1)) (m .map) p′
-      → Invariant area (at t k p′ (setRow ℓ q m))
+      → Invariant area (atPlace t k p′ (setRow ℓ q m))
   relisted p′ ℓ q e l s o n = turn-inv w _ (taskOf p′ k) refl (record {
     descriptors = λ x.
         omega (arith, s .descriptors x, ap (descriptorIn x) e, total-update SPARE-REGIONS (rowWeight x) (m .row) ℓ q l);
@@ -87,11 +87,12 @@ module _ {area : ℕ} {m : Mem} {t : ℕ} {p : Place} {k : ℕ → List ℕ} (w 
   })
 
   -- So does one of the list of spare regions.
-  pub released : {h′ : Held} (p′ : Place) (q : List ℕ) → held p′ ≡ h′ → Released (m .row SPARE-REGIONS) q (held p) h′
+  pub released : {h′ : Held} (p′ : Place) (q : List ℕ) → held p′ ≡ h′
+      → RegionsExchanged (m .row SPARE-REGIONS) q (held p) h′
       → PlaceHolds k p′
       → NoteHolds (update (m .row) SPARE-REGIONS q)
       (update (m .won) SPARE-REGIONS (m .won SPARE-REGIONS + 1)) (m .map) p′
-      → Invariant area (at t k p′ (setRow SPARE-REGIONS q m))
+      → Invariant area (atPlace t k p′ (setRow SPARE-REGIONS q m))
   released p′ q e s o n = turn-inv w _ (taskOf p′ k) refl (record {
     descriptors = λ x. omega (
       arith,

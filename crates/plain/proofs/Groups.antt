@@ -15,7 +15,7 @@ use Rattle.rows.proofs.Pigeonhole.{pigeonhole, pigeonhole-full}
 use Rattle.classes.specs.Classes.{perRegion}
 use Rattle.classes.specs.Geometry.{regionOf}
 use Rattle.plain.specs.State.{Place, Mem}
-use Rattle.plain.specs.Blocks.{blocksFrom, isBlock}
+use Rattle.plain.specs.Blocks.{blocksFrom, countBlock}
 use Rattle.plain.specs.Held.{classAt, underWay}
 use Rattle.plain.specs.Weights.{chainWeight, blockWeight}
 use Rattle.plain.specs.Places.{Together}
@@ -72,7 +72,7 @@ module _ {area : ℕ} {m : Mem} {t : ℕ} {p : Place} {k : ℕ → List ℕ} {c 
   ]
 
   -- A block of the group is one of the region's.
-  of-group : (v : ℕ) → 1 ≤ count v (y ∷ g) → isBlock v (m .descriptor d .region) (m .descriptor d .class) ≡ 1
+  of-group : (v : ℕ) → 1 ≤ count v (y ∷ g) → countBlock v (m .descriptor d .region) (m .descriptor d .class) ≡ 1
   of-group v h =
       let f = home-of w v (omega (arith, counted v)) in
       let e : f .d ≡ d = omega (arith, f .named, ap (m .map) (same-region v h), G .named) in
@@ -81,7 +81,7 @@ module _ {area : ℕ} {m : Mem} {t : ℕ} {p : Place} {k : ℕ → List ℕ} {c 
   -- So are the group and the chain together, each block once, and the block being freed is not among them.
   pub group-joined : (v : ℕ)
       → (count v (y ∷ (g ++ m .descriptor d .chain)) ≡ count v (y ∷ g) + count v (m .descriptor d .chain))
-      × (count v (y ∷ (g ++ m .descriptor d .chain)) ≤ isBlock v (m .descriptor d .region) (m .descriptor d .class))
+      × (count v (y ∷ (g ++ m .descriptor d .chain)) ≤ countBlock v (m .descriptor d .region) (m .descriptor d .class))
       × (one v u + count v (y ∷ (g ++ m .descriptor d .chain)) ≤ 1)
   group-joined v =
       let e = count-append v g (m .descriptor d .chain) in
@@ -109,7 +109,7 @@ module _ {area : ℕ} {m : Mem} {t : ℕ} {p : Place} {k : ℕ → List ℕ} {c 
 
   -- If they have n, they are all of the region's blocks.
   pub group-whole : length (y ∷ (g ++ m .descriptor d .chain)) ≡ perRegion c → (v : ℕ)
-      → isBlock v (m .descriptor d .region) (m .descriptor d .class) ≡ count v (y ∷ (g ++ m .descriptor d .chain))
+      → countBlock v (m .descriptor d .region) (m .descriptor d .class) ≡ count v (y ∷ (g ++ m .descriptor d .chain))
   group-whole e v =
       isBlock-row v (m .descriptor d .region) (m .descriptor d .class)
       ∙ sym (pigeonhole-full (y ∷ (g ++ m .descriptor d .chain)) all among (e ∙ sym all-length) v)

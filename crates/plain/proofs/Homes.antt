@@ -11,7 +11,7 @@ use Rattle.rows.proofs.Totals.{total-le, total-one, total-found}
 use Rattle.classes.specs.Geometry.{regionOf, Block}
 use Rattle.classes.proofs.BlockUnits.{region-is}
 use Rattle.plain.specs.State.{Mem}
-use Rattle.plain.specs.Blocks.{isBlock}
+use Rattle.plain.specs.Blocks.{countBlock}
 use Rattle.plain.specs.States.{IsOpen}
 use Rattle.plain.specs.Held.{classAt, underWay}
 use Rattle.plain.specs.Weights.{insideWeight, insideClassWeight, openWeight, blockClassWeight}
@@ -35,8 +35,8 @@ module _ {area : ℕ} {m : Mem} (I : Invariant area m) where
   home c v e =
       let f = total-found DESCRIPTORS (insideClassWeight c v) (m .descriptor) e in
       let D = m .descriptor (f .at) in
-      let g = open-counts (D .state) (when c (D .class) (isBlock v (D .region) (D .class))) (f .has) in
-      let s = when-is c (D .class) (isBlock v (D .region) (D .class)) (g .0) in
+      let g = open-counts (D .state) (when c (D .class) (countBlock v (D .region) (D .class))) (f .has) in
+      let s = when-is c (D .class) (countBlock v (D .region) (D .class)) (g .0) in
       let b : Block (D .region) (D .class) v = counts-block (D .region) (D .class) v (s .1) in
       record {
         d = f .at;
@@ -66,7 +66,7 @@ module _ {area : ℕ} {m : Mem} (I : Invariant area m) where
   class-inside c v =
       total-le DESCRIPTORS (insideClassWeight c v) (insideWeight v) (m .descriptor) (λ i l.
       let D = m .descriptor i in
-      open-le (D .state) (when-max c (D .class) (isBlock v (D .region) (D .class))))
+      open-le (D .state) (when-max c (D .class) (countBlock v (D .region) (D .class))))
 
   -- What a task has under way is of its place's class, in an open region.
   pub underWay-class : (t v : ℕ) → t < TASKS

@@ -6,12 +6,12 @@ use native.Mathlib.Omega.{arith}
 use lib.ListN.{length}
 use Rattle.limits.specs.Limits.{TASKS}
 use Rattle.rows.proofs.Weights.{when-same}
-use Rattle.plain.specs.State.{State, EMPTY, PARTIAL, FULL, numberOf, Note, a3-exchange, f3-read, f3-link}
+use Rattle.plain.specs.State.{State, EMPTY, PARTIAL, FULL, stateNumber, Note, a3-exchange, f3-read, f3-link}
 use Rattle.plain.specs.State.{f3-exchange, Mem, working}
 use Rattle.plain.specs.Steps.{popList, AsNoted}
-use Rattle.plain.specs.States.{isFull}
+use Rattle.plain.specs.States.{oneIfFull}
 use Rattle.plain.specs.Invariant.{Invariant}
-use Rattle.plain.specs.Never.{Top, GroupFits, GroupNamed, NeverHappens}
+use Rattle.plain.specs.Never.{TopItem, GroupFits, GroupNamed, NeverHappens}
 use Rattle.plain.proofs.States.{is-open}
 use Rattle.plain.proofs.Places.{turnAt, placeHolds, noteHolds}
 use Rattle.plain.proofs.Owners.{home-of}
@@ -20,12 +20,12 @@ use Rattle.plain.proofs.Takes.{taken}
 use Rattle.plain.proofs.Groups.{Grouped, group-fits}
 
 -- A row with an item has a top item.
-pub top-item : (q : List ℕ) → 1 ≤ length q → Top q
+pub top-item : (q : List ℕ) → 1 ≤ length q → TopItem q
 top-item [] h = absurd (omega arith)
 top-item (x ∷ q) h = record { item = x; rest = q; is = refl }
 
 -- A state with the number 1 is PARTIAL.
-partial-is : (s : State) → numberOf s ≡ 1 → s ≡ PARTIAL
+partial-is : (s : State) → stateNumber s ≡ 1 → s ≡ PARTIAL
 partial-is EMPTY e = absurd (omega arith)
 partial-is PARTIAL e = refl
 partial-is FULL e = absurd (omega arith)
@@ -47,10 +47,10 @@ module _ {area : ℕ} {m : Mem} {t : ℕ} (I : Invariant area m) (l : t < TASKS)
       }
 
   takes : (c d : ℕ) (n : Note) → m .task t .place ≡ working (a3-exchange c d n) → AsNoted (m .descriptor d) n
-      → (n .state ≡ PARTIAL) × Top (m .descriptor d .chain)
+      → (n .state ≡ PARTIAL) × TopItem (m .descriptor d .chain)
   takes c d n e s =
       let T = taken (turnAt I l e) s in (
-        partial-is (n .state) (omega (arith, s, ap numberOf (T .state))),
+        partial-is (n .state) (omega (arith, s, ap stateNumber (T .state))),
         top-item (m .descriptor d .chain) (T .chain .0),
       )
 
@@ -79,7 +79,7 @@ module _ {area : ℕ} {m : Mem} {t : ℕ} (I : Invariant area m) (l : t < TASKS)
     groupStep = λ c u g e h. top-item g (omega (arith, placeHolds (turnAt I l e), ap length h));
     freeReads = reads;
     allocateReads = λ c d e h.
-        absurd (omega (arith, in-hand (turnAt I l e) d (omega (arith, when-same d 1)), ap isFull h));
+        absurd (omega (arith, in-hand (turnAt I l e) d (omega (arith, when-same d 1)), ap oneIfFull h));
     allocateTakes = takes;
     freeLinks = links;
     freeReturns = returns;

@@ -13,7 +13,7 @@ use Rattle.rows.proofs.Totals.{total-one, total-two, total-zero, total-only, to
 use Rattle.classes.specs.Geometry.{regionOf, Block}
 use Rattle.classes.proofs.BlockUnits.{region-is}
 use Rattle.plain.specs.State.{Mem}
-use Rattle.plain.specs.Blocks.{isBlock}
+use Rattle.plain.specs.Blocks.{countBlock}
 use Rattle.plain.specs.States.{IsOpen}
 use Rattle.plain.specs.Weights.{rowWeight, insideWeight, insideClassWeight, chainWeight, openWeight, blockWeight}
 use Rattle.plain.specs.Weights.{blockClassWeight}
@@ -29,7 +29,7 @@ module _ {area : ℕ} {m : Mem} (I : Invariant area m) where
   chain-inside : (v i : ℕ) → i < DESCRIPTORS → chainWeight v i (m .descriptor i) ≤ insideWeight v i (m .descriptor i)
   chain-inside v i l =
       let D = m .descriptor i in
-      open-le-asked (D .state) (count v (D .chain)) (isBlock v (D .region) (D .class))
+      open-le-asked (D .state) (count v (D .chain)) (countBlock v (D .region) (D .class))
       (open-map (D .state) (λ g h. h .inside v) (I .chains i l))
 
   -- A block of a descriptor's region lies in that region.
@@ -43,7 +43,7 @@ module _ {area : ℕ} {m : Mem} (I : Invariant area m) where
     fits : d < DESCRIPTORS
     counts : IsOpen (m .descriptor d .state)
     one-region : openWeight (regionOf v) d (m .descriptor d) ≡ 1
-    is-block : isBlock v (m .descriptor d .region) (m .descriptor d .class) ≡ 1
+    is-block : countBlock v (m .descriptor d .region) (m .descriptor d .class) ≡ 1
     others : (i : ℕ) → i < DESCRIPTORS → i ≢ d → insideWeight v i (m .descriptor i) ≡ 0
 
   of : (v d : ℕ) → OpenBlock m v d → Of v d
@@ -75,7 +75,7 @@ module _ {area : ℕ} {m : Mem} (I : Invariant area m) where
   found v h =
       let f = total-found DESCRIPTORS (insideWeight v) (m .descriptor) h in
       let D = m .descriptor (f .at) in
-      let g = open-counts (D .state) (isBlock v (D .region) (D .class)) (f .has) in
+      let g = open-counts (D .state) (countBlock v (D .region) (D .class)) (f .has) in
       let b : Block (D .region) (D .class) v = counts-block (D .region) (D .class) v (g .0) in (
         f .at,
         record {
@@ -101,7 +101,7 @@ module _ {area : ℕ} {m : Mem} (I : Invariant area m) where
             total-only DESCRIPTORS (chainWeight v) (m .descriptor) d (f .fits)
                 (λ i l n. omega (arith, chain-inside v i l, f .others i l n)),
             f .counts (count v (D .chain)),
-            f .counts (isBlock v (D .region) (D .class)),
+            f .counts (countBlock v (D .region) (D .class)),
             f .is-block,
           )
 
@@ -117,13 +117,13 @@ module _ {area : ℕ} {m : Mem} (I : Invariant area m) where
                 | same e ↦ (let z : m .descriptor i .class ≡ m .descriptor d .class = rw e in
                     omega (
                       arith,
-                      open-max (D .state) (when c (D .class) (isBlock v (D .region) (D .class))),
-                      when-other c (D .class) (isBlock v (D .region) (D .class)) (λ f. n (f ∙ z)),
+                      open-max (D .state) (when c (D .class) (countBlock v (D .region) (D .class))),
+                      when-other c (D .class) (countBlock v (D .region) (D .class)) (λ f. n (f ∙ z)),
                     ))
                 | other e ↦ omega (
                   arith,
                   of v d b .others i l e,
-                  open-le (D .state) (when-max c (D .class) (isBlock v (D .region) (D .class))),
+                  open-le (D .state) (when-max c (D .class) (countBlock v (D .region) (D .class))),
                 )
               ]
 

@@ -8,7 +8,7 @@ use Rattle.limits.specs.Limits.{TASKS}
 use Rattle.rows.proofs.Weights.{when-zero}
 use Rattle.classes.specs.Classes.{perRegion}
 use Rattle.plain.specs.State.{Place, Task, Mem}
-use Rattle.plain.specs.Steps.{at}
+use Rattle.plain.specs.Steps.{atPlace}
 use Rattle.plain.specs.Held.{hold, held, blockIn, classBlockIn, descriptorIn, spareIn, listedIn, regionIn}
 use Rattle.plain.specs.Held.{unmappedIn}
 use Rattle.plain.specs.Places.{NoteHolds, PlaceHolds}
@@ -42,7 +42,7 @@ module _ {area : ℕ} {m : Mem} {t : ℕ} {p : Place} {k : ℕ → List ℕ} (w 
 
   -- A step to a place that holds the same keeps the invariant.
   pub placed : (p′ : Place) → held p′ ≡ held p → PlaceHolds k p′ → NoteHolds (m .row) (m .won) (m .map) p′
-      → Invariant area (at t k p′ m)
+      → Invariant area (atPlace t k p′ m)
   placed p′ e h n = within w (taskOf p′ k) (record {
     blocks = λ v. omega (arith, ap (blockIn v) e);
     blockClasses = λ c v. omega (arith, ap (classBlockIn c v) e);
@@ -55,7 +55,7 @@ module _ {area : ℕ} {m : Mem} {t : ℕ} {p : Place} {k : ℕ → List ℕ} (w 
 
   -- So does a step between places that hold nothing, of whatever class.
   pub placed-empty : {c e : ℕ} (p′ : Place) → held p ≡ hold c [] [] [] [] → held p′ ≡ hold e [] [] [] []
-      → PlaceHolds k p′ → NoteHolds (m .row) (m .won) (m .map) p′ → Invariant area (at t k p′ m)
+      → PlaceHolds k p′ → NoteHolds (m .row) (m .won) (m .map) p′ → Invariant area (atPlace t k p′ m)
   placed-empty {c} {e} p′ a b h n = within w (taskOf p′ k) (record {
     blocks = λ v. omega (arith, ap (blockIn v) a, ap (blockIn v) b);
     blockClasses = λ f v.

@@ -19,8 +19,8 @@ use Rattle.classes.proofs.Tables.{perRegion-low}
 use Rattle.plain.specs.State.{State, EMPTY, FULL, Descriptor, read, release, pushing, a7, a8, f4-clear, Task, Mem}
 use Rattle.plain.specs.State.{working}
 use Rattle.plain.specs.Steps.{a7Step, stepAt}
-use Rattle.plain.specs.Blocks.{blocksFrom, isBlock}
-use Rattle.plain.specs.States.{ifOpen, IsOpen, IfOpen, IfEmpty, isFull, isEmpty}
+use Rattle.plain.specs.Blocks.{blocksFrom, countBlock}
+use Rattle.plain.specs.States.{ifOpen, IsOpen, IfOpen, IfEmpty, oneIfFull, oneIfEmpty}
 use Rattle.plain.specs.Weights.{insideWeight, insideClassWeight, chainWeight, chainClassWeight, openWeight}
 use Rattle.plain.specs.Weights.{fullWeight, descriptorClassWeight, regionWeight}
 use Rattle.plain.specs.Invariant.{OpenDescriptor, ClosedDescriptor, Invariant}
@@ -109,15 +109,15 @@ module _ {area : ℕ} {m : Mem} {t : ℕ} {k : ℕ → List ℕ} where
         descriptors = λ x. omega (
           arith,
           total-update DESCRIPTORS (fullWeight x) F d E fits,
-          ap (λ (s : State). when x d (isFull s)) empty,
+          ap (λ (s : State). when x d (oneIfFull s)) empty,
           when-zero x d,
         );
         regions = λ x. omega (arith, total-update DESCRIPTORS (openWeight x) F d E fits, shut (one x (D .region)));
         classes = λ f x h. classes f x;
         spares = λ x. fewer (omega (
           arith,
-          weight-update (λ (G : Descriptor). isEmpty (G .state)) F d E x,
-          ap (λ (s : State). when x d (isEmpty s)) empty,
+          weight-update (λ (G : Descriptor). oneIfEmpty (G .state)) F d E x,
+          ap (λ (s : State). when x d (oneIfEmpty s)) empty,
           when-zero x d,
         ));
         blocks = λ v. omega (
@@ -126,7 +126,7 @@ module _ {area : ℕ} {m : Mem} {t : ℕ} {k : ℕ → List ℕ} where
           total-update DESCRIPTORS (insideWeight v) F d E fits,
           to-carve v,
           shut (count v (D .chain)),
-          shut (isBlock v (D .region) (D .class)),
+          shut (countBlock v (D .region) (D .class)),
         );
         blockClasses = λ f v. omega (
           arith,
@@ -135,7 +135,7 @@ module _ {area : ℕ} {m : Mem} {t : ℕ} {k : ℕ → List ℕ} where
           total-update DESCRIPTORS (insideClassWeight f v) F d E fits,
           ap (when f c) (to-carve v),
           shut (when f (D .class) (count v (D .chain))),
-          shut (when f (D .class) (isBlock v (D .region) (D .class))),
+          shut (when f (D .class) (countBlock v (D .region) (D .class))),
           when-zero f c,
         );
         chains = update-all (λ j G. j < DESCRIPTORS → IfOpen (G .state) (OpenDescriptor G)) F d E
@@ -174,7 +174,7 @@ module _ {area : ℕ} {m : Mem} {t : ℕ} {k : ℕ → List ℕ} where
       shut i = ap (λ (s : State). ifOpen s i) empty
 
       -- the blocks to be carved are those of the region
-      to-carve : (v : ℕ) → count v (blocksFrom r c 0 (perRegion c - 0)) ≡ isBlock v r c
+      to-carve : (v : ℕ) → count v (blocksFrom r c 0 (perRegion c - 0)) ≡ countBlock v r c
       to-carve v =
           ap (λ (n : ℕ). count v (blocksFrom r c 0 n)) (sub-zero (perRegion c)) ∙ sym (isBlock-row v r c)
 
@@ -188,7 +188,7 @@ module _ {area : ℕ} {m : Mem} {t : ℕ} {k : ℕ → List ℕ} where
         | same h ↦ rw h (enough (omega (
           arith,
           total-one DESCRIPTORS (fullWeight d) (update (m .descriptor) d E) d fits,
-          ap (λ (G : Descriptor). when d d (isFull (G .state))) (update-same (m .descriptor) d E),
+          ap (λ (G : Descriptor). when d d (oneIfFull (G .state))) (update-same (m .descriptor) d E),
           when-same d 1,
         )))
         | other h ↦

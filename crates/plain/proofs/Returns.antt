@@ -9,10 +9,11 @@ use Rattle.rows.specs.Weights.{when, one}
 use Rattle.rows.specs.Counting.{count}
 use Rattle.rows.proofs.Weights.{when-add, when-le, when-zero}
 use Rattle.classes.specs.Classes.{perRegion}
-use Rattle.plain.specs.State.{State, EMPTY, PARTIAL, FULL, numberOf, Descriptor, Note, f3-exchange, Mem, working}
-use Rattle.plain.specs.Steps.{AsNoted, asNoted?, returned, f3Exchange}
-use Rattle.plain.specs.Blocks.{isBlock}
-use Rattle.plain.specs.States.{isFull}
+use Rattle.plain.specs.State.{State, EMPTY, PARTIAL, FULL, stateNumber, Descriptor, Note, f3-exchange, Mem}
+use Rattle.plain.specs.State.{working}
+use Rattle.plain.specs.Steps.{AsNoted, asNoted?, f3Won, f3Exchange}
+use Rattle.plain.specs.Blocks.{countBlock}
+use Rattle.plain.specs.States.{oneIfFull}
 use Rattle.plain.specs.Held.{owed}
 use Rattle.plain.specs.Invariant.{all-returned}
 use Rattle.plain.proofs.Tests.{either, KeepsInvariant}
@@ -26,7 +27,7 @@ use Rattle.plain.proofs.Groups.{Grouped, group-owner, group-opened, gro
 -- ---- what a free owes
 
 -- A free that found FULL owes the descriptor, which then is no longer counted as FULL.
-owed-full : (s s′ : State) (x d : ℕ) → numberOf s ≡ numberOf s′ → count x (owed s′ d) ≡ when x d (isFull s)
+owed-full : (s s′ : State) (x d : ℕ) → stateNumber s ≡ stateNumber s′ → count x (owed s′ d) ≡ when x d (oneIfFull s)
 owed-full EMPTY EMPTY x d e = sym (when-zero x d)
 owed-full EMPTY PARTIAL x d e = absurd (omega arith)
 owed-full EMPTY FULL x d e = absurd (omega arith)
@@ -88,7 +89,7 @@ module _ {area : ℕ} {m : Mem} {t c u y d : ℕ} {g : List ℕ} {n : Note} {k :
 
   -- Fewer than n blocks: PARTIAL.
   to-partial : AsNoted (m .descriptor d) n → (h : ¬ (length joined ≡ perRegion c))
-      → KeepsInvariant area (returned t k (no h) c u y g d (n .state) m)
+      → KeepsInvariant area (f3Won t k (no h) c u y g d (n .state) m)
   to-partial s no-end =
       let o = own .counts in
       anchored w _ d _ (f5-held (n .state) c u d (k c)) (record {
@@ -101,12 +102,12 @@ module _ {area : ℕ} {m : Mem} {t c u y d : ℕ} {g : List ℕ} {n : Note} {k :
         unmapped = λ r. omega arith;
         classes = λ f x. omega (arith, owed-class f x);
         spares = λ x. omega arith;
-        blocks = λ v. omega (arith, moved v, o (count v (D .chain)), o (isBlock v (D .region) (D .class)));
+        blocks = λ v. omega (arith, moved v, o (count v (D .chain)), o (countBlock v (D .region) (D .class)));
         blockClasses = λ f v. omega (
           arith,
           moved-class f v,
           o (when f (D .class) (count v (D .chain))),
-          o (when f (D .class) (isBlock v (D .region) (D .class))),
+          o (when f (D .class) (countBlock v (D .region) (D .class))),
           of-class f (count v (D .chain)),
           of-class f (count v joined),
         );
@@ -122,7 +123,7 @@ module _ {area : ℕ} {m : Mem} {t c u y d : ℕ} {g : List ℕ} {n : Note} {k :
 
   -- n blocks: EMPTY, and the region is no longer open, but held by the task.
   to-empty : AsNoted (m .descriptor d) n → (h : length joined ≡ perRegion c)
-      → KeepsInvariant area (returned t k (yes h) c u y g d (n .state) m)
+      → KeepsInvariant area (f3Won t k (yes h) c u y g d (n .state) m)
   to-empty s end =
       let o = own .counts in
       anchored w _ d _ refl (record {
@@ -140,15 +141,15 @@ module _ {area : ℕ} {m : Mem} {t c u y d : ℕ} {g : List ℕ} {n : Note} {k :
           moved v,
           group-whole w group end v,
           o (count v (D .chain)),
-          o (isBlock v (D .region) (D .class)),
+          o (countBlock v (D .region) (D .class)),
         );
         blockClasses = λ f v. omega (
           arith,
           moved-class f v,
           o (when f (D .class) (count v (D .chain))),
-          o (when f (D .class) (isBlock v (D .region) (D .class))),
+          o (when f (D .class) (countBlock v (D .region) (D .class))),
           of-class f (count v (D .chain)),
-          of-class f (isBlock v (D .region) (D .class)),
+          of-class f (countBlock v (D .region) (D .class)),
           ap (when f c) (group-whole w group end v),
         );
         chain = tt;
@@ -163,8 +164,8 @@ module _ {area : ℕ} {m : Mem} {t c u y d : ℕ} {g : List ℕ} {n : Note} {k :
       (λ s. by (ℕ-discrete (length joined) (perRegion c)) (to-empty s) (to-partial s))
       (λ s. placed w _ refl (placeHolds w .0, placeHolds w .1, placeHolds w .2) tt)
     where
-      by : {P : Type 0} (e : Dec P) → ((h : P) → KeepsInvariant area (returned t k (yes h) c u y g d (n .state) m))
-          → ((h : ¬ P) → KeepsInvariant area (returned t k (no h) c u y g d (n .state) m))
-          → KeepsInvariant area (returned t k e c u y g d (n .state) m)
+      by : {P : Type 0} (e : Dec P) → ((h : P) → KeepsInvariant area (f3Won t k (yes h) c u y g d (n .state) m))
+          → ((h : ¬ P) → KeepsInvariant area (f3Won t k (no h) c u y g d (n .state) m))
+          → KeepsInvariant area (f3Won t k e c u y g d (n .state) m)
       by (yes h) a b = a h
       by (no h) a b = b h

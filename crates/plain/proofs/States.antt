@@ -4,7 +4,7 @@ use Prim.Native.Nat.{ℕ, _≤_}
 use native.Mathlib.Omega.{arith}
 use Rattle.plain.specs.State.{State, EMPTY, PARTIAL, FULL}
 use Rattle.plain.specs.Calls.{NotEmpty}
-use Rattle.plain.specs.States.{ifOpen, IsOpen, IfOpen, isEmpty}
+use Rattle.plain.specs.States.{ifOpen, IsOpen, IfOpen, oneIfEmpty}
 
 -- ---- what counts while an anchor is not EMPTY
 
@@ -57,7 +57,7 @@ open-asks PARTIAL x = x
 open-asks FULL x = x
 
 -- An open anchor does not count as EMPTY.
-pub open-not-empty : (z : State) → IsOpen z → isEmpty z ≡ 0
+pub open-not-empty : (z : State) → IsOpen z → oneIfEmpty z ≡ 0
 open-not-empty EMPTY h = absurd (omega (arith, h 1))
 open-not-empty PARTIAL h = refl
 open-not-empty FULL h = refl
@@ -83,7 +83,7 @@ state? PARTIAL = is-partial refl
 state? FULL = is-full refl
 
 -- A state that counts as EMPTY is EMPTY.
-pub empty-is : (s : State) → 1 ≤ isEmpty s → s ≡ EMPTY
+pub empty-is : (s : State) → 1 ≤ oneIfEmpty s → s ≡ EMPTY
 empty-is EMPTY h = refl
 empty-is PARTIAL h = absurd (omega arith)
 empty-is FULL h = absurd (omega arith)

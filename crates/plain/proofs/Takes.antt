@@ -10,11 +10,11 @@ use Rattle.rows.specs.Weights.{when, one}
 use Rattle.rows.specs.Counting.{count}
 use Rattle.rows.proofs.Weights.{when-same, when-other, when-zero}
 use Rattle.classes.specs.Classes.{perRegion}
-use Rattle.plain.specs.State.{State, EMPTY, PARTIAL, FULL, numberOf, Note, read, retire, pushing, a3-read}
+use Rattle.plain.specs.State.{State, EMPTY, PARTIAL, FULL, stateNumber, Note, read, retire, pushing, a3-read}
 use Rattle.plain.specs.State.{a3-exchange, Mem, setDescriptor, working}
-use Rattle.plain.specs.Steps.{moving, AsNoted, asNoted?, chained, at, a3Read, a3Exchange, to}
-use Rattle.plain.specs.Blocks.{isBlock}
-use Rattle.plain.specs.States.{ifOpen, IsOpen, isFull, isEmpty}
+use Rattle.plain.specs.Steps.{moving, AsNoted, asNoted?, chained, a3Read, a3Exchange, atWork}
+use Rattle.plain.specs.Blocks.{countBlock}
+use Rattle.plain.specs.States.{ifOpen, IsOpen, oneIfFull, oneIfEmpty}
 use Rattle.plain.specs.Invariant.{ChainLength, OpenDescriptor, Invariant}
 use Rattle.plain.proofs.Tests.{either, KeepsInvariant}
 use Rattle.plain.proofs.States.{open-holds, IsState, is-empty, is-partial, is-full, state?}
@@ -37,15 +37,15 @@ pub taken : {area : ℕ} {m : Mem} {t : ℕ} {k : ℕ → List ℕ} {c d : ℕ} 
     → Turn area m t (taskOf (working (a3-exchange c d n)) k) → AsNoted (m .descriptor d) n → TakenChain m c d
 taken {m = m} {c = c} {d = d} {n = n} w s = by (state? (m .descriptor d .state))
   where
-    hand : (d < DESCRIPTORS) × (isFull (m .descriptor d .state) ≡ 0)
+    hand : (d < DESCRIPTORS) × (oneIfFull (m .descriptor d .state) ≡ 0)
     hand = in-hand w d (omega (arith, when-same d 1))
 
     of-class : c ≡ m .descriptor d .class
     of-class = class-of w c d (placeHolds w .0) (omega (arith, when-same c (one d d + 0), when-same d 1))
 
     by : IsState (m .descriptor d .state) → TakenChain m c d
-    by (is-empty e) = absurd (omega (arith, s, placeHolds w .2, ap numberOf e))
-    by (is-full e) = absurd (omega (arith, hand .1, ap isFull e))
+    by (is-empty e) = absurd (omega (arith, s, placeHolds w .2, ap stateNumber e))
+    by (is-full e) = absurd (omega (arith, hand .1, ap oneIfFull e))
     by (is-partial e) =
         let D = m .descriptor d in
         let o : IsOpen (D .state) = λ i. ap (λ (z : State). ifOpen z i) e in
@@ -70,7 +70,7 @@ module _ {area : ℕ} {m : Mem} {t : ℕ} {k : ℕ → List ℕ} where
     regions = λ r. omega arith;
     classes = λ f x l. fewer (omega (arith, when-zero f c));
     spares = λ x. elim (same? x d) [
-      | same f ↦ enough (rw f (omega (arith, ap isEmpty e)))
+      | same f ↦ enough (rw f (omega (arith, ap oneIfEmpty e)))
       | other f ↦ fewer (omega (arith, when-other x d 1 f))
     ];
     blocks = λ v. omega arith;
@@ -85,14 +85,14 @@ module _ {area : ℕ} {m : Mem} {t : ℕ} {k : ℕ → List ℕ} where
     exchanges = λ ℓ. as-before refl refl;
   })
   a3-read-inv c d PARTIAL e w = placed w _ refl
-      (placeHolds w .0, placeHolds w .1, omega (arith, ap numberOf e)) (omega (arith, when-same d 1))
+      (placeHolds w .0, placeHolds w .1, omega (arith, ap stateNumber e)) (omega (arith, when-same d 1))
   a3-read-inv c d FULL e w = placed w _ refl
-      (placeHolds w .0, placeHolds w .1, omega (arith, ap numberOf e)) (omega (arith, when-same d 1))
+      (placeHolds w .0, placeHolds w .1, omega (arith, ap stateNumber e)) (omega (arith, when-same d 1))
 
   -- The won exchange: the chain's blocks are under way from now on.
   take-inv : (c d : ℕ) (n : Note) (q : List ℕ) → m .descriptor d .chain ≡ q
       → Turn area m t (taskOf (working (a3-exchange c d n)) k) → AsNoted (m .descriptor d) n
-      → Invariant area (to t k (moving c q) (setDescriptor d (chained (m .descriptor d) FULL []) m))
+      → Invariant area (atWork t k (moving c q) (setDescriptor d (chained (m .descriptor d) FULL []) m))
   take-inv c d n [] e w s = absurd (omega (arith, taken w s .chain, ap length e))
   take-inv c d n (y ∷ q) e w s =
       let D = m .descriptor d in
@@ -102,7 +102,7 @@ module _ {area : ℕ} {m : Mem} {t : ℕ} {k : ℕ → List ℕ} where
         counts = T .counts;
         class = refl;
         region = refl;
-        descriptors = λ x. omega (arith, ap (when x d) (ap isFull (T .state)), when-zero x d);
+        descriptors = λ x. omega (arith, ap (when x d) (ap oneIfFull (T .state)), when-zero x d);
         regions = λ r. omega (arith, T .counts (one r (D .region)));
         unmapped = λ r. omega arith;
         classes = λ f x. omega (arith, when-zero f c);
@@ -111,12 +111,12 @@ module _ {area : ℕ} {m : Mem} {t : ℕ} {k : ℕ → List ℕ} where
           arith,
           ap (count v) e,
           T .counts (count v (D .chain)),
-          T .counts (isBlock v (D .region) (D .class)),
+          T .counts (countBlock v (D .region) (D .class)),
         );
         blockClasses = λ f v. omega (
           arith,
           T .counts (when f (D .class) (count v (D .chain))),
-          T .counts (when f (D .class) (isBlock v (D .region) (D .class))),
+          T .counts (when f (D .class) (countBlock v (D .region) (D .class))),
           ap (λ (z : ℕ). when f z (count v (y ∷ q))) (T .class),
           ap (λ (z : List ℕ). when f (D .class) (count v z)) e,
           when-zero f (D .class),

@@ -13,8 +13,7 @@ use Rattle.rows.proofs.Weights.{below-max}
 use Rattle.rows.proofs.Totals.{total-le, total-one, total-update}
 use Rattle.classes.specs.Geometry.{regionOf}
 use Rattle.plain.specs.State.{Task, Mem, setTask}
-use Rattle.plain.specs.Steps.{at}
-use Rattle.plain.specs.States.{IfOpen, IfEmpty, isEmpty}
+use Rattle.plain.specs.States.{IfOpen, IfEmpty, oneIfEmpty}
 use Rattle.plain.specs.Held.{classAt, underWay, held}
 use Rattle.plain.specs.Weights.{rowWeight, insideWeight, insideClassWeight, chainWeight, chainClassWeight}
 use Rattle.plain.specs.Weights.{openWeight, fullWeight, blockWeight, blockClassWeight, descriptorWeight}
@@ -64,8 +63,8 @@ pub record Balanced (m : Mem) (t : ℕ) (T : Task) (m′ : Mem) (T′ : Task) : 
   pub spares : (x : ℕ) → Asked
       (count x (m .row SPARE-DESCRIPTORS) + spareWeight x t T)
       (count x (m′ .row SPARE-DESCRIPTORS) + spareWeight x t T′)
-      (isEmpty (m .descriptor x .state))
-      (isEmpty (m′ .descriptor x .state))
+      (oneIfEmpty (m .descriptor x .state))
+      (oneIfEmpty (m′ .descriptor x .state))
       (total DESCRIPTORS (fullWeight x) (m′ .descriptor))
   pub blocks : (v : ℕ)
       → m′ .hands v + blockWeight v t T′ + total DESCRIPTORS (chainWeight v) (m′ .descriptor)
@@ -159,11 +158,11 @@ module _ {area : ℕ} {m : Mem} {t : ℕ} {T : Task} (w : Turn area m t T) where
       spares : (x : ℕ) → Asked
           (count x (m .row SPARE-DESCRIPTORS) + spareWeight x t T)
           (count x (m′ .row SPARE-DESCRIPTORS) + spareWeight x t T′)
-          (isEmpty (m .descriptor x .state))
-          (isEmpty (m′ .descriptor x .state))
+          (oneIfEmpty (m .descriptor x .state))
+          (oneIfEmpty (m′ .descriptor x .state))
           (total DESCRIPTORS (fullWeight x) (m′ .descriptor))
           → count x (m′ .row SPARE-DESCRIPTORS) + total TASKS (spareWeight x) (m′ .task)
-          ≤ isEmpty (m′ .descriptor x .state)
+          ≤ oneIfEmpty (m′ .descriptor x .state)
       spares x (fewer h) = omega (arith, w .inv .spares x, retask (spareWeight x))
       spares x (enough h) =
           omega (arith, once (spareWeight x) x SPARE-DESCRIPTORS (omega arith) (λ i. spare-held x (m′ .task i .place)))

@@ -11,5 +11,5 @@ blocksFrom r c i zero = []
 blocksFrom r c i (suc k) = unitOf r c i ∷ blocksFrom r c (suc i) k
 
 -- how often the unit v stands among the n blocks of class c of the region r: 1 if it is one of them, else 0
-unfoldable pub isBlock : ℕ → ℕ → ℕ → ℕ
-isBlock v r c = count v (blocksFrom r c 0 (perRegion c))
+unfoldable pub countBlock : ℕ → ℕ → ℕ → ℕ
+countBlock v r c = count v (blocksFrom r c 0 (perRegion c))

@@ -4,7 +4,7 @@ use mathlib.Core.Path.{_≡_}
 use mathlib.Core.List.{List, _∷_, []}
 use Prim.Native.Nat.{ℕ, zero, suc, _*_, _/_, _%_, _≤_, _<_}
 use native.Mathlib.Decide.{ℕ-discrete, decLt, decLe}
-use Rattle.limits.specs.Limits.{CONTROL-BYTES, REGION-BYTES, AREA-BYTES, REGION-UNITS, TASKS, DESCRIPTORS, MOST-BYTES}
+use Rattle.limits.specs.Limits.{CONTROL-BYTES, REGION-BYTES, AREA-BYTES, REGION-UNITS, TASKS, DESCRIPTORS, LARGEST-SIZE}
 use Rattle.limits.specs.Limits.{SPARE-DESCRIPTORS, SPARE-REGIONS}
 use Rattle.rows.specs.Branch.{if, both}
 use Rattle.classes.specs.Classes.{units, perRegion}
@@ -63,18 +63,20 @@ startMem regions = record {
 }
 
 -- "2 area length zero, no multiple of 4,096 or above 65,536"
-abbrev pub Area : ℕ → Type 0
-Area area = (area % REGION-BYTES ≡ 0) × ((0 < area) × (area ≤ AREA-BYTES))
+abbrev pub StartArea : ℕ → Type 0
+StartArea area = (area % REGION-BYTES ≡ 0) × ((0 < area) × (area ≤ AREA-BYTES))
 
-abbrev pub area? : (area : ℕ) → Dec (Area area)
-area? area = both (ℕ-discrete (area % REGION-BYTES) 0) (both (decLt 0 area) (decLe area AREA-BYTES))
+-- whether it is so
+abbrev pub startArea? : (area : ℕ) → Dec (StartArea area)
+startArea? area = both (ℕ-discrete (area % REGION-BYTES) 0) (both (decLt 0 area) (decLe area AREA-BYTES))
 
 -- "3 tasks not 1 to 8"
-abbrev pub Tasks : ℕ → Type 0
-Tasks n = (1 ≤ n) × (n ≤ TASKS)
+abbrev pub StartTasks : ℕ → Type 0
+StartTasks n = (1 ≤ n) × (n ≤ TASKS)
 
-abbrev pub tasks? : (n : ℕ) → Dec (Tasks n)
-tasks? n = both (decLe 1 n) (decLe n TASKS)
+-- whether it is so
+abbrev pub startTasks? : (n : ℕ) → Dec (StartTasks n)
+startTasks? n = both (decLe 1 n) (decLe n TASKS)
 
 -- "pool not started": what a run begins with
 unfoldable pub unstarted : Pool
@@ -86,14 +88,16 @@ unstarted = record { tasks = 0; regions = 0; mem = startMem 0 }
 abbrev pub beginAllocate : ℕ → ℕ → Mem → Result
 beginAllocate t size m =
     if (ℕ-discrete size 0) (m, refused 8)
-    (if (decLt MOST-BYTES size) (m, refused 9)
+    (if (decLt LARGEST-SIZE size) (m, refused 9)
     (setTask t (record { place = working (a1 (classOf size)); cache = m .task t .cache }) m, going nothing))
 
+-- "its anchor is not EMPTY"
 abbrev pub NotEmpty : State → Type 0
 NotEmpty EMPTY = ⊥
 NotEmpty PARTIAL = Unit {0}
 NotEmpty FULL = Unit {0}
 
+-- whether it is so
 abbrev pub notEmpty? : (s : State) → Dec (NotEmpty s)
 notEmpty? EMPTY = no (λ x. x)
 notEmpty? PARTIAL = yes tt
@@ -104,6 +108,7 @@ notEmpty? FULL = yes tt
 abbrev pub Opens : Descriptor → ℕ → Type 0
 Opens D r = (D .region ≡ r) × NotEmpty (D .state)
 
+-- whether it is so
 abbrev pub opens? : (D : Descriptor) (r : ℕ) → Dec (Opens D r)
 opens? D r = both (ℕ-discrete (D .region) r) (notEmpty? (D .state))
 
@@ -111,6 +116,7 @@ opens? D r = both (ℕ-discrete (D .region) r) (notEmpty? (D .state))
 abbrev pub First : ℕ → ℕ → Type 0
 First c u = (u % REGION-UNITS % units c ≡ 0) × (indexOf c u < perRegion c)
 
+-- whether it is so
 abbrev pub first? : (c u : ℕ) → Dec (First c u)
 first? c u = both (ℕ-discrete (u % REGION-UNITS % units c) 0) (decLt (indexOf c u) (perRegion c))
 
@@ -124,12 +130,13 @@ freeIn D t u m =
     (m, refused 10)
 
 -- the map's entry of the unit's region
-abbrev pub freeBy : ℕ → ℕ → ℕ → Mem → Result
-freeBy zero t u m = (m, refused 10)
-freeBy (suc d) t u m = freeIn (m .descriptor d) t u m
+abbrev pub freeEntry : ℕ → ℕ → ℕ → Mem → Result
+freeEntry zero t u m = (m, refused 10)
+freeEntry (suc d) t u m = freeIn (m .descriptor d) t u m
 
+-- "10 not the first unit of a block of an open region": so where the area has no such region; else its map entry tells
 abbrev pub beginFree : ℕ → ℕ → ℕ → Mem → Result
-beginFree t u regions m = if (decLt (regionOf u) regions) (freeBy (m .map (regionOf u)) t u m) (m, refused 10)
+beginFree t u regions m = if (decLt (regionOf u) regions) (freeEntry (m .map (regionOf u)) t u m) (m, refused 10)
 
 -- "6 the task has a request in hand": the beginning x of a request is made at idle alone
 abbrev pub whenIdle : Place → Result → Mem → Result
@@ -142,6 +149,7 @@ whenIdle (working w) x m = (m, refused 6)
 abbrev pub refuse : ℕ → Pool → Pool × Answer
 refuse code s = (s, refused code)
 
+-- the pool after the tests, by what follows them
 abbrev pub became : Pool → Result → Pool × Answer
 became s x = (record { tasks = s .tasks; regions = s .regions; mem = x .0 }, x .1)
 
@@ -161,18 +169,18 @@ abbrev pub startCall : Start → Lengths → Pool → Pool × Answer
 startCall b lent s =
     let regions = lent .area / REGION-BYTES in
     if (ℕ-discrete (lent .control) CONTROL-BYTES)
-    (if (area? (lent .area))
-    (if (tasks? (b .tasks))
+    (if (startArea? (lent .area))
+    (if (startTasks? (b .tasks))
     (record { tasks = b .tasks; regions = regions; mem = startMem regions }, going nothing)
     (refuse 3 s))
     (refuse 2 s))
     (refuse 1 s)
 
 -- a call that is lent memories of these lengths
-unfoldable pub call : Call → Lengths → Pool → Pool × Answer
-call (start b) lent s = startCall b lent s
-call (allocate t size) lent s =
+unfoldable pub plainCall : Call → Lengths → Pool → Pool × Answer
+plainCall (start b) lent s = startCall b lent s
+plainCall (allocate t size) lent s =
     tested t lent s (whenIdle (s .mem .task t .place) (beginAllocate t size (s .mem)) (s .mem))
-call (free t u) lent s =
+plainCall (free t u) lent s =
     tested t lent s (whenIdle (s .mem .task t .place) (beginFree t u (s .regions) (s .mem)) (s .mem))
-call (step t) lent s = tested t lent s (stepOf t (s .mem))
+plainCall (step t) lent s = tested t lent s (stepOf t (s .mem))

@@ -10,9 +10,9 @@ use Rattle.rows.specs.Counting.{count}
 use Rattle.rows.specs.Totals.{total}
 use Rattle.classes.specs.Classes.{perRegion}
 use Rattle.plain.specs.State.{State, EMPTY, PARTIAL, FULL, Descriptor, Mem}
-use Rattle.plain.specs.Calls.{Pool, Call, call, Lengths}
-use Rattle.plain.specs.Blocks.{isBlock}
-use Rattle.plain.specs.States.{IfOpen, IfEmpty, isEmpty}
+use Rattle.plain.specs.Calls.{Pool, Call, plainCall, Lengths}
+use Rattle.plain.specs.Blocks.{countBlock}
+use Rattle.plain.specs.States.{IfOpen, IfEmpty, oneIfEmpty}
 use Rattle.plain.specs.Weights.{rowWeight, insideWeight, insideClassWeight, chainWeight, chainClassWeight}
 use Rattle.plain.specs.Weights.{openWeight, fullWeight, blockWeight, blockClassWeight, descriptorWeight}
 use Rattle.plain.specs.Weights.{descriptorClassWeight, spareWeight, regionWeight, unmappedWeight}
@@ -28,13 +28,13 @@ ChainLength FULL n l = l ≡ 0
 -- and as many as its state says
 pub record OpenDescriptor (D : Descriptor) : Type 0 where
   pub fits : D .class < CLASSES
-  pub inside : (v : ℕ) → count v (D .chain) ≤ isBlock v (D .region) (D .class)
+  pub inside : (v : ℕ) → count v (D .chain) ≤ countBlock v (D .region) (D .class)
   pub sized : ChainLength (D .state) (perRegion (D .class)) (length (D .chain))
 
 -- an EMPTY descriptor: it has no chain, as at the start, or its chain has all the blocks of the region that it opened
 pub data ClosedDescriptor (D : Descriptor) : Type 0 where
   never-opened : D .chain ≡ [] → ClosedDescriptor D
-  all-returned : D .class < CLASSES → ((v : ℕ) → count v (D .chain) ≡ isBlock v (D .region) (D .class))
+  all-returned : D .class < CLASSES → ((v : ℕ) → count v (D .chain) ≡ countBlock v (D .region) (D .class))
       → length (D .chain) ≡ perRegion (D .class) → ClosedDescriptor D
 
 -- the pool's memory, with an area of `area` regions
@@ -53,7 +53,7 @@ pub record Invariant (area : ℕ) (m : Mem) : Type 0 where
       → count d (m .row c) + total TASKS (descriptorClassWeight c d) (m .task) ≤ one c (m .descriptor d .class)
   -- a descriptor on the list of spare descriptors, or held as spare, is EMPTY
   pub spares : (d : ℕ)
-      → count d (m .row SPARE-DESCRIPTORS) + total TASKS (spareWeight d) (m .task) ≤ isEmpty (m .descriptor d .state)
+      → count d (m .row SPARE-DESCRIPTORS) + total TASKS (spareWeight d) (m .task) ≤ oneIfEmpty (m .descriptor d .state)
   -- each block of an open region is once in a user's hands, or with a task, or in a chain; and no other unit is
   pub blocks : (v : ℕ)
       → m .hands v + total TASKS (blockWeight v) (m .task) + total DESCRIPTORS (chainWeight v) (m .descriptor)
@@ -85,4 +85,4 @@ pub record Good (s : Pool) : Type 0 where
 -- the pool after a list of calls, each with the lengths that it is lent
 unfoldable pub run : List (Call × Lengths) → Pool → Pool
 run [] s = s
-run (c ∷ cs) s = run cs (call (c .0) (c .1) s .0)
+run (c ∷ cs) s = run cs (plainCall (c .0) (c .1) s .0)

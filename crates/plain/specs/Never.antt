@@ -9,21 +9,20 @@ use Rattle.classes.specs.Classes.{perRegion}
 use Rattle.classes.specs.Geometry.{regionOf}
 use Rattle.plain.specs.State.{PARTIAL, FULL, Note, exchange, Pop, popping, a3-read, a3-exchange, f2, f3-read}
 use Rattle.plain.specs.State.{f3-link, f3-exchange, Mem, working}
-use Rattle.plain.specs.Steps.{popList, item, AsNoted}
+use Rattle.plain.specs.Steps.{popList, AsNoted}
 use Rattle.plain.specs.Calls.{Opens}
-use Rattle.plain.specs.Noted.{noted}
 
 -- a row that is not empty: its top item and the others
-pub record Top (q : List ℕ) : Type 0 where
+pub record TopItem (q : List ℕ) : Type 0 where
   pub item : ℕ
   pub rest : List ℕ
   pub is : q ≡ item ∷ rest
 
 -- the group, y and g, and the chain of the descriptor d have at most n blocks together; so have the group and the
--- chain as it was noted
-pub record GroupFits (m : Mem) (c y : ℕ) (g : List ℕ) (d noted : ℕ) : Type 0 where
+-- chain as it was noted, of `before` blocks
+pub record GroupFits (m : Mem) (c y : ℕ) (g : List ℕ) (d before : ℕ) : Type 0 where
   pub now : length (y ∷ (g ++ m .descriptor d .chain)) ≤ perRegion c
-  pub then : noted + length (y ∷ g) ≤ perRegion c
+  pub then : before + length (y ∷ g) ≤ perRegion c
 
 -- the map names a descriptor that opens the region of the group, for the class; and the count will not pass n
 pub record GroupNamed (m : Mem) (c y : ℕ) (g : List ℕ) : Type 0 where
@@ -38,9 +37,9 @@ pub record GroupNamed (m : Mem) (c y : ℕ) (g : List ℕ) : Type 0 where
 pub record NeverHappens (m : Mem) (t : ℕ) : Type 0 where
   -- a pop's exchange whose list has the noted number finds a top item
   pub popExchange : (p : Pop) (n : ℕ) → m .task t .place ≡ working (popping p (exchange n)) → m .won (popList p) ≡ n
-      → Top (m .row (popList p))
+      → TopItem (m .row (popList p))
   -- a group step with the cache empty has a group to close
-  pub groupStep : (c u : ℕ) (g : List ℕ) → m .task t .place ≡ working (f2 c u g) → m .task t .cache c ≡ [] → Top g
+  pub groupStep : (c u : ℕ) (g : List ℕ) → m .task t .place ≡ working (f2 c u g) → m .task t .cache c ≡ [] → TopItem g
   -- the anchor read of a free finds an open region's descriptor
   pub freeReads : (c u y : ℕ) (g : List ℕ) → m .task t .place ≡ working (f3-read c u y g) → GroupNamed m c y g
   -- the anchor read of an allocate never finds FULL
@@ -48,7 +47,7 @@ pub record NeverHappens (m : Mem) (t : ℕ) : Type 0 where
   -- the won anchor exchange of an allocate had noted PARTIAL, and takes a chain that is not empty
   pub allocateTakes : (c d : ℕ) (n : Note) → m .task t .place ≡ working (a3-exchange c d n)
       → AsNoted (m .descriptor d) n
-      → (n .state ≡ PARTIAL) × Top (m .descriptor d .chain)
+      → (n .state ≡ PARTIAL) × TopItem (m .descriptor d .chain)
   -- no count of a free passes n
   pub freeLinks : (c u y : ℕ) (g : List ℕ) (d : ℕ) (n : Note) → m .task t .place ≡ working (f3-link c u y g d n)
       → GroupFits m c y g d (n .length)

@@ -7,7 +7,7 @@ use Rattle.limits.specs.Limits.{CLASSES}
 use Rattle.rows.specs.Counting.{count}
 use Rattle.classes.specs.Classes.{perRegion}
 use Rattle.classes.specs.Geometry.{regionOf}
-use Rattle.plain.specs.State.{numberOf, Phase, read, next, exchange, retire, back, release, offer, Place, idle}
+use Rattle.plain.specs.State.{stateNumber, Phase, read, next, exchange, retire, back, release, offer, Place, idle}
 use Rattle.plain.specs.State.{a1, popping, pushing, a3-read, a3-exchange, a4, a7, a8, f1, f2, f3-read, f3-link}
 use Rattle.plain.specs.State.{f3-exchange, f4-clear, Task, Mem, Work, working, Push}
 use Rattle.plain.specs.Steps.{popList, pushList}
@@ -48,7 +48,7 @@ HoldsAt k (a1 c) = c < CLASSES
 HoldsAt k (popping p φ) = EmptyCache k (popHeld p .class)
 HoldsAt k (pushing p φ) = PushHolds k p
 HoldsAt k (a3-read c d) = EmptyCache k c
-HoldsAt k (a3-exchange c d n) = (c < CLASSES) × (length (k c) ≡ 0) × (1 ≤ numberOf (n .state))
+HoldsAt k (a3-exchange c d n) = (c < CLASSES) × (length (k c) ≡ 0) × (1 ≤ stateNumber (n .state))
 HoldsAt k (a4 c x q) = (c < CLASSES) × (length (k c) + suc (length q) < perRegion c)
 HoldsAt k (a7 c d r) = EmptyCache k c
 HoldsAt k (a8 c r i) = (c < CLASSES) × (length (k c) ≡ i) × (i < perRegion c)

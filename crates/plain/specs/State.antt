@@ -7,10 +7,11 @@ use Rattle.rows.specs.Update.{update}
 pub data State : Type 0 where
   EMPTY PARTIAL FULL : State
 
-abbrev pub numberOf : State → ℕ
-numberOf EMPTY = 0
-numberOf PARTIAL = 1
-numberOf FULL = 2
+-- its number in an anchor's word
+abbrev pub stateNumber : State → ℕ
+stateNumber EMPTY = 0
+stateNumber PARTIAL = 1
+stateNumber FULL = 2
 
 -- "each descriptor's state, region, class and chain, a row of blocks"
 pub record Descriptor : Type 0 where
@@ -97,6 +98,7 @@ pub record Mem : Type 0 where
   pub hands : ℕ → ℕ
   pub task : ℕ → Task
 
+-- the task t is now T
 abbrev pub setTask : ℕ → Task → Mem → Mem
 setTask t T m = record {
   row = m .row;
@@ -118,6 +120,7 @@ setRow ℓ q m = record {
   task = m .task;
 }
 
+-- the descriptor d is now D
 abbrev pub setDescriptor : ℕ → Descriptor → Mem → Mem
 setDescriptor d D m = record {
   row = m .row;
@@ -128,6 +131,7 @@ setDescriptor d D m = record {
   task = m .task;
 }
 
+-- the map's entry of the region r is now z
 abbrev pub setMap : ℕ → ℕ → Mem → Mem
 setMap r z m = record {
   row = m .row;
@@ -138,6 +142,7 @@ setMap r z m = record {
   task = m .task;
 }
 
+-- the block of the unit u is now in a user's hands, where b is 1, or no longer, where it is 0
 abbrev pub setHands : ℕ → ℕ → Mem → Mem
 setHands u b m = record {
   row = m .row;

@@ -26,13 +26,13 @@ IfEmpty PARTIAL X = Unit {0}
 IfEmpty FULL X = Unit {0}
 
 -- 1 if the anchor is FULL, else 0
-abbrev pub isFull : State → ℕ
-isFull EMPTY = 0
-isFull PARTIAL = 0
-isFull FULL = 1
+abbrev pub oneIfFull : State → ℕ
+oneIfFull EMPTY = 0
+oneIfFull PARTIAL = 0
+oneIfFull FULL = 1
 
 -- 1 if the anchor is EMPTY, else 0
-abbrev pub isEmpty : State → ℕ
-isEmpty EMPTY = 1
-isEmpty PARTIAL = 0
-isEmpty FULL = 0
+abbrev pub oneIfEmpty : State → ℕ
+oneIfEmpty EMPTY = 1
+oneIfEmpty PARTIAL = 0
+oneIfEmpty FULL = 0

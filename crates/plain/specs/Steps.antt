@@ -10,7 +10,7 @@ use Rattle.rows.specs.Branch.{if, both}
 use Rattle.rows.specs.Update.{update}
 use Rattle.classes.specs.Classes.{perRegion}
 use Rattle.classes.specs.Geometry.{unitOf, regionOf}
-use Rattle.plain.specs.State.{State, EMPTY, PARTIAL, FULL, numberOf, Descriptor, Note, Phase, read, next}
+use Rattle.plain.specs.State.{State, EMPTY, PARTIAL, FULL, stateNumber, Descriptor, Note, Phase, read, next}
 use Rattle.plain.specs.State.{exchange, Pop, partial, spare, region, Push, retire, back, release, offer, Place}
 use Rattle.plain.specs.State.{idle, a1, popping, pushing, a3-read, a3-exchange, a4, a7, a8, f1, f2, f3-read}
 use Rattle.plain.specs.State.{f3-link, f3-exchange, f4-clear, Mem, setTask, setRow, setDescriptor, setMap}
@@ -29,22 +29,25 @@ top (x ∷ q) = suc x
 
 -- ---- which list a move is of, and which item it pushes
 
+-- the list of a pop
 abbrev pub popList : Pop → ℕ
 popList (partial c) = c
 popList (spare c) = SPARE-DESCRIPTORS
 popList (region c d) = SPARE-REGIONS
 
+-- the list of a push
 abbrev pub pushList : Push → ℕ
 pushList (retire c d) = SPARE-DESCRIPTORS
 pushList (back c d) = SPARE-DESCRIPTORS
 pushList (release c u d w r) = SPARE-REGIONS
 pushList (offer c u d) = c
 
-abbrev pub item : Push → ℕ
-item (retire c d) = d
-item (back c d) = d
-item (release c u d w r) = r
-item (offer c u d) = d
+-- the item of a push
+abbrev pub pushItem : Push → ℕ
+pushItem (retire c d) = d
+pushItem (back c d) = d
+pushItem (release c u d w r) = r
+pushItem (offer c u d) = d
 
 -- ---- where a decided move leads: "a branch on what was read is no step"
 
@@ -94,12 +97,13 @@ noteOf D = record { state = D .state; first = top (D .chain); length = length (D
 -- "The exchange is won exactly if all three are as noted."
 abbrev pub AsNoted : Descriptor → Note → Type 0
 AsNoted D n =
-    ((numberOf (D .state) ≡ numberOf (n .state)) × (top (D .chain) ≡ n .first)) × (length (D .chain) ≡ n .length)
+    ((stateNumber (D .state) ≡ stateNumber (n .state)) × (top (D .chain) ≡ n .first)) × (length (D .chain) ≡ n .length)
 
+-- whether it is so
 abbrev pub asNoted? : (D : Descriptor) (n : Note) → Dec (AsNoted D n)
 asNoted? D n =
     both
-    (both (ℕ-discrete (numberOf (D .state)) (numberOf (n .state))) (ℕ-discrete (top (D .chain)) (n .first)))
+    (both (ℕ-discrete (stateNumber (D .state)) (stateNumber (n .state))) (ℕ-discrete (top (D .chain)) (n .first)))
     (ℕ-discrete (length (D .chain)) (n .length))
 
 -- the descriptor with another state and chain
@@ -110,12 +114,12 @@ chained D s q = record { state = s; region = D .region; class = D .class; chain 
 
 module _ (t : ℕ) (k : ℕ → List ℕ) where
   -- the task goes to the place p
-  abbrev pub at : Place → Mem → Mem
-  at p m = setTask t (record { place = p; cache = k }) m
+  abbrev pub atPlace : Place → Mem → Mem
+  atPlace p m = setTask t (record { place = p; cache = k }) m
 
   -- the task goes on, at the place w
-  abbrev pub to : Work → Mem → Mem
-  to w m = at (working w) m
+  abbrev pub atWork : Work → Mem → Mem
+  atWork w m = atPlace (working w) m
 
   -- the task goes to the place p, and its cache of the class c is now q
   abbrev pub cached : ℕ → List ℕ → Place → Mem → Mem
@@ -125,63 +129,65 @@ module _ (t : ℕ) (k : ℕ → List ℕ) where
   abbrev pub popRead : Pop → List ℕ → Mem → Result
   popRead p [] m =
       let w = whenEmpty p (found-empty (popList p)) in
-      (at (w .0) m, w .1)
-  popRead p (x ∷ q) m = (to (popping p (next (m .won (popList p)))) m, going nothing)
+      (atPlace (w .0) m, w .1)
+  popRead p (x ∷ q) m = (atWork (popping p (next (m .won (popList p)))) m, going nothing)
 
   -- "A lost exchange goes back to the head read."
   abbrev pub popLost : Pop → Mem → Result
-  popLost p m = (to (popping p read) m, going (lost (popList p)))
+  popLost p m = (atWork (popping p read) m, going (lost (popList p)))
 
   -- "a won one takes .. the top item"; an empty row has none, so that nothing is won there (nor ever tried: the row was
   -- not empty when it was read, and its number is the same)
   abbrev pub popTake : Pop → List ℕ → Mem → Result
   popTake p [] m = popLost p m
-  popTake p (x ∷ q) m = (to (whenPopped p x) (setRow (popList p) q m), going (popped (popList p) x))
+  popTake p (x ∷ q) m = (atWork (whenPopped p x) (setRow (popList p) q m), going (popped (popList p) x))
 
   -- "The exchange is won exactly if the number is still the one noted"
   abbrev pub popStep : Pop → Phase → Mem → Result
   popStep p read m = popRead p (m .row (popList p)) m
-  popStep p (next n) m = (to (popping p (exchange n)) m, going nothing)
+  popStep p (next n) m = (atWork (popping p (exchange n)) m, going nothing)
   popStep p (exchange n) m =
       if (ℕ-discrete (m .won (popList p)) n) (popTake p (m .row (popList p)) m) (popLost p m)
 
+  -- "a won one .. puts the top item"
   abbrev pub pushPut : Push → Mem → Result
   pushPut p m =
       let ℓ = pushList p in
-      let w = whenPushed p k (pushed ℓ (item p)) in
-      (at (w .0) (setRow ℓ (item p ∷ m .row ℓ) m), w .1)
+      let w = whenPushed p k (pushed ℓ (pushItem p)) in
+      (atPlace (w .0) (setRow ℓ (pushItem p ∷ m .row ℓ) m), w .1)
 
+  -- "The exchange is won exactly if the number is still the one noted": a push
   abbrev pub pushStep : Push → Phase → Mem → Result
-  pushStep p read m = (to (pushing p (next (m .won (pushList p)))) m, going nothing)
-  pushStep p (next n) m = (to (pushing p (exchange n)) m, going nothing)
+  pushStep p read m = (atWork (pushing p (next (m .won (pushList p)))) m, going nothing)
+  pushStep p (next n) m = (atWork (pushing p (exchange n)) m, going nothing)
   pushStep p (exchange n) m =
-      if (ℕ-discrete (m .won (pushList p)) n) (pushPut p m) (to (pushing p read) m, going (lost (pushList p)))
+      if (ℕ-discrete (m .won (pushList p)) n) (pushPut p m) (atWork (pushing p read) m, going (lost (pushList p)))
 
   -- allocate, step 1: "If the cache has a block, take the top, set its mark and finish. Else go on."
   abbrev pub a1Step : ℕ → List ℕ → Mem → Result
-  a1Step c [] m = (to (popping (partial c) read) m, going nothing)
+  a1Step c [] m = (atWork (popping (partial c) read) m, going nothing)
   a1Step c (x ∷ q) m = (cached c q idle (setHands x 1 m), finished x)
 
   -- allocate, step 3: "Read the anchor. EMPTY: push the descriptor on the spare list, then 2. Else exchange it" (it is
   -- never FULL: a descriptor on a partial list is PARTIAL or EMPTY)
   abbrev pub a3Read : ℕ → ℕ → State → Mem → Result
-  a3Read c d EMPTY m = (to (pushing (retire c d) read) m, going (anchor-empty d))
-  a3Read c d PARTIAL m = (to (a3-exchange c d (noteOf (m .descriptor d))) m, going nothing)
-  a3Read c d FULL m = (to (a3-exchange c d (noteOf (m .descriptor d))) m, going nothing)
+  a3Read c d EMPTY m = (atWork (pushing (retire c d) read) m, going (anchor-empty d))
+  a3Read c d PARTIAL m = (atWork (a3-exchange c d (noteOf (m .descriptor d))) m, going nothing)
+  a3Read c d FULL m = (atWork (a3-exchange c d (noteOf (m .descriptor d))) m, going nothing)
 
   -- "Allocate then takes the whole chain and leaves FULL with none"; "lost: read again"
   abbrev pub a3Exchange : ℕ → ℕ → Note → Mem → Result
   a3Exchange c d n m =
       let D = m .descriptor d in
       if (asNoted? D n)
-      (to (moving c (D .chain)) (setDescriptor d (chained D FULL []) m), going (took d))
-      (to (a3-read c d) m, going (anchor-lost d))
+      (atWork (moving c (D .chain)) (setDescriptor d (chained D FULL []) m), going (took d))
+      (atWork (a3-read c d) m, going (anchor-lost d))
 
   -- allocate, step 7: "One step writes the descriptor (FULL, n, 0) and the map"
   abbrev pub a7Step : ℕ → ℕ → ℕ → Mem → Result
   a7Step c d r m =
       let D : Descriptor = record { state = FULL; region = r; class = c; chain = [] } in
-      (to (a8 c r 0) (setMap r (suc d) (setDescriptor d D m)), going nothing)
+      (atWork (a8 c r 0) (setMap r (suc d) (setDescriptor d D m)), going nothing)
 
   -- allocate, step 8: "Put blocks 0 to n − 1 on the cache, one a step; then 1"
   abbrev pub a8Step : ℕ → ℕ → ℕ → Mem → Result
@@ -192,7 +198,8 @@ module _ (t : ℕ) (k : ℕ → List ℕ) where
   -- free, step 1: "If the cache holds fewer than n, push the block and finish. Else go on."
   abbrev pub f1Step : ℕ → ℕ → Mem → Result
   f1Step c u m =
-      if (decLt (length (k c)) (perRegion c)) (cached c (u ∷ k c) idle m, finished 0) (to (f2 c u []) m, going nothing)
+      if (decLt (length (k c)) (perRegion c)) (cached c (u ∷ k c) idle m, finished 0)
+      (atWork (f2 c u []) m, going nothing)
 
   -- the step "closes the group"; a group of none has nothing to return (nor does it ever close: the cache was not
   -- empty)
@@ -203,36 +210,38 @@ module _ (t : ℕ) (k : ℕ → List ℕ) where
   -- free, step 2: "A step takes the cache's top into the group, if the group is empty or the top is of the same region.
   -- Otherwise, or with the cache empty, that step closes the group." The rows are the cache and the group.
   abbrev pub f2Step : ℕ → ℕ → List ℕ → List ℕ → Mem → Result
-  f2Step c u [] g m = (to (closed c u g) m, going nothing)
+  f2Step c u [] g m = (atWork (closed c u g) m, going nothing)
   f2Step c u (x ∷ q) [] m = (cached c q (working (f2 c u (x ∷ []))) m, going nothing)
   f2Step c u (x ∷ q) (y ∷ g) m =
       if (ℕ-discrete (regionOf x) (regionOf y))
       (cached c q (working (f2 c u (y ∷ (g ++ (x ∷ []))))) m, going nothing)
-      (to (closed c u (y ∷ g)) m, going nothing)
+      (atWork (closed c u (y ∷ g)) m, going nothing)
 
   -- free, step 3: "Read the anchor", that of the descriptor that the map names for the group's region; with no such
   -- entry the task stays where it is (nor is there ever none: the group's blocks are of an open region)
   abbrev pub f3Read : ℕ → ℕ → ℕ → ℕ → List ℕ → Mem → Result
   f3Read zero c u y g m = (m, going nothing)
-  f3Read (suc d) c u y g m = (to (f3-link c u y g d (noteOf (m .descriptor d))) m, going nothing)
+  f3Read (suc d) c u y g m = (atWork (f3-link c u y g d (noteOf (m .descriptor d))) m, going nothing)
 
   -- "free puts the group, in its order, before the chain, and the state is EMPTY at n blocks, else PARTIAL" (there are
   -- never more); step 4 follows if it is now EMPTY, and step 5 by the state w before
-  abbrev pub returned : {P : Type 0} → Dec P → ℕ → ℕ → ℕ → List ℕ → ℕ → State → Mem → Result
-  returned (yes e) c u y g d w m =
+  abbrev pub f3Won : {P : Type 0} → Dec P → ℕ → ℕ → ℕ → List ℕ → ℕ → State → Mem → Result
+  f3Won (yes e) c u y g d w m =
+      let D = m .descriptor d in (
+        atWork (f4-clear c u d w (regionOf y)) (setDescriptor d (chained D EMPTY (y ∷ (g ++ D .chain))) m),
+        going (gave d),
+      )
+  f3Won (no e) c u y g d w m =
       let D = m .descriptor d in
-      (to (f4-clear c u d w (regionOf y)) (setDescriptor d (chained D EMPTY (y ∷ (g ++ D .chain))) m), going (gave d))
-  returned (no e) c u y g d w m =
-      let D = m .descriptor d in
-      (to (f5 w (k c) c u d) (setDescriptor d (chained D PARTIAL (y ∷ (g ++ D .chain))) m), going (gave d))
+      (atWork (f5 w (k c) c u d) (setDescriptor d (chained D PARTIAL (y ∷ (g ++ D .chain))) m), going (gave d))
 
   -- "The exchange is won exactly if all three are as noted"; "Lost: read again"
   abbrev pub f3Exchange : ℕ → ℕ → ℕ → List ℕ → ℕ → Note → Mem → Result
   f3Exchange c u y g d n m =
       let D = m .descriptor d in
       if (asNoted? D n)
-      (returned (ℕ-discrete (length (y ∷ (g ++ D .chain))) (perRegion c)) c u y g d (n .state) m)
-      (to (f3-read c u y g) m, going (anchor-lost d))
+      (f3Won (ℕ-discrete (length (y ∷ (g ++ D .chain))) (perRegion c)) c u y g d (n .state) m)
+      (atWork (f3-read c u y g) m, going (anchor-lost d))
 
   -- the step list, by place
   abbrev pub stepAt : Work → Mem → Result
@@ -247,10 +256,10 @@ module _ (t : ℕ) (k : ℕ → List ℕ) where
   stepAt (f1 c u) m = f1Step c u m
   stepAt (f2 c u g) m = f2Step c u (k c) g m
   stepAt (f3-read c u y g) m = f3Read (m .map (regionOf y)) c u y g m
-  stepAt (f3-link c u y g d n) m = (to (f3-exchange c u y g d n) m, going nothing)
+  stepAt (f3-link c u y g d n) m = (atWork (f3-exchange c u y g d n) m, going nothing)
   stepAt (f3-exchange c u y g d n) m = f3Exchange c u y g d n m
   -- free, step 4: "one step clears the map entry of the group's region"
-  stepAt (f4-clear c u d w r) m = (to (pushing (release c u d w r) read) (setMap r 0 m), going nothing)
+  stepAt (f4-clear c u d w r) m = (atWork (pushing (release c u d w r) read) (setMap r 0 m), going nothing)
 
 -- "7 step without one": a task that is idle makes no step
 abbrev pub whenWorking : Place → (Work → Result) → Mem → Result

@@ -7,8 +7,8 @@ use Rattle.rows.specs.Weights.{when, one}
 use Rattle.rows.specs.Counting.{count}
 use Rattle.rows.specs.Totals.{total}
 use Rattle.plain.specs.State.{Descriptor, Task}
-use Rattle.plain.specs.Blocks.{isBlock}
-use Rattle.plain.specs.States.{ifOpen, isFull}
+use Rattle.plain.specs.Blocks.{countBlock}
+use Rattle.plain.specs.States.{ifOpen, oneIfFull}
 use Rattle.plain.specs.Held.{classAt, underWay, holdsDescriptor, holdsSpare, holdsForClass, holdsRegion}
 use Rattle.plain.specs.Held.{holdsUnmapped}
 
@@ -22,11 +22,11 @@ rowWeight v i q = count v q
 
 -- v is a block of its region
 abbrev pub insideWeight : ℕ → ℕ → Descriptor → ℕ
-insideWeight v i D = ifOpen (D .state) (isBlock v (D .region) (D .class))
+insideWeight v i D = ifOpen (D .state) (countBlock v (D .region) (D .class))
 
 -- .. and the class is c
 abbrev pub insideClassWeight : ℕ → ℕ → ℕ → Descriptor → ℕ
-insideClassWeight c v i D = ifOpen (D .state) (when c (D .class) (isBlock v (D .region) (D .class)))
+insideClassWeight c v i D = ifOpen (D .state) (when c (D .class) (countBlock v (D .region) (D .class)))
 
 -- how often v stands in its chain
 abbrev pub chainWeight : ℕ → ℕ → Descriptor → ℕ
@@ -42,7 +42,7 @@ openWeight r i D = ifOpen (D .state) (one r (D .region))
 
 -- it is the descriptor d, and FULL
 abbrev pub fullWeight : ℕ → ℕ → Descriptor → ℕ
-fullWeight d i D = when d i (isFull (D .state))
+fullWeight d i D = when d i (oneIfFull (D .state))
 
 -- ---- a task
 

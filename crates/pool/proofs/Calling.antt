@@ -10,7 +10,7 @@ use lib.ListN.{length}
 use Rattle.limits.specs.Limits.{CONTROL-BYTES, REGION-BYTES, TASKS, REGIONS}
 use Rattle.fields.specs.Columns.{View}
 use Rattle.links.specs.Link.{link}
-use Rattle.plain.specs.Calls.{allocate, free, step}
+use Rattle.plain.specs.Calls.{allocate, free, step, Lengths}
 use Rattle.control.specs.Layout.{Regions, seen}
 use Rattle.control.specs.Answers.{numberOf}
 use Rattle.control.specs.declared.answer.Answer.{Answer}
@@ -23,23 +23,24 @@ use Rattle.begins.specs.Tests.{TestsAre}
 use Rattle.pool.specs.Call.{EffectIs, Ensures}
 
 -- a call that the number r refuses
-pub refused-is : {o : Outcome} (c a : List ℕ) {r : ℕ} → o ≡ refuse r → EffectIs (effect o c a) c a r
+pub refused-is : {o : Outcome} (c a : List ℕ) {r : ℕ} → o ≡ refuse r
+    → EffectIs (effect o (record { control = c; area = a })) c a r
 refused-is c a {r} e =
-    subst (λ (x : Outcome). EffectIs (effect x c a) c a r) (sym e)
+    subst (λ (x : Outcome). EffectIs (effect x (record { control = c; area = a })) c a r) (sym e)
     (record { number = refl; control-is = refl; area-is = refl })
 
 -- a call that does the outcome x
 pub does-is : {o x : Outcome} {c a c′ a′ : List ℕ} {r : ℕ} → o ≡ x → NumberIn x c a c′ a′ r
-    → EffectIs (effect o c a) c′ a′ r
+    → EffectIs (effect o (record { control = c; area = a })) c′ a′ r
 does-is {c = c} {a = a} {c′ = c′} {a′ = a′} {r = r} e d =
-    subst (λ (z : Outcome). EffectIs (effect z c a) c′ a′ r) (sym e)
+    subst (λ (z : Outcome). EffectIs (effect z (record { control = c; area = a })) c′ a′ r) (sym e)
     (record { number = d .number; control-is = d .control; area-is = d .area })
 
-module _ (c a : List ℕ) (t r : ℕ) (T : TestsAre (length c) (length a) (seen c) t r) where
-  refuses : r ≢ 0 → (x : Outcome) → tested (length c) (length a) (seen c) t x ≡ refuse r
+module _ (c a : List ℕ) (t r : ℕ) (T : TestsAre (record { control = length c; area = length a }) (seen c) t r) where
+  refuses : r ≢ 0 → (x : Outcome) → tested (record { control = length c; area = length a }) (seen c) t x ≡ refuse r
   refuses h x = T .is x ∙ ap (λ (b : Bool). cond b x (refuse r)) (ne-eqb r 0 h)
 
-  passes : r ≡ 0 → (x : Outcome) → tested (length c) (length a) (seen c) t x ≡ x
+  passes : r ≡ 0 → (x : Outcome) → tested (record { control = length c; area = length a }) (seen c) t x ≡ x
   passes h x = T .is x ∙ ap (λ (b : Bool). cond b x (refuse r)) (eq-eqb r 0 h)
 
   pub allocate-refused : (size : ℕ) → r ≢ 0 → Ensures (allocate t size) c a c a r
@@ -68,14 +69,14 @@ module _ (c a : List ℕ) (t r : ℕ) (T : TestsAre (length c) (length a) (seen 
   step-refused h = refused-is c a (refuses h _)
 
   pub step-does : (regions : ℕ) → r ≡ 0 → regions ≡ seen c Regions → {c′ a′ : List ℕ} {n : ℕ}
-      → NumberIn (Steps.step (seen c) (link a) regions t) c a c′ a′ n → Ensures (step t) c a c′ a′ n
+      → NumberIn (Steps.stepOf (seen c) (link a) regions t) c a c′ a′ n → Ensures (step t) c a c′ a′ n
   unfolding stepOutcome
   step-does regions h e {c′} {a′} {n} d =
-      does-is (passes h _) (subst (λ (k : ℕ). NumberIn (Steps.step (seen c) (link a) k t) c a c′ a′ n) e d)
+      does-is (passes h _) (subst (λ (k : ℕ). NumberIn (Steps.stepOf (seen c) (link a) k t) c a c′ a′ n) e d)
 
 -- what the tests tell
-module _ (control area : ℕ) (v : View) (t r : ℕ) (T : TestsAre control area v t r) (h : r ≡ 0) where
-  pub control-is : control ≡ CONTROL-BYTES
+module _ (lent : Lengths) (v : View) (t r : ℕ) (T : TestsAre lent v t r) (h : r ≡ 0) where
+  pub control-is : lent .control ≡ CONTROL-BYTES
   control-is = T .passed h .control-is
 
   pub task-is : t < TASKS
@@ -87,5 +88,5 @@ module _ (control area : ℕ) (v : View) (t r : ℕ) (T : TestsAre control area 
   pub regions-some : (k : ℕ) → k ≡ v Regions → 1 ≤ k
   regions-some k e = omega (arith, T .passed h .some)
 
-  pub area-is : (k : ℕ) → k ≡ v Regions → area ≡ REGION-BYTES * k
+  pub area-is : (k : ℕ) → k ≡ v Regions → lent .area ≡ REGION-BYTES * k
   area-is k e = T .passed h .area-is ∙ ap (λ (n : ℕ). REGION-BYTES * n) (sym e)

@@ -1,20 +1,9 @@
 -- Tests of numbers that hand on the fact they found, for use in a proof by cases.
-use mathlib.Core.Path.{_≡_, refl}
+use mathlib.Core.Path.{_≡_}
 use mathlib.Core.Logic.{_≢_}
-use mathlib.Core.Bool.{Bool, true, false}
 use Prim.Native.Nat.{ℕ, _≤_, _<_}
 use native.Mathlib.Omega.{arith}
 use native.Mathlib.Decide.{ℕ-discrete, decLt}
-
--- A computed test either holds or fails.
-pub data Seen (b : Bool) : Type 0 where
-  holds : b ≡ true → Seen b
-  fails : b ≡ false → Seen b
-
--- Whether a computed test holds.
-pub seen : (b : Bool) → Seen b
-seen true = holds refl
-seen false = fails refl
 
 -- Two numbers are the same, or the first is another one.
 pub data Equality (u v : ℕ) : Type 0 where

@@ -15,7 +15,7 @@ use Rattle.rows.specs.Update.{update}
 use Rattle.schedule.specs.declared.tally.Tally.{Tally}
 use Rattle.schedule.specs.declared.treat.Line.{Line}
 use Rattle.schedule.specs.Records.{wideOf, recordAt}
-use Rattle.schedule.specs.Tally.{none, counted}
+use Rattle.schedule.specs.Tally.{noneCounted, counted}
 use Rattle.schedule.specs.Stand.{runs, table}
 use Rattle.schedule.specs.Plain.{onPlain}
 
@@ -28,7 +28,7 @@ total finished accepted others = record { finished = finished; accepted = accept
 
 -- the stand over the plain pool
 abbrev pub played : List ℕ → List Line × Tally
-played input = table onPlain (length input) input 0 0 none unstarted
+played input = table onPlain (length input) input 0 0 noneCounted unstarted
 
 -- "01 01 01, 02 00 00 01, 05 00 64 00, 03 00 E0 01, 05 00 01 00, 03 00 E0 01"
 abbrev example : List ℕ
@@ -47,7 +47,7 @@ pub paper-example : played example
       total 2 3 1,
     )
 unfolding table runs recordAt wideOf counted getLE units perRegion classOf unstarted both ℕ-discrete decLt decLe update
-    Calls.call Calls.startMem Calls.rising Steps.stepOf
+    Calls.plainCall Calls.startMem Calls.rising Steps.stepOf
 paper-example = refl
 
 -- no input; a cut start; kind 0, after which nothing is read; an unknown kind; five regions and nine tasks, "more than
@@ -65,5 +65,5 @@ pub edge-cases : map played
     ∷ (line 0 4 4 0 ∷ [], total 0 0 1)
     ∷ [])
 unfolding table runs recordAt wideOf counted getLE units perRegion classOf unstarted both ℕ-discrete decLt decLe update
-    Calls.call Calls.startMem Calls.rising Steps.stepOf
+    Calls.plainCall Calls.startMem Calls.rising Steps.stepOf
 edge-cases = refl

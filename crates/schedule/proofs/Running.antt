@@ -13,19 +13,21 @@ use Rattle.schedule.specs.Stand.{as-started, runs}
 use Rattle.schedule.specs.Bytes.{onBytes, Does}
 
 -- what a run that began on the memories c₀ and a₀ with `most` steps leaves is what is left to run
-pub record Ahead (t most : ℕ) (c₀ a₀ : List ℕ) (left answer : ℕ) (c a : List ℕ) : Type 0 where
+pub record RunAhead (t most : ℕ) (c₀ a₀ : List ℕ) (left answer : ℕ) (c a : List ℕ) : Type 0 where
   pub is : runs onBytes 0 t most (record { control = c₀; area = a₀ })
       ≡ runs onBytes answer t left (record { control = c; area = a })
 
-pub begins : (t most : ℕ) (c a : List ℕ) → Ahead t most c a most 0 c a
+pub begins : (t most : ℕ) (c a : List ℕ) → RunAhead t most c a most 0 c a
 begins t most c a = record { is = refl }
 
-module _ {t most : ℕ} {c₀ a₀ : List ℕ} {left answer : ℕ} {c a : List ℕ} (A : Ahead t most c₀ a₀ left answer c a) where
+module _ {t most : ℕ} {c₀ a₀ : List ℕ} {left answer : ℕ} {c a : List ℕ}
+    (A : RunAhead t most c₀ a₀ left answer c a) where
   -- all steps are done
   pub ends : left ≡ 0 → Does (runs onBytes 0 t most) c₀ a₀ c a answer
   unfolding runs
   ends e =
-      let p : runs onBytes 0 t most (record { control = c₀; area = a₀ }) ≡ (record { control = c; area = a }, answer) =
+      let p : runs onBytes 0 t most (record { control = c₀; area = a₀ })
+      ≡ (record { control = c; area = a }, answer) =
       A .is ∙ ap (λ (n : ℕ). runs onBytes answer t n (record { control = c; area = a })) e in
       record {
         control-is = sym (ap (λ (x : Memories × ℕ). x .0 .control) p);
@@ -51,7 +53,7 @@ module _ {t most : ℕ} {c₀ a₀ : List ℕ} {left answer : ℕ} {c a : List �
         more = omega (arith, h)
 
     -- the step is under way: the run goes on
-    pub goes-on : r ≡ 0 → Ahead t most c₀ a₀ (left - 1) r c′ a′
+    pub goes-on : r ≡ 0 → RunAhead t most c₀ a₀ (left - 1) r c′ a′
     goes-on e = record {
       is =
           A .is
@@ -62,7 +64,7 @@ module _ {t most : ℕ} {c₀ a₀ : List ℕ} {left answer : ℕ} {c a : List �
     }
 
     -- the step ended it
-    pub stops : r ≢ 0 → Ahead t most c₀ a₀ 0 r c′ a′
+    pub stops : r ≢ 0 → RunAhead t most c₀ a₀ 0 r c′ a′
     unfolding runs
     stops n = record {
       is =

@@ -16,7 +16,7 @@ numberIn y = y .code + 256 * y .value
 -- a call that is lent the control memory and so many bytes of the area, and its answer as one number
 abbrev pub feeding : Call → ℕ → Pool → Pool × ℕ
 feeding k area p =
-    let x = Calls.call k (record { control = CONTROL-BYTES; area = area }) p in
+    let x = Calls.plainCall k (record { control = CONTROL-BYTES; area = area }) p in
     (x .0, numberIn (x .1))
 
 -- how many regions the last accepted start was lent: none before the first

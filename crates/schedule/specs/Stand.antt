@@ -17,6 +17,7 @@ use Rattle.schedule.specs.Tally.{counted}
 abbrev pub STAND-REGIONS : ℕ
 STAND-REGIONS = 4
 
+-- its bytes
 abbrev pub STAND-AREA : ℕ
 STAND-AREA = 16384
 

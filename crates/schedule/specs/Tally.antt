@@ -8,8 +8,9 @@ use Rattle.schedule.specs.declared.tally.Tally.{Tally}
 abbrev pub more : ℕ → ℕ
 more n = (n + 1) % 2 ^ 64
 
-abbrev pub none : Tally
-none = record { finished = 0; accepted = 0; others = 0 }
+-- before the first record
+abbrev pub noneCounted : Tally
+noneCounted = record { finished = 0; accepted = 0; others = 0 }
 
 -- one more record of this code
 unfoldable pub counted : Tally → ℕ → Tally

@@ -1,7 +1,7 @@
 // The tally: how many records had the code 20, the code 0, and another.
 use std::num;
 ghost use mathlib.Core.Path.{_≡_};
-ghost use Rattle.schedule.specs.Tally.{none, counted};
+ghost use Rattle.schedule.specs.Tally.{noneCounted, counted};
 
 pub struct Tally {
     pub finished: u64,
@@ -11,7 +11,7 @@ pub struct Tally {
 
 // The tally before the first record.
 pub fn empty() -> Tally
-    ensures { λ r. ⌜ r ≡ none ⌝ }
+    ensures { λ r. ⌜ r ≡ noneCounted ⌝ }
 {
     Tally {
         finished: 0,

@@ -20,7 +20,7 @@ use Rattle.plain.proofs.Answers.{most}
 use Rattle.control.specs.Layout.{Tasks, seen}
 use Rattle.control.specs.Answers.{numberOf}
 use Rattle.stepped.specs.Outcome.{Effect, Memories}
-use Rattle.stepped.specs.Calls.{effectOf}
+use Rattle.stepped.specs.Calls.{effectOf, lending, lengths}
 use Rattle.stepped.specs.Calls as Stepped
 use Rattle.agreement.specs.Events.{stepped, whole, Premise}
 use Rattle.agreement.specs.Tied.{Tied}
@@ -28,7 +28,7 @@ use Rattle.agreement.proofs.Runs.{short}
 use Rattle.agreement.specs.Reached.{History, happened, Reached, by-event}
 use Rattle.agreement.proofs.Reaching.{reached-tied}
 use Rattle.agreement.proofs.Theorem.{reached-agrees}
-use Rattle.demands.specs.Runs.{own, eventOf, Number}
+use Rattle.demands.specs.Runs.{on-own, eventOfCall, Number}
 use Rattle.demands.proofs.Acting.{shows}
 use Rattle.schedule.specs.Stand.{STAND-REGIONS, STAND-AREA}
 use Rattle.schedule.specs.Stand.{as-started}
@@ -103,16 +103,16 @@ module _ {n : ℕ} {s : Memories} {p : Pool} (B : Beside n s p) (small : n < TAG
   abbrev fed : Lengths
   fed = record { control = CONTROL-BYTES; area = REGION-BYTES * regions }
 
-  as-fed : (q : Call) → whole (eventOf q lent) p ≡ Calls.call q fed p
+  as-fed : (q : Call) → whole (eventOfCall q lent) p ≡ Calls.plainCall q fed p
   as-fed q =
-      ap (λ (k : ℕ). Calls.call q (record { control = k; area = length (lent .area) }) p) (tied B .length)
-      ∙ ap (λ (k : ℕ). Calls.call q (record { control = CONTROL-BYTES; area = k }) p) part-is
+      ap (λ (k : ℕ). Calls.plainCall q (record { control = k; area = length (lent .area) }) p) (tied B .length)
+      ∙ ap (λ (k : ℕ). Calls.plainCall q (record { control = CONTROL-BYTES; area = k }) p) part-is
 
   -- ---- a call that is no start, by its own effect
 
-  module _ (q : Call) (premise : Premise (eventOf q lent) p)
+  module _ (q : Call) (premise : Premise (eventOfCall q lent) p)
       (long : length (effectOf q lent .area) ≡ length (lent .area))
-      (keeps : SameStart p (Calls.call q fed p .0)) where
+      (keeps : SameStart p (Calls.plainCall q fed p .0)) where
     abbrev e : Effect
     e = effectOf q lent
 
@@ -122,10 +122,11 @@ module _ {n : ℕ} {s : Memories} {p : Pool} (B : Beside n s p) (small : n < TAG
     same-call : SameAnswer (suc n) (onPart q (REGION-BYTES * regions) s) (feeding q (REGION-BYTES * regions) p)
     same-call =
         let S =
-        shows (own q left (numberOf (e .answer))) lent (record { number = refl; control-is = refl; area-is = refl }) in
-        let H = happened (eventOf q lent) lent p ∷ B .history in
-        let A = reached-agrees (B .history) lent p (B .reached) (eventOf q lent) premise in
-        let p′ = Calls.call q fed p .0 in
+        shows (on-own q left (numberOf (e .answer))) lent
+        (record { number = refl; control-is = refl; area-is = refl }) in
+        let H = happened (eventOfCall q lent) lent p ∷ B .history in
+        let A = reached-agrees (B .history) lent p (B .reached) (eventOfCall q lent) premise in
+        let p′ = Calls.plainCall q fed p .0 in
         let r = same-regions p p′ keeps in
         let s′ : Memories = onPart q (REGION-BYTES * regions) s .0 in
         let back : partOf regions s′ ≡ left =
@@ -144,8 +145,8 @@ module _ {n : ℕ} {s : Memories} {p : Pool} (B : Beside n s p) (small : n < TAG
             history = H;
             reached =
                 subst (λ (z : Memories). Reached H z p′) (S .leaves ∙ sym (ap (λ (k : ℕ). partOf k s′) r ∙ back))
-                (subst (λ x. Reached H (stepped (eventOf q lent) lent .0) (x .0)) (as-fed q)
-                (by-event (B .reached) (eventOf q lent) premise));
+                (subst (λ x. Reached H (stepped (eventOfCall q lent) lent .0) (x .0)) (as-fed q)
+                (by-event (B .reached) (eventOfCall q lent) premise));
             most-won = most n q fed p (B .most-won);
           };
         }
@@ -159,15 +160,12 @@ module _ {n : ℕ} {s : Memories} {p : Pool} (B : Beside n s p) (small : n < TAG
   -- ---- the calls
 
   -- a step meets the premise: no list has won so many exchanges
-  near : (t : ℕ) → Premise (eventOf (step t) lent) p
-  near t = short n (eventOf (step t) lent ∷ []) p (B .most-won) (omega (arith, small)) tt .0
+  near : (t : ℕ) → Premise (eventOfCall (step t) lent) p
+  near t = short n (eventOfCall (step t) lent ∷ []) p (B .most-won) (omega (arith, small)) tt .0
 
   -- the lengths and the fields of what is lent
-  abbrev c : ℕ
-  c = length (lent .control)
-
-  abbrev a : ℕ
-  a = length (lent .area)
+  abbrev long : Lengths
+  long = lengths (lending lent)
 
   abbrev v : View
   v = seen (lent .control)
@@ -175,14 +173,15 @@ module _ {n : ℕ} {s : Memories} {p : Pool} (B : Beside n s p) (small : n < TAG
   pub same-allocate : (t size : ℕ) → SameAnswer (suc n) (onBytes (allocate t size) as-started s)
       (onPlain (allocate t size) as-started p)
   same-allocate t size =
-      same-lent (allocate t size) tt (length-linked (Stepped.allocateOutcome c a v t size .links) (lent .area))
+      same-lent (allocate t size) tt (length-linked (Stepped.allocateOutcome long v t size .links) (lent .area))
       (allocate-keeps fed t p size)
 
   pub same-free : (t u : ℕ) → SameAnswer (suc n) (onBytes (free t u) as-started s) (onPlain (free t u) as-started p)
   same-free t u =
-      same-lent (free t u) tt (length-linked (Stepped.freeOutcome c a v t u .links) (lent .area)) (free-keeps fed t p u)
+      same-lent (free t u) tt (length-linked (Stepped.freeOutcome long v t u .links) (lent .area))
+      (free-keeps fed t p u)
 
   pub same-step : (t : ℕ) → SameAnswer (suc n) (onBytes (step t) as-started s) (onPlain (step t) as-started p)
   same-step t =
-      same-lent (step t) (near t) (length-linked (Stepped.stepOutcome c a v (link (lent .area)) t .links) (lent .area))
+      same-lent (step t) (near t) (length-linked (Stepped.stepOutcome long v (link (lent .area)) t .links) (lent .area))
       (step-keeps fed t p)

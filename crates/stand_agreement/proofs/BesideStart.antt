@@ -20,14 +20,14 @@ use Rattle.control.specs.declared.answer.Answer.the-variants.{Accepted, Allocat
 use Rattle.control.specs.declared.answer.Answer.the-variants.{Refused}
 use Rattle.control.specs.declared.answer.Answer as A
 use Rattle.stepped.specs.Outcome.{Effect, Memories}
-use Rattle.stepped.specs.Calls.{effectOf}
+use Rattle.stepped.specs.Calls.{effectOf, lending}
 use Rattle.agreement.specs.Ends.{Begins, startRefusals}
 use Rattle.agreement.specs.Events.{stepped, whole}
 use Rattle.agreement.proofs.Ends.{start-ends}
 use Rattle.agreement.proofs.Lent.{start-leaves}
 use Rattle.agreement.specs.Reached.{History, happened, Reached, by-event}
 use Rattle.agreement.proofs.Theorem.{reached-agrees}
-use Rattle.demands.specs.Runs.{other, eventOf}
+use Rattle.demands.specs.Runs.{on-other, eventOfCall}
 use Rattle.demands.proofs.Acting.{shows}
 use Rattle.schedule.specs.Stand.{STAND-REGIONS}
 use Rattle.schedule.specs.Stand.{named}
@@ -81,43 +81,43 @@ module _ {n : ℕ} {s : Memories} {p : Pool} (B : Beside n s p) (b : Start) (reg
   part-is : length (lent .area) ≡ REGION-BYTES * regions
   part-is = part-length (REGION-BYTES * regions) (s .area) (omega (arith, few, B .area-is))
 
-  fed : whole (eventOf (start b) lent) p ≡ Calls.call (start b) lengths p
+  fed : whole (eventOfCall (start b) lent) p ≡ Calls.plainCall (start b) lengths p
   fed =
-      ap (λ (k : ℕ). Calls.call (start b) (record { control = k; area = length (lent .area) }) p) (tied B .length)
-      ∙ ap (λ (k : ℕ). Calls.call (start b) (record { control = CONTROL-BYTES; area = k }) p) part-is
+      ap (λ (k : ℕ). Calls.plainCall (start b) (record { control = k; area = length (lent .area) }) p) (tied B .length)
+      ∙ ap (λ (k : ℕ). Calls.plainCall (start b) (record { control = CONTROL-BYTES; area = k }) p) part-is
 
   -- what the stepped run and the whole run have of it
-  number-same : r ≡ numberIn (Calls.call (start b) lengths p .1)
+  number-same : r ≡ numberIn (Calls.plainCall (start b) lengths p .1)
   number-same =
       let S =
-      shows (other (start b) lent left r) before (record { number = refl; control-is = refl; area-is = refl }, tt) in
-      let A = reached-agrees (B .history) before p (B .reached) (eventOf (start b) lent) tt in
+      shows (on-other (start b) lent left r) before (record { number = refl; control-is = refl; area-is = refl }, tt) in
+      let A = reached-agrees (B .history) before p (B .reached) (eventOfCall (start b) lent) tt in
       sum (S .answers) ∙ ap numberIn (A .0 .says) ∙ ap (λ x. numberIn (x .1)) fed
 
   abbrev H : History
-  H = happened (eventOf (start b) lent) before p ∷ B .history
+  H = happened (eventOfCall (start b) lent) before p ∷ B .history
 
-  reached-after : Reached H (cond (eqb r 0) left before) (Calls.call (start b) lengths p .0)
+  reached-after : Reached H (cond (eqb r 0) left before) (Calls.plainCall (start b) lengths p .0)
   reached-after =
       let S =
-      shows (other (start b) lent left r) before (record { number = refl; control-is = refl; area-is = refl }, tt) in
-      subst (λ (z : Memories). Reached H z (Calls.call (start b) lengths p .0)) (S .leaves)
-      (subst (λ x. Reached H (stepped (eventOf (start b) lent) before .0) (x .0)) fed
-      (by-event (B .reached) (eventOf (start b) lent) tt))
+      shows (on-other (start b) lent left r) before (record { number = refl; control-is = refl; area-is = refl }, tt) in
+      subst (λ (z : Memories). Reached H z (Calls.plainCall (start b) lengths p .0)) (S .leaves)
+      (subst (λ x. Reached H (stepped (eventOfCall (start b) lent) before .0) (x .0)) fed
+      (by-event (B .reached) (eventOfCall (start b) lent) tt))
 
   answers : Begins startRefusals (e .answer)
-  answers = start-ends (length (lent .control)) (lent .area) (b .tasks) (lent .control) (lent .area) .answers
+  answers = start-ends b (lending lent) lent .answers
 
   abbrev s′ : Memories
   s′ = onPart (start b) (REGION-BYTES * regions) s .0
 
   abbrev p′ : Pool
-  p′ = Calls.call (start b) lengths p .0
+  p′ = Calls.plainCall (start b) lengths p .0
 
   accepted-beside : r ≡ 0 → 1 ≤ p′ .tasks → p′ .regions ≡ regions → Beside (suc n) s′ p′
   accepted-beside h k g =
       let kept : e .area ≡ lent .area =
-      start-leaves (lent .area) (b .tasks) (length (lent .control)) (lent .control) (lent .area)
+      start-leaves b (lending lent) lent
       (sym (number-code (e .answer) answers) ∙ h) in
       let long : length (e .area) ≡ REGION-BYTES * regions = ap length kept ∙ part-is in
       let q : regionsFed p′ ≡ regions =
@@ -140,16 +140,17 @@ module _ {n : ℕ} {s : Memories} {p : Pool} (B : Beside n s p) (b : Start) (reg
   refused-beside h k =
       let R = refusal (e .answer) answers h in
       let L =
-      start-ends (length (lent .control)) (lent .area) (b .tasks) (lent .control) (lent .area) .leaves (R .0) (R .1) in
+      start-ends b (lending lent) lent .leaves (R .0) (R .1) in
       let same : s ≡ s′ =
       sym ((λ i. record { control = L .0 i; area = putMid 0 (REGION-BYTES * regions) (s .area) (L .1 i) })
       ∙ (λ i. record { control = s .control; area = put-same 0 (REGION-BYTES * regions) (s .area) i })) in
       subst (λ (z : Memories). Beside (suc n) z p′) same
       (subst (λ (z : Pool). Beside (suc n) s z) (sym k) (later (omega arith) B))
 
-  by : StartIs regions p (Calls.call (start b) lengths p) → Beside (suc n) s′ p′
+  by : StartIs regions p (Calls.plainCall (start b) lengths p) → Beside (suc n) s′ p′
   by (accepted z k g) = accepted-beside (number-same ∙ z) k g
-  by (refused z k) = refused-beside (λ h. z (code-zero (Calls.call (start b) lengths p .1) (sym number-same ∙ h))) k
+  by (refused z k) =
+      refused-beside (λ h. z (code-zero (Calls.plainCall (start b) lengths p .1) (sym number-same ∙ h))) k
 
   pub same-lent : SameAnswer (suc n) (onPart (start b) (REGION-BYTES * regions) s)
       (feeding (start b) (REGION-BYTES * regions) p)

@@ -28,16 +28,16 @@ tested-keeps t lent p x =
     (λ a. (refl, refl))
 
 module _ (lent : Lengths) (t : ℕ) (p : Pool) where
-  pub allocate-keeps : (size : ℕ) → SameStart p (Calls.call (Calls.allocate t size) lent p .0)
-  unfolding Calls.call
+  pub allocate-keeps : (size : ℕ) → SameStart p (Calls.plainCall (Calls.allocate t size) lent p .0)
+  unfolding Calls.plainCall
   allocate-keeps size = tested-keeps t lent p _
 
-  pub free-keeps : (u : ℕ) → SameStart p (Calls.call (Calls.free t u) lent p .0)
-  unfolding Calls.call
+  pub free-keeps : (u : ℕ) → SameStart p (Calls.plainCall (Calls.free t u) lent p .0)
+  unfolding Calls.plainCall
   free-keeps u = tested-keeps t lent p _
 
-  pub step-keeps : SameStart p (Calls.call (Calls.step t) lent p .0)
-  unfolding Calls.call
+  pub step-keeps : SameStart p (Calls.plainCall (Calls.step t) lent p .0)
+  unfolding Calls.plainCall
   step-keeps = tested-keeps t lent p _
 
 pub same-regions : (p p′ : Pool) → SameStart p p′ → regionsFed p′ ≡ regionsFed p
@@ -52,13 +52,13 @@ pub data StartIs (regions : ℕ) (p : Pool) (x : Pool × Answer) : Type 0 where
 
 pub start-is : (b : Start) (regions : ℕ) (p : Pool)
     → StartIs regions p
-    (Calls.call (Calls.start b) (record { control = CONTROL-BYTES; area = REGION-BYTES * regions }) p)
-unfolding Calls.call
+    (Calls.plainCall (Calls.start b) (record { control = CONTROL-BYTES; area = REGION-BYTES * regions }) p)
+unfolding Calls.plainCall
 start-is b regions p =
     let Q = StartIs regions p in
     either Q (ℕ-discrete CONTROL-BYTES CONTROL-BYTES) _ _
-    (λ a. either Q (Calls.area? (REGION-BYTES * regions)) _ _
-    (λ d. either Q (Calls.tasks? (b .tasks)) _ _ (λ c. accepted refl (c .0) (omega arith))
+    (λ a. either Q (Calls.startArea? (REGION-BYTES * regions)) _ _
+    (λ d. either Q (Calls.startTasks? (b .tasks)) _ _ (λ c. accepted refl (c .0) (omega arith))
     (λ c. refused (λ e. absurd (omega arith)) refl))
     (λ d. refused (λ e. absurd (omega arith)) refl))
     (λ a. refused (λ e. absurd (omega arith)) refl)

@@ -11,7 +11,7 @@ use Rattle.limits.specs.Limits.{CONTROL-BYTES, TAGS}
 use Rattle.fields.specs.Little.{Bytes, getLE}
 use Rattle.fields.proofs.Numbers.{getLE-lt}
 use Rattle.plain.specs.Calls.{Pool, step, unstarted}
-use Rattle.fields.specs.Columns.{at as atColumn, width}
+use Rattle.fields.specs.Columns.{firstByte, width}
 use Rattle.control.specs.Layout.{layout, Tasks}
 use Rattle.stepped.specs.Outcome.{Memories}
 use Rattle.agreement.proofs.Images.{zeros as zeros-are, getLE-zeros}
@@ -22,7 +22,7 @@ use Rattle.schedule.specs.declared.record.Record.the-variants.{Start, Allocate,
 use Rattle.schedule.specs.declared.tally.Tally.{Tally}
 use Rattle.schedule.specs.declared.treat.Line.{Line}
 use Rattle.schedule.specs.Records.{wideOf, recordAt, entryAt, endOf}
-use Rattle.schedule.specs.Tally.{none, counted}
+use Rattle.schedule.specs.Tally.{noneCounted, counted}
 use Rattle.schedule.specs.Stand.{STAND-AREA}
 use Rattle.schedule.specs.Stand.{as-started, lineOf, runs, treated, table}
 use Rattle.schedule.specs.Bytes.{zeros, onBytes}
@@ -163,7 +163,7 @@ zeros-beside = record {
       (record {
         length = length-replicate {A = ℕ} CONTROL-BYTES 0;
         bytes = λ i. rw (zeros-are CONTROL-BYTES i) (omega arith);
-        tasks = getLE-zeros CONTROL-BYTES (atColumn layout Tasks) (width layout Tasks);
+        tasks = getLE-zeros CONTROL-BYTES (firstByte layout Tasks) (width layout Tasks);
       });
   most-won = λ h ℓ. absurd (omega arith);
 }
@@ -172,6 +172,8 @@ zeros-beside = record {
 -- There is no premise: no user writes, the control memory is zero at first, and the input bounds the number of
 -- exchanges.
 pub stand-table : (input : List ℕ) → Bytes input → length input ≤ 65536
-    → table onBytes (length input) input 0 0 none zeros ≡ table onPlain (length input) input 0 0 none unstarted
+    → table onBytes (length input) input 0 0 noneCounted zeros
+    ≡ table onPlain (length input) input 0 0 noneCounted unstarted
 stand-table input bytes long =
-    same-table input bytes long (length input) 0 0 0 none zeros unstarted (omega arith) (omega arith) zeros-beside
+    same-table input bytes long (length input) 0 0 0 noneCounted zeros unstarted (omega arith) (omega arith)
+    zeros-beside

@@ -1,13 +1,13 @@
 -- The image of a start, column by column.
 use mathlib.Core.Path.{_≡_, refl, sym, ap, _∙_}
 use mathlib.Core.List.{List, [], _∷_, _++_}
-use Prim.Native.Nat.{ℕ, suc, _+_, _-_, _*_, _≤_, _<_}
+use Prim.Native.Nat.{ℕ, suc, _+_, _-_, _≤_, _<_}
 use native.Mathlib.Omega.{arith}
 use lib.ListN.{length, drop, replicate, drop-of-length-le}
 use Rattle.limits.specs.Limits.{CONTROL-BYTES, UNITS, DESCRIPTORS, SPARE-DESCRIPTORS, SPARE-REGIONS}
 use Rattle.fields.specs.Columns.{Field, Write, _:=_}
 use Rattle.fields.proofs.Layouts.{length-written}
-use Rattle.control.specs.Layout.{CACHES, layout, changed, Head, Tasks, Regions, DescriptorNext, RegionNext, Top}
+use Rattle.control.specs.Layout.{CACHES, layout, changed, Head, Tasks, Regions, DescriptorNext, RegionNext, TopOfCache}
 use Rattle.stepped.specs.Start.{fill, nextUp, startWrites, startImage}
 use Rattle.start.specs.Filled.{filled}
 
@@ -73,12 +73,12 @@ pub image-is : (tasks regions n : ℕ) {b₀ b₁ b₂ b₃ b₄ b₅ b₆ b₇ 
     → b₄ ≡ changed (Head SPARE-REGIONS := 1 ∷ []) b₃
     → b₅ ≡ filled DescriptorNext (nextUp DESCRIPTORS) DESCRIPTORS b₄
     → b₆ ≡ filled RegionNext (nextUp regions) regions b₅
-    → b₇ ≡ filled Top (λ i. UNITS) CACHES b₆ → b₇ ≡ startImage tasks regions
+    → b₇ ≡ filled TopOfCache (λ i. UNITS) CACHES b₆ → b₇ ≡ startImage tasks regions
 unfolding startImage startWrites filled
 image-is tasks regions n e h₀ h₁ h₂ h₃ h₄ h₅ h₆ h₇ =
     let ds = fill DescriptorNext (nextUp DESCRIPTORS) DESCRIPTORS in
     let rs = fill RegionNext (nextUp regions) regions in
-    let ts = fill Top (λ i. UNITS) CACHES in
+    let ts = fill TopOfCache (λ i. UNITS) CACHES in
     let zeros : List ℕ = replicate CONTROL-BYTES 0 in
     let heads = Tasks := tasks ∷ Regions := regions ∷ Head SPARE-DESCRIPTORS := 1 ∷ Head SPARE-REGIONS := 1 ∷ [] in
     h₇

@@ -8,14 +8,14 @@ ghost use mathlib.Core.Path.{_≡_};
 ghost use Prim.Native.Nat.{_*_, _<_, _≤_};
 ghost use lib.ListN.{length, replicate};
 ghost use Rattle.limits.specs.Limits.{UNITS, TASKS, REGIONS, DESCRIPTORS};
-ghost use Rattle.control.specs.Layout.{CACHES, Control, DescriptorNext, RegionNext, Top};
+ghost use Rattle.control.specs.Layout.{CACHES, Control, DescriptorNext, RegionNext, TopOfCache};
 ghost use Rattle.stepped.specs.Start.{nextUp, startImage};
 ghost use Rattle.start.specs.Filled.{filled};
 
 // How many descriptors are spare at first, all of them; how many caches there are; the top of a cache without blocks.
 const SPARES: u8 = limits::DESCRIPTORS as u8;
 
-const CACHES: usize = layout::STRIDE * limits::TASKS;
+const CACHES: usize = layout::CACHES_OF_TASK * limits::TASKS;
 
 const BOTTOM: u16 = limits::UNITS as u16;
 
@@ -66,7 +66,7 @@ fn chain_regions(control: &mut [u8], regions: u8)
 // The top of each of the caches: no block.
 fn empty_caches(control: &mut [u8])
     requires { ⌜ Control (now control) ⌝ }
-    ensures { λ r. ⌜ now (control .exit) ≡ filled Top (λ i. UNITS) CACHES (now (control .entry)) ⌝ }
+    ensures { λ r. ⌜ now (control .exit) ≡ filled TopOfCache (λ i. UNITS) CACHES (now (control .entry)) ⌝ }
 {
     let mut i: usize = CACHES;
     while 0 < i {

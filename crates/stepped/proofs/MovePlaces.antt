@@ -7,6 +7,7 @@ use Rattle.fields.specs.Columns.{View}
 use Rattle.control.specs.Places.{IDLE, A1, A3-READ, A3-EXCHANGE, A4, A7, A8, F1, F2, F3-READ, F3-LINK, F3-EXCHANGE}
 use Rattle.control.specs.Places.{F4-CLEAR}
 use Rattle.control.specs.Places.{PLACES}
+use Rattle.control.specs.Places.{TO-NEXT, TO-EXCHANGE}
 use Rattle.control.specs.declared.moves.Pop.{Pop}
 use Rattle.control.specs.declared.moves.Pop.the-variants.{Partial, Spare, Region}
 use Rattle.control.specs.declared.moves.Push.{Push}
@@ -16,10 +17,10 @@ use Rattle.stepped.specs.Lists.{pushExchange}
 use Rattle.stepped.specs.Outcome.{refuse}
 use Rattle.stepped.specs.Allocate as Allocate
 use Rattle.stepped.specs.Free as Free
-use Rattle.stepped.specs.Steps.{steps, stepAt}
+use Rattle.stepped.specs.Steps.{stepList, stepAt}
 
 -- there are as many steps as places
-pub steps-places : (v : View) (link : ℕ → ℕ) (regions t c : ℕ) → length (steps v link regions t c) ≡ PLACES
+pub steps-places : (v : View) (link : ℕ → ℕ) (regions t c : ℕ) → length (stepList v link regions t c) ≡ PLACES
 steps-places v link regions t c = refl
 
 -- the step at each place that is no move's; idle is "7 step without one"
@@ -59,8 +60,8 @@ place-steps v link regions t c = record {
 -- the step at each of the three places of a pop
 pub pop-steps : (v : View) (link : ℕ → ℕ) (regions t c : ℕ) (P : Pop)
     → (stepAt v link regions t c (popPlace P) ≡ popRead v regions t c P)
-    × (stepAt v link regions t c (popPlace P + 1) ≡ popNext v regions t c P)
-    × (stepAt v link regions t c (popPlace P + 2) ≡ popExchange v regions t c P)
+    × (stepAt v link regions t c (popPlace P + TO-NEXT) ≡ popNext v regions t c P)
+    × (stepAt v link regions t c (popPlace P + TO-EXCHANGE) ≡ popExchange v regions t c P)
 unfolding stepAt
 pop-steps v link regions t c Partial = (refl, refl, refl)
 pop-steps v link regions t c Spare = (refl, refl, refl)
@@ -69,8 +70,8 @@ pop-steps v link regions t c Region = (refl, refl, refl)
 -- the step at each of the three places of a push
 pub push-steps : (v : View) (link : ℕ → ℕ) (regions t c : ℕ) (P : Push)
     → (stepAt v link regions t c (pushPlace P) ≡ pushRead v regions t c P)
-    × (stepAt v link regions t c (pushPlace P + 1) ≡ pushNext v regions t c P)
-    × (stepAt v link regions t c (pushPlace P + 2) ≡ pushExchange v regions t c P)
+    × (stepAt v link regions t c (pushPlace P + TO-NEXT) ≡ pushNext v regions t c P)
+    × (stepAt v link regions t c (pushPlace P + TO-EXCHANGE) ≡ pushExchange v regions t c P)
 unfolding stepAt
 push-steps v link regions t c Retire = (refl, refl, refl)
 push-steps v link regions t c Back = (refl, refl, refl)

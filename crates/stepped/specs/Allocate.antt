@@ -3,7 +3,7 @@ use Prim.Native.Nat.{ℕ, _+_, _-_, _/_, _%_}
 use mathlib.Core.Bool.{cond, _&&_}
 use mathlib.Core.List.{[], _∷_}
 use lib.Dec.{ltb, leb, eqb}
-use Rattle.limits.specs.Limits.{DESCRIPTORS}
+use Rattle.limits.specs.Limits.{DESCRIPTORS, WORD-MARKS}
 use Rattle.fields.specs.Columns.{View, _:=_}
 use Rattle.links.specs.Link.{_⇒_}
 use Rattle.words.specs.Anchor.{EMPTY, anchorOf, anchorWord, full}
@@ -23,6 +23,7 @@ use Rattle.stepped.specs.Lists.{popPlace, pushPlace}
 
 -- v: what stands in the fields; link: each block's link; t: the task, whose request is of the class c
 module _ (v : View) (link : ℕ → ℕ) (regions t c : ℕ) where
+  -- how many blocks of the class a region has
   abbrev n : ℕ
   n = perRegion c
 
@@ -36,11 +37,12 @@ module _ (v : View) (link : ℕ → ℕ) (regions t c : ℕ) where
       (TaskPlace t := IDLE
       ∷ CacheTop t c := link u
       ∷ CacheCount t c := (k - 1)
-      ∷ Marks (u / 64) := withSet (v (Marks (u / 64))) (u % 64)
+      ∷ Marks (u / WORD-MARKS) := withSet (v (Marks (u / WORD-MARKS))) (u % WORD-MARKS)
       ∷ [])
       [])
       bad
 
+  -- the step
   unfoldable pub a1 : Outcome
   a1 =
       let k = v (CacheCount t c) in
@@ -63,6 +65,7 @@ module _ (v : View) (link : ℕ → ℕ) (regions t c : ℕ) where
       bad))
       bad
 
+  -- the read of the anchor of the descriptor in hand
   unfoldable pub a3Read : Outcome
   a3Read = cond (ltb (v (TaskDescriptor t)) DESCRIPTORS) (a3ReadOf (v (TaskDescriptor t))) bad
 
@@ -85,6 +88,7 @@ module _ (v : View) (link : ℕ → ℕ) (regions t c : ℕ) where
       (accept (anchor-lost d) (TaskPlace t := A3-READ ∷ []) []))
       bad
 
+  -- the exchange of the anchor of the descriptor in hand
   unfoldable pub a3Exchange : Outcome
   a3Exchange =
       let d = v (TaskDescriptor t) in
@@ -105,6 +109,7 @@ module _ (v : View) (link : ℕ → ℕ) (regions t c : ℕ) where
       (u ⇒ top ∷ []))
       bad)
 
+  -- the step, by the task's region, index and number of blocks left
   unfoldable pub a4 : Outcome
   a4 =
       let r = v (TaskRegion t) in
@@ -117,6 +122,7 @@ module _ (v : View) (link : ℕ → ℕ) (regions t c : ℕ) where
 
   -- ---- step 7: "One step writes the descriptor (FULL, n, 0) and the map."
 
+  -- the step, by the task's descriptor and region
   unfoldable pub a7 : Outcome
   a7 =
       let d = v (TaskDescriptor t) in
@@ -142,6 +148,7 @@ module _ (v : View) (link : ℕ → ℕ) (regions t c : ℕ) where
       (accept nothing (TaskPlace t := A1 ∷ CacheTop t c := u ∷ CacheCount t c := (k + 1) ∷ []) (u ⇒ top ∷ []))
       (accept nothing (TaskIndex t := (i + 1) ∷ CacheTop t c := u ∷ CacheCount t c := (k + 1) ∷ []) (u ⇒ top ∷ []))
 
+  -- the step, by the task's region and index
   unfoldable pub a8 : Outcome
   a8 =
       let r = v (TaskRegion t) in

@@ -7,7 +7,7 @@ use mathlib.Core.List.{List, [], _∷_}
 use lib.Dec.{ltb, leb, eqb}
 use lib.ListN.{length}
 use Rattle.limits.specs.Limits.{CONTROL-BYTES, REGIONS, REGION-BYTES, AREA-BYTES, TASKS, CLASSES, DESCRIPTORS}
-use Rattle.limits.specs.Limits.{MOST-BYTES}
+use Rattle.limits.specs.Limits.{LARGEST-SIZE, WORD-MARKS}
 use Rattle.fields.specs.Columns.{View, _:=_}
 use Rattle.links.specs.Link
 use Rattle.words.specs.Anchor.{EMPTY, anchorOf}
@@ -15,7 +15,7 @@ use Rattle.words.specs.Mark.{isSet, withClear}
 use Rattle.classes.specs.Sizes.{classOf}
 use Rattle.classes.specs.Geometry.{regionOf, isFirst}
 use Rattle.plain.specs.Moves.{nothing}
-use Rattle.plain.specs.Calls.{Call, start, allocate, free, step, Lengths}
+use Rattle.plain.specs.Calls.{Start, Call, start, allocate, free, step, Lengths}
 use Rattle.control.specs.Layout.{Anchor, Marks, TaskUnit, TaskPlace, TaskClass, DescriptorRegion, DescriptorClass}
 use Rattle.control.specs.Layout.{Map, Tasks, Regions, seen}
 use Rattle.control.specs.Places.{IDLE, A1, F1, PLACES}
@@ -28,15 +28,15 @@ use Rattle.stepped.specs.Start.{startImage}
 -- ---- the tests that every call but a start passes first
 
 -- tests 1, 4, 2, 5, by the lengths that are lent; then x. "4 pool not started (control all zero is such a pool)"
-unfoldable pub tested : ℕ → ℕ → View → ℕ → Outcome → Outcome
-tested control area v t x =
+unfoldable pub tested : Lengths → View → ℕ → Outcome → Outcome
+tested lent v t x =
     let tasks = v Tasks in
     let regions = v Regions in
-    cond (eqb control CONTROL-BYTES)
+    cond (eqb (lent .control) CONTROL-BYTES)
     (cond (leb tasks TASKS)
     (cond (eqb tasks 0) (refuse 4)
     (cond (oneTo REGIONS regions)
-    (cond (eqb area (REGION-BYTES * regions))
+    (cond (eqb (lent .area) (REGION-BYTES * regions))
     (cond (ltb t tasks) x (refuse 5))
     (refuse 2))
     bad))
@@ -45,13 +45,13 @@ tested control area v t x =
 
 -- The tests 1, 4, 2, 5 pass: the two memories have their lengths, the started numbers of tasks and regions are in their
 -- ranges, and the task is one of them.
-pub record Tested (control area : ℕ) (v : View) (t : ℕ) : Type 0 where
-  pub control-is : control ≡ CONTROL-BYTES
+pub record Tested (lent : Lengths) (v : View) (t : ℕ) : Type 0 where
+  pub control-is : lent .control ≡ CONTROL-BYTES
   pub started : 1 ≤ v Tasks
   pub tasks : v Tasks ≤ TASKS
   pub some : 1 ≤ v Regions
   pub regions : v Regions ≤ REGIONS
-  pub area-is : area ≡ REGION-BYTES * v Regions
+  pub area-is : lent .area ≡ REGION-BYTES * v Regions
   pub below : t < v Tasks
 
 -- "6 the task has a request in hand"; then the beginning x. A place past the step list is outside its range.
@@ -64,19 +64,19 @@ whenIdle v t x = cond (ltb (v (TaskPlace t)) PLACES) (cond (eqb (v (TaskPlace t)
 unfoldable pub beginAllocate : ℕ → ℕ → Outcome
 beginAllocate t size =
     cond (eqb size 0) (refuse 8)
-    (cond (ltb MOST-BYTES size) (refuse 9)
+    (cond (ltb LARGEST-SIZE size) (refuse 9)
     (accept nothing (TaskPlace t := A1 ∷ TaskClass t := classOf size ∷ []) []))
 
 -- the mark of the unit u, a block of the class c: "11 such a unit, but its mark is clear"; else the mark is cleared
 unfoldable pub freeMarked : View → ℕ → ℕ → ℕ → Outcome
 freeMarked v t u c =
-    let marks = v (Marks (u / 64)) in
-    cond (isSet marks (u % 64))
+    let marks = v (Marks (u / WORD-MARKS)) in
+    cond (isSet marks (u % WORD-MARKS))
     (accept nothing
     (TaskPlace t := F1
     ∷ TaskClass t := c
     ∷ TaskUnit t := u
-    ∷ Marks (u / 64) := withClear marks (u % 64)
+    ∷ Marks (u / WORD-MARKS) := withClear marks (u % WORD-MARKS)
     ∷ [])
     [])
     (refuse 11)
@@ -109,29 +109,6 @@ beginFree v regions t u = cond (ltb (regionOf u) regions) (freeEntry v regions t
 
 -- ---- the calls, from the bytes that are lent to the bytes that they leave
 
--- "1 control not 8,192 bytes; 2 area length zero, no multiple of 4,096 or above 65,536; 3 tasks not 1 to 8". An
--- accepted start is lent the area and leaves it as it is; a refused one leaves the memories `control` and `before`.
-unfoldable pub startIn : ℕ → List ℕ → ℕ → List ℕ → List ℕ → Effect
-startIn size area tasks control before =
-    let bytes = length area in
-    cond (eqb size CONTROL-BYTES)
-    (cond (eqb (bytes % REGION-BYTES) 0 && oneTo AREA-BYTES bytes)
-    (cond (oneTo TASKS tasks)
-    (record { answer = Accepted; decided = nothing; control = startImage tasks (bytes / REGION-BYTES); area = area })
-    (effect (refuse 3) control before))
-    (effect (refuse 2) control before))
-    (effect (refuse 1) control before)
-
--- the outcome of a call that is no start, by the lengths lent, the fields and the links
-unfoldable pub allocateOutcome : ℕ → ℕ → View → ℕ → ℕ → Outcome
-allocateOutcome control area v t size = tested control area v t (whenIdle v t (beginAllocate t size))
-
-unfoldable pub freeOutcome : ℕ → ℕ → View → ℕ → ℕ → Outcome
-freeOutcome control area v t u = tested control area v t (whenIdle v t (beginFree v (v Regions) t u))
-
-unfoldable pub stepOutcome : ℕ → ℕ → View → (ℕ → ℕ) → ℕ → Outcome
-stepOutcome control area v link t = tested control area v t (Steps.step v link (v Regions) t)
-
 -- What a call is lent: a control memory of so many bytes, and an area. A start takes the area for the pool's; of any
 -- other call the area's length alone matters.
 pub record Lent : Type 0 where
@@ -142,16 +119,38 @@ pub record Lent : Type 0 where
 abbrev pub lengths : Lent → Lengths
 lengths lent = record { control = lent .control; area = length (lent .area) }
 
+-- "1 control not 8,192 bytes; 2 area length zero, no multiple of 4,096 or above 65,536 ..; 3 tasks not 1 to 8". An
+-- accepted start takes the area that it is lent and leaves it as it is; a refused one leaves the pool's memories s.
+unfoldable pub startIn : Start → Lent → Memories → Effect
+startIn b lent s =
+    let bytes = length (lent .area) in
+    let image = startImage (b .tasks) (bytes / REGION-BYTES) in
+    cond (eqb (lent .control) CONTROL-BYTES)
+    (cond (eqb (bytes % REGION-BYTES) 0 && oneTo AREA-BYTES bytes)
+    (cond (oneTo TASKS (b .tasks))
+    (record { answer = Accepted; decided = nothing; control = image; area = lent .area })
+    (effect (refuse 3) s))
+    (effect (refuse 2) s))
+    (effect (refuse 1) s)
+
+-- the beginning of an allocation, by the lengths lent and the fields
+unfoldable pub allocateOutcome : Lengths → View → ℕ → ℕ → Outcome
+allocateOutcome lent v t size = tested lent v t (whenIdle v t (beginAllocate t size))
+
+-- the beginning of a free
+unfoldable pub freeOutcome : Lengths → View → ℕ → ℕ → Outcome
+freeOutcome lent v t u = tested lent v t (whenIdle v t (beginFree v (v Regions) t u))
+
+-- "one call is one step of one task", by the links too
+unfoldable pub stepOutcome : Lengths → View → (ℕ → ℕ) → ℕ → Outcome
+stepOutcome lent v link t = tested lent v t (Steps.stepOf v link (v Regions) t)
+
 -- what a call makes of the pool's memories s, which need not be those that it is lent
 abbrev pub effectIn : Call → Lent → Memories → Effect
-effectIn (start b) lent s = startIn (lent .control) (lent .area) (b .tasks) (s .control) (s .area)
-effectIn (allocate t size) lent s =
-    effect (allocateOutcome (lent .control) (length (lent .area)) (seen (s .control)) t size) (s .control) (s .area)
-effectIn (free t u) lent s =
-    effect (freeOutcome (lent .control) (length (lent .area)) (seen (s .control)) t u) (s .control) (s .area)
-effectIn (step t) lent s =
-    effect (stepOutcome (lent .control) (length (lent .area)) (seen (s .control)) (Link.link (s .area)) t)
-    (s .control) (s .area)
+effectIn (start b) lent s = startIn b lent s
+effectIn (allocate t size) lent s = effect (allocateOutcome (lengths lent) (seen (s .control)) t size) s
+effectIn (free t u) lent s = effect (freeOutcome (lengths lent) (seen (s .control)) t u) s
+effectIn (step t) lent s = effect (stepOutcome (lengths lent) (seen (s .control)) (Link.link (s .area)) t) s
 
 -- the memories s, lent to a call
 abbrev pub lending : Memories → Lent

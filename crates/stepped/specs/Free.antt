@@ -21,6 +21,7 @@ use Rattle.stepped.specs.Lists.{pushPlace, f5}
 
 -- v: what stands in the fields; link: each block's link; t: the task, whose request is of the class c
 module _ (v : View) (link : ℕ → ℕ) (regions t c : ℕ) where
+  -- how many blocks of the class a region has
   abbrev n : ℕ
   n = perRegion c
 
@@ -33,6 +34,7 @@ module _ (v : View) (link : ℕ → ℕ) (regions t c : ℕ) where
       (over Freed nothing (TaskPlace t := IDLE ∷ CacheTop t c := u ∷ CacheCount t c := (k + 1) ∷ []) (u ⇒ top ∷ []))
       bad
 
+  -- the step
   unfoldable pub f1 : Outcome
   f1 =
       let k = v (CacheCount t c) in
@@ -83,6 +85,7 @@ module _ (v : View) (link : ℕ → ℕ) (regions t c : ℕ) where
       (cond (ltb r regions) (cond (eqb (regionOf u) r) (f2More k u g r) f2Close) bad))
       bad
 
+  -- the step
   unfoldable pub f2 : Outcome
   f2 =
       let k = v (CacheCount t c) in
@@ -106,12 +109,14 @@ module _ (v : View) (link : ℕ → ℕ) (regions t c : ℕ) where
   unfoldable pub f3ReadBy : ℕ → ℕ → Outcome
   f3ReadBy entry g = cond (oneTo DESCRIPTORS entry) (f3ReadOf (entry - 1) g) bad
 
+  -- "Read the anchor", by the map's entry of the group's region
   unfoldable pub f3Read : Outcome
   f3Read =
       let r = v (TaskRegion t) in
       let g = v (GroupCount t) in
       cond (ltb r regions && oneTo n g) (f3ReadBy (v (Map r)) g) bad
 
+  -- "Write the last link to its avail", the noted anchor's
   unfoldable pub f3Link : Outcome
   f3Link =
       let r = v (TaskRegion t) in
@@ -129,6 +134,7 @@ module _ (v : View) (link : ℕ → ℕ) (regions t c : ℕ) where
       cond (eqb (a .count + g) n) (accept (gave d) (TaskPlace t := F4-CLEAR ∷ ws) [])
       (f5 v regions t c (a .state) (gave d) ws)
 
+  -- the exchange of the anchor of the descriptor d, which was noted as `word`: "Lost: read again"
   unfoldable pub f3ExchangeOf : ℕ → ℕ → ℕ → ℕ → Outcome
   f3ExchangeOf d word first g =
       cond (isAnchor (v (Anchor d)))
@@ -137,6 +143,7 @@ module _ (v : View) (link : ℕ → ℕ) (regions t c : ℕ) where
       (accept (anchor-lost d) (TaskPlace t := F3-READ ∷ []) []))
       bad
 
+  -- "Exchange", by the task's notes
   unfoldable pub f3Exchange : Outcome
   f3Exchange =
       let d = v (TaskDescriptor t) in
@@ -149,6 +156,7 @@ module _ (v : View) (link : ℕ → ℕ) (regions t c : ℕ) where
   -- ---- step 4: "If now EMPTY: one step clears the map entry of the group's region, then push that region on its spare
   -- list."
 
+  -- the step that clears the entry
   unfoldable pub f4Clear : Outcome
   f4Clear =
       let r = v (TaskRegion t) in

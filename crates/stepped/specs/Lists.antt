@@ -15,6 +15,7 @@ use Rattle.control.specs.Layout.{Head, TaskHead, CacheCount, GroupCount, TaskPl
 use Rattle.control.specs.Layout.{TaskRegion, TaskState, DescriptorNext, RegionNext}
 use Rattle.control.specs.Places.{IDLE, A3-READ, A7, F1, F2, POP-PARTIAL, POP-SPARE, POP-REGION, PUSH-RETIRE}
 use Rattle.control.specs.Places.{PUSH-BACK, PUSH-RELEASE, PUSH-OFFER}
+use Rattle.control.specs.Places.{TO-NEXT, TO-EXCHANGE}
 use Rattle.control.specs.declared.answer.Answer.the-variants.{NoDescriptor, NoRegion}
 use Rattle.control.specs.declared.moves.Pop.{Pop}
 use Rattle.control.specs.declared.moves.Pop.the-variants.{Partial, Spare, Region}
@@ -25,11 +26,13 @@ use Rattle.stepped.specs.Ranges.{oneTo}
 
 -- ---- the places of the moves: each has three in a row, from its first
 
+-- the first place of a pop
 abbrev pub popPlace : Pop → ℕ
 popPlace Partial = POP-PARTIAL
 popPlace Spare = POP-SPARE
 popPlace Region = POP-REGION
 
+-- the first place of a push
 abbrev pub pushPlace : Push → ℕ
 pushPlace Retire = PUSH-RETIRE
 pushPlace Back = PUSH-BACK
@@ -38,33 +41,39 @@ pushPlace Offer = PUSH-OFFER
 
 -- ---- the list of a move, for a request of the class c; how many items there are; and where an item's next stands
 
+-- the list of a pop, for a request of the class c
 abbrev pub popList : Pop → ℕ → ℕ
 popList Partial c = c
 popList Spare c = SPARE-DESCRIPTORS
 popList Region c = SPARE-REGIONS
 
+-- how many items there are, in an area of so many regions
 abbrev pub popItems : Pop → ℕ → ℕ
 popItems Partial regions = DESCRIPTORS
 popItems Spare regions = DESCRIPTORS
 popItems Region regions = regions
 
+-- where the next of an item stands
 abbrev pub popNextField : Pop → ℕ → Field
 popNextField Partial = DescriptorNext
 popNextField Spare = DescriptorNext
 popNextField Region = RegionNext
 
+-- the list of a push
 abbrev pub pushList : Push → ℕ → ℕ
 pushList Retire c = SPARE-DESCRIPTORS
 pushList Back c = SPARE-DESCRIPTORS
 pushList Release c = SPARE-REGIONS
 pushList Offer c = c
 
+-- how many items there are
 abbrev pub pushItems : Push → ℕ → ℕ
 pushItems Retire regions = DESCRIPTORS
 pushItems Back regions = DESCRIPTORS
 pushItems Release regions = regions
 pushItems Offer regions = DESCRIPTORS
 
+-- where the next of an item stands
 abbrev pub pushNextField : Push → ℕ → Field
 pushNextField Retire = DescriptorNext
 pushNextField Back = DescriptorNext
@@ -109,7 +118,7 @@ module _ (v : View) (regions t c : ℕ) where
       cond (eqb (itemOf word) 0)
       (whenEmpty p (found-empty (popList p c)))
       (cond (leb (itemOf word) (popItems p regions))
-      (accept nothing (TaskPlace t := (popPlace p + 1) ∷ TaskHead t := word ∷ []) [])
+      (accept nothing (TaskPlace t := (popPlace p + TO-NEXT) ∷ TaskHead t := word ∷ []) [])
       bad)
 
   -- "read the item's next", that of the item x
@@ -117,7 +126,7 @@ module _ (v : View) (regions t c : ℕ) where
   popNextOf p x =
       let next = v (popNextField p x) in
       cond (leb next (popItems p regions))
-      (accept nothing (TaskPlace t := (popPlace p + 2) ∷ TaskNext t := next ∷ []) [])
+      (accept nothing (TaskPlace t := (popPlace p + TO-EXCHANGE) ∷ TaskNext t := next ∷ []) [])
       bad
 
   -- the item is the noted head's
@@ -153,7 +162,7 @@ module _ (v : View) (regions t c : ℕ) where
   pushRead p =
       let word = v (Head (pushList p c)) in
       cond (leb (itemOf word) (pushItems p regions))
-      (accept nothing (TaskPlace t := (pushPlace p + 1) ∷ TaskHead t := word ∷ []) [])
+      (accept nothing (TaskPlace t := (pushPlace p + TO-NEXT) ∷ TaskHead t := word ∷ []) [])
       bad
 
   -- "write the item's next": what is below the item will be what is on top now, the noted head's item
@@ -162,7 +171,7 @@ module _ (v : View) (regions t c : ℕ) where
       let x = v (itemField p t) in
       let below = itemOf (v (TaskHead t)) in
       cond (ltb x (pushItems p regions) && leb below (pushItems p regions))
-      (accept nothing (TaskPlace t := (pushPlace p + 2) ∷ pushNextField p x := below ∷ []) [])
+      (accept nothing (TaskPlace t := (pushPlace p + TO-EXCHANGE) ∷ pushNextField p x := below ∷ []) [])
       bad
 
   -- where a won push leads: step 3 "then 2", step 6 "the request ends with 13 at that won exchange", free's 4 and 5

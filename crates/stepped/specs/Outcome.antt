@@ -44,11 +44,11 @@ pub record Effect : Type 0 where
   pub control : List ℕ
   pub area : List ℕ
 
--- what an outcome makes of a control memory and an area
-abbrev pub effect : Outcome → List ℕ → List ℕ → Effect
-effect o control area = record {
+-- what an outcome makes of the memories s
+abbrev pub effect : Outcome → Memories → Effect
+effect o s = record {
   answer = o .answer;
   decided = o .decided;
-  control = changed (o .writes) control;
-  area = linked (o .links) area;
+  control = changed (o .writes) (s .control);
+  area = linked (o .links) (s .area);
 }

@@ -6,7 +6,7 @@ use lib.Dec.{eqb}
 use lib.ListN.{replicate}
 use Rattle.limits.specs.Limits.{CONTROL-BYTES, UNITS, DESCRIPTORS, SPARE-DESCRIPTORS, SPARE-REGIONS}
 use Rattle.fields.specs.Columns.{Field, Write, _:=_}
-use Rattle.control.specs.Layout.{CACHES, Head, Top, DescriptorNext, RegionNext, Tasks, Regions, changed}
+use Rattle.control.specs.Layout.{CACHES, Head, TopOfCache, DescriptorNext, RegionNext, Tasks, Regions, changed}
 
 -- the fields f 0 to f (n - 1) get the values x 0 to x (n - 1)
 abbrev pub fill : (ℕ → Field) → (ℕ → ℕ) → ℕ → List Write
@@ -25,7 +25,7 @@ startWrites tasks regions =
     ∷ Head SPARE-DESCRIPTORS := 1
     ∷ Head SPARE-REGIONS := 1
     ∷ (fill DescriptorNext (nextUp DESCRIPTORS) DESCRIPTORS
-    ++ (fill RegionNext (nextUp regions) regions ++ fill Top (λ i. UNITS) CACHES))
+    ++ (fill RegionNext (nextUp regions) regions ++ fill TopOfCache (λ i. UNITS) CACHES))
 
 -- "tasks idle, caches and partial lists empty, tags 0, marks clear, map entries none": every other byte is zero
 unfoldable pub startImage : ℕ → ℕ → List ℕ

@@ -17,8 +17,8 @@ use Rattle.stepped.specs.Free.{f1, f2, f3Read, f3Link, f3Exchange, f4Cle
 
 module _ (v : View) (link : ℕ → ℕ) (regions t c : ℕ) where
   -- the step at each place, in the order of the table of places; idle has "7 step without one"
-  abbrev pub steps : List Outcome
-  steps =
+  abbrev pub stepList : List Outcome
+  stepList =
       refuse 7
       ∷ a1 v link regions t c
       ∷ popRead v regions t c Partial
@@ -57,11 +57,11 @@ module _ (v : View) (link : ℕ → ℕ) (regions t c : ℕ) where
 
   -- a place past the list is outside its range
   unfoldable pub stepAt : ℕ → Outcome
-  stepAt place = getD steps place bad
+  stepAt place = getD stepList place bad
 
 -- one step of the task t: at a place other than idle the class of its request is read, too
-unfoldable pub step : View → (ℕ → ℕ) → ℕ → ℕ → Outcome
-step v link regions t =
+unfoldable pub stepOf : View → (ℕ → ℕ) → ℕ → ℕ → Outcome
+stepOf v link regions t =
     let place = v (TaskPlace t) in
     let c = v (TaskClass t) in
     cond (ltb IDLE place) (cond (ltb c CLASSES) (stepAt v link regions t c place) bad) (refuse 7)

@@ -10,7 +10,7 @@ use Rattle.fields.specs.Columns.{View}
 use Rattle.control.specs.Layout.{TaskPlace, TaskClass}
 use Rattle.control.specs.Places.{IDLE, PLACES}
 use Rattle.stepped.specs.Outcome.{Outcome, refuse, bad}
-use Rattle.stepped.specs.Steps.{steps, stepAt, step}
+use Rattle.stepped.specs.Steps.{stepList, stepAt, stepOf}
 
 -- a number past a list gives the other value
 past : (os : List Outcome) (n : ℕ) → length os ≤ n → getD os n bad ≡ bad
@@ -20,10 +20,10 @@ past (o ∷ os) (suc n) h = past os n (omega (arith, h))
 
 module _ (v : View) (link : ℕ → ℕ) (regions t c : ℕ) {place : ℕ} where
   -- the step at the place n of the list is x
-  pub at : (n : ℕ) {x : Outcome} → getD (steps v link regions t c) n bad ≡ x → place ≡ n
+  pub at : (n : ℕ) {x : Outcome} → getD (stepList v link regions t c) n bad ≡ x → place ≡ n
       → stepAt v link regions t c place ≡ x
   unfolding stepAt
-  at n p e = ap (λ (k : ℕ). getD (steps v link regions t c) k bad) e ∙ p
+  at n p e = ap (λ (k : ℕ). getD (stepList v link regions t c) k bad) e ∙ p
 
   -- the same place
   pub same : {n : ℕ} → place ≡ n → stepAt v link regions t c place ≡ stepAt v link regions t c n
@@ -31,22 +31,22 @@ module _ (v : View) (link : ℕ → ℕ) (regions t c : ℕ) {place : ℕ} where
 
   pub past-places : PLACES ≤ place → stepAt v link regions t c place ≡ bad
   unfolding stepAt
-  past-places h = past (steps v link regions t c) place h
+  past-places h = past (stepList v link regions t c) place h
 
 -- the tests of a step: a request in hand, and its class
 module _ (v : View) (link : ℕ → ℕ) (regions t : ℕ) where
-  pub idle : v (TaskPlace t) ≡ IDLE → step v link regions t ≡ refuse 7
-  unfolding step
+  pub idle : v (TaskPlace t) ≡ IDLE → stepOf v link regions t ≡ refuse 7
+  unfolding stepOf
   idle h = rw (le-ltb 0 (v (TaskPlace t)) (omega (arith, h))) refl
 
   module _ (h : 1 ≤ v (TaskPlace t)) where
-    pub no-class : CLASSES ≤ v (TaskClass t) → step v link regions t ≡ bad
-    unfolding step
+    pub no-class : CLASSES ≤ v (TaskClass t) → stepOf v link regions t ≡ bad
+    unfolding stepOf
     no-class g = rw (lt-ltb 0 (v (TaskPlace t)) h) (rw (le-ltb (v (TaskClass t)) CLASSES g) refl)
 
     pub to-place : {place c : ℕ} → place ≡ v (TaskPlace t) → c ≡ v (TaskClass t) → c < CLASSES
-        → step v link regions t ≡ stepAt v link regions t c place
-    unfolding step
+        → stepOf v link regions t ≡ stepAt v link regions t c place
+    unfolding stepOf
     to-place {place} {c} p k g =
         rw (lt-ltb 0 (v (TaskPlace t)) h)
         (rw (lt-ltb (v (TaskClass t)) CLASSES (omega (arith, k, g))) (rw (sym p) (rw (sym k) refl)))

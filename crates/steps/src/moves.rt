@@ -7,7 +7,7 @@ use steps_pops::pops;
 use steps_pushes::pushes;
 ghost use Prim.Native.Nat.{ℕ, _+_, _≤_, _<_};
 ghost use Rattle.control.specs.Layout.{seen};
-ghost use Rattle.control.specs.Places.{POP-PARTIAL, PUSH-RETIRE, A3-READ};
+ghost use Rattle.control.specs.Places.{POP-PARTIAL, PUSH-RETIRE, A3-READ, TO-EXCHANGE};
 ghost use Rattle.stepped.specs.Done.{Given, Done};
 ghost use Rattle.stepped.specs.Lists.{popPlace, pushPlace};
 ghost use Rattle.stepped.specs.Steps.{stepAt};
@@ -21,7 +21,7 @@ fn pop_step(
     pop: Pop,
     after: u8,
 ) -> Answer
-    requires { ⌜ Given (now control) regions task class × (after < 3) ⌝ }
+    requires { ⌜ Given (now control) regions task class × (after ≤ TO-EXCHANGE) ⌝ }
     ensures { λ r. ⌜ ((link : ℕ → ℕ)
         → Done (stepAt (seen (now (control .entry))) link regions task class (popPlace pop + after))
         (now (control .entry)) (now (control .exit)) r) ⌝ }
@@ -29,7 +29,7 @@ fn pop_step(
     if after == 0 {
         return pops::read(control, regions, task, class, pop);
     }
-    if after == 1 {
+    if after == places::TO_NEXT {
         return pops::next(control, regions, task, pop);
     }
     pops::exchange(control, regions, task, class, pop)
@@ -80,7 +80,7 @@ fn push_step(
     push: Push,
     after: u8,
 ) -> Answer
-    requires { ⌜ Given (now control) regions task class × (after < 3) ⌝ }
+    requires { ⌜ Given (now control) regions task class × (after ≤ TO-EXCHANGE) ⌝ }
     ensures { λ r. ⌜ ((link : ℕ → ℕ)
         → Done (stepAt (seen (now (control .entry))) link regions task class (pushPlace push + after))
         (now (control .entry)) (now (control .exit)) r) ⌝ }
@@ -88,7 +88,7 @@ fn push_step(
     if after == 0 {
         return pushes::read(control, regions, task, class, push);
     }
-    if after == 1 {
+    if after == places::TO_NEXT {
         return pushes::next(control, regions, task, push);
     }
     pushes::exchange(control, regions, task, class, push)

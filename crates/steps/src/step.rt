@@ -15,7 +15,7 @@ ghost use Rattle.links.specs.Link.{link};
 ghost use Rattle.control.specs.Layout.{Control, seen};
 ghost use Rattle.control.specs.Places.{A1, POP-PARTIAL, F1};
 ghost use Rattle.stepped.specs.Done.{GivenArea, DoneIn, NumberIn};
-ghost use Rattle.stepped.specs.Steps.{stepAt, step as stepOf};
+ghost use Rattle.stepped.specs.Steps.{stepAt, stepOf};
 
 // The step at a place that is not the first of a request. Caller: `at`.
 fn later(

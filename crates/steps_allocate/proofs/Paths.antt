@@ -4,7 +4,7 @@ use mathlib.Core.Bool.{true, false}
 use mathlib.Core.List.{List, [], _∷_}
 use Prim.Native.Nat.{ℕ, _-_, _/_, _%_, _≤_, _<_}
 use borrow.Author.Tests.{lt-ltb, le-ltb, le-leb, lt-leb, eq-eqb, ne-eqb}
-use Rattle.limits.specs.Limits.{DESCRIPTORS}
+use Rattle.limits.specs.Limits.{DESCRIPTORS, WORD-MARKS}
 use Rattle.fields.specs.Columns.{View, _:=_}
 use Rattle.words.specs.Anchor.{anchorOf}
 use Rattle.words.specs.Mark.{withSet}
@@ -49,7 +49,7 @@ module _ (v : View) (link : ℕ → ℕ) (regions t c : ℕ) where
           (TaskPlace t := IDLE
           ∷ CacheTop t c := x
           ∷ CacheCount t c := (k - 1)
-          ∷ Marks (u / 64) := withSet (v (Marks (u / 64))) (u % 64)
+          ∷ Marks (u / WORD-MARKS) := withSet (v (Marks (u / WORD-MARKS))) (u % WORD-MARKS)
           ∷ [])
           []
       unfolding a1Take

@@ -56,7 +56,7 @@ fn read_of(control: &mut [u8], task: usize, class: usize, descriptor: usize) -> 
     Answer::Accepted
 }
 
-// The step that reads the anchor. Caller: the step of a task at that place.
+// The step that reads the anchor. Caller: the step of a task at A3_READ.
 pub fn read(control: &mut [u8], task: usize, class: usize) -> Answer
     requires { ⌜ Control (now control) × (task < TASKS) × (class < CLASSES) ⌝ }
     ensures { λ r. ⌜ ((regions : ℕ) (link : ℕ → ℕ) → Done (a3Read (seen (now (control .entry))) link regions task class)
@@ -158,7 +158,7 @@ fn exchange_of(
     hold_chain(control, task, descriptor, full, chain)
 }
 
-// The step that exchanges the anchor. Caller: the step of a task at that place.
+// The step that exchanges the anchor. Caller: the step of a task at A3_EXCHANGE.
 pub fn exchange(control: &mut [u8], regions: usize, task: usize, class: usize) -> Answer
     requires { ⌜ Given (now control) regions task class ⌝ }
     ensures { λ r. ⌜ ((link : ℕ → ℕ) → Done (a3Exchange (seen (now (control .entry))) link regions task class)

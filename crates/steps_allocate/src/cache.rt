@@ -9,7 +9,7 @@ use words::mark;
 ghost use mathlib.Core.Path.{_≡_};
 ghost use mathlib.Core.List.{[], _∷_};
 ghost use Prim.Native.Nat.{_/_, _%_, _≤_, _<_};
-ghost use Rattle.limits.specs.Limits.{UNITS, TASKS, CLASSES};
+ghost use Rattle.limits.specs.Limits.{UNITS, TASKS, CLASSES, WORD-MARKS};
 ghost use Rattle.fields.specs.Columns.{_:=_};
 ghost use Rattle.links.specs.Link.{link};
 ghost use Rattle.words.specs.Mark.{withSet};
@@ -23,9 +23,12 @@ ghost use Rattle.stepped.specs.Allocate.{a1, a1Take};
 // The marks of the 64 units among which a unit is, with its own mark set. Caller: `finish`.
 fn marked(control: &[u8], unit: usize) -> u64
     requires { ⌜ Control (now control) × (unit < UNITS) ⌝ }
-    ensures { λ r. ⌜ r ≡ withSet (seen (now (control .entry)) (Marks (unit / 64))) (unit % 64) ⌝ }
+    ensures { λ r. ⌜ r ≡ withSet (seen (now (control .entry)) (Marks (unit / WORD-MARKS))) (unit % WORD-MARKS) ⌝ }
 {
-    mark::set(regions::marks(control, unit / 64), (unit % 64) as u32)
+    mark::set(
+        regions::marks(control, unit / limits::WORD_MARKS),
+        (unit % limits::WORD_MARKS) as u32,
+    )
 }
 
 // Finishes the allocation with the block at `unit`, the top of a cache in which `left` blocks are left, the topmost at
@@ -34,7 +37,8 @@ fn finish(control: &mut [u8], task: usize, class: usize, unit: u16, left: u16, b
     requires { ⌜ Control (now control) × (task < TASKS) × (class < CLASSES) × (unit < UNITS) ⌝ }
     ensures { λ r. ⌜ Done (over (Answer.Allocated unit) nothing
         (TaskPlace task := IDLE ∷ CacheTop task class := below ∷ CacheCount task class := left
-        ∷ Marks (unit / 64) := withSet (seen (now (control .entry)) (Marks (unit / 64))) (unit % 64) ∷ []) [])
+        ∷ Marks (unit / WORD-MARKS)
+        := withSet (seen (now (control .entry)) (Marks (unit / WORD-MARKS))) (unit % WORD-MARKS) ∷ []) [])
         (now (control .entry)) (now (control .exit)) r ⌝ }
 {
     let at = unit as usize;
@@ -42,12 +46,12 @@ fn finish(control: &mut [u8], task: usize, class: usize, unit: u16, left: u16, b
     tasks::set_task_place(control, task, places::IDLE);
     caches::set_cache_top(control, task, class, below);
     caches::set_cache_count(control, task, class, left);
-    regions::set_marks(control, at / 64, marks);
+    regions::set_marks(control, at / limits::WORD_MARKS, marks);
     Answer::Allocated(unit)
 }
 
 // The top of a cache, at `unit`, and how many blocks the cache has.
-struct Top {
+struct TakenTop {
     pub count: u16,
     pub unit: u16,
 }
@@ -59,7 +63,7 @@ fn take_top(
     regions: usize,
     task: usize,
     class: usize,
-    top: Top,
+    top: TakenTop,
 ) -> Answer
     requires { ⌜ GivenArea (now control) (now area) regions task class × (1 ≤ top .count) ⌝ }
     ensures { λ r. ⌜ Done
@@ -80,7 +84,7 @@ fn take_top(
     finish(control, task, class, unit, left, below as u16)
 }
 
-// The step. Caller: the step of a task at that place.
+// The step. Caller: the step of a task at A1.
 pub fn take(control: &mut [u8], area: &[u8], regions: usize, task: usize, class: usize) -> Answer
     requires { ⌜ GivenArea (now control) (now area) regions task class ⌝ }
     ensures { λ r. ⌜ Done (a1 (seen (now (control .entry))) (link (now (area .entry))) regions task class)
@@ -95,7 +99,7 @@ pub fn take(control: &mut [u8], area: &[u8], regions: usize, task: usize, class:
         return Answer::Refused(14);
     }
     let unit = caches::cache_top(control, task, class);
-    let top = Top {
+    let top = TakenTop {
         count: count,
         unit: unit,
     };

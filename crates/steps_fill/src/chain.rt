@@ -21,7 +21,7 @@ ghost use Rattle.stepped.specs.Allocate.{a4, a4Move};
 
 // A move to the cache after which the chain goes on: the block, at `unit`; the `left` blocks that are left to move, the
 // first of them `next`; the cache of `count` blocks, its top `top`.
-struct On {
+struct MoveOn {
     pub unit: u16,
     pub next: u16,
     pub left: u16,
@@ -31,7 +31,7 @@ struct On {
 
 // A move to the cache: the block, at `unit`; the `left` blocks of the chain, with this one, that are still to move; the
 // cache of `count` blocks, its top `top`.
-struct Moved {
+struct MoveToCache {
     pub unit: u16,
     pub left: u16,
     pub count: u16,
@@ -39,7 +39,7 @@ struct Moved {
 }
 
 // Puts the block on top of the cache and goes on with the chain. Caller: `move_on`.
-fn push_next(control: &mut [u8], task: usize, class: usize, on: On)
+fn push_next(control: &mut [u8], task: usize, class: usize, on: MoveOn)
     requires { ⌜ Control (now control) × (task < TASKS) × (class < CLASSES) × (on .count < MOST-BLOCKS) ⌝ }
     ensures { λ r. ⌜ now (control .exit) ≡ changed (TaskIndex task := on .next ∷ TaskLeft task := on .left
         ∷ CacheTop task class := on .unit ∷ CacheCount task class := (on .count + 1) ∷ []) (now (control .entry)) ⌝ }
@@ -55,7 +55,7 @@ fn push_next(control: &mut [u8], task: usize, class: usize, on: On)
 }
 
 // The same, and writes the block's link, the cache's top so far. Caller: `move_block`.
-fn move_on(control: &mut [u8], area: &mut [u8], task: usize, class: usize, on: On) -> Answer
+fn move_on(control: &mut [u8], area: &mut [u8], task: usize, class: usize, on: MoveOn) -> Answer
     requires { ⌜ Control (now control) × (task < TASKS) × (class < CLASSES)
         × (UNIT-BYTES * (on .unit) + UNIT-BYTES ≤ length (now area)) × (on .count < MOST-BLOCKS) ⌝ }
     ensures { λ r. ⌜ DoneIn (accept nothing (TaskIndex task := on .next ∷ TaskLeft task := on .left
@@ -76,7 +76,7 @@ fn move_block(
     area: &mut [u8],
     task: usize,
     class: usize,
-    moved: Moved,
+    moved: MoveToCache,
 ) -> Answer
     requires { ⌜ Control (now control) × (task < TASKS) × (class < CLASSES)
         × (UNIT-BYTES * (moved .unit) + UNIT-BYTES ≤ length (now area)) × (1 ≤ moved .left)
@@ -100,7 +100,7 @@ fn move_block(
     if units::blocks(class) as u32 <= next {
         return Answer::Refused(14);
     }
-    let on = On {
+    let on = MoveOn {
         unit: unit,
         next: next as u16,
         left: left - 1,
@@ -111,7 +111,7 @@ fn move_block(
 }
 
 // The next block of the chain, at `unit`, by the task's region and index, with `left` blocks still to move.
-struct Next {
+struct NextOfChain {
     pub unit: u16,
     pub left: u16,
 }
@@ -123,7 +123,7 @@ fn move_at(
     regions: usize,
     task: usize,
     class: usize,
-    next: Next,
+    next: NextOfChain,
 ) -> Answer
     requires { ⌜ GivenArea (now control) (now area) regions task class
         × Moving (seen (now control)) regions task class (next .unit) (next .left)
@@ -141,7 +141,7 @@ fn move_at(
     if !ranges::is_top(regions, class, count as usize, top as usize) {
         return Answer::Refused(14);
     }
-    let moved = Moved {
+    let moved = MoveToCache {
         unit: unit,
         left: left,
         count: count,
@@ -150,7 +150,7 @@ fn move_at(
     move_block(control, area, task, class, moved)
 }
 
-// The step. Caller: the step of a task at that place.
+// The step. Caller: the step of a task at A4.
 pub fn step(
     control: &mut [u8],
     area: &mut [u8],
@@ -179,7 +179,7 @@ pub fn step(
         return Answer::Refused(14);
     }
     let unit = units::unit(region, class, index);
-    let next = Next {
+    let next = NextOfChain {
         unit: unit,
         left: left,
     };

@@ -51,7 +51,7 @@ fn write_descriptor(
     Answer::Accepted
 }
 
-// Step 7. Caller: the step of a task at that place.
+// Step 7. Caller: the step of a task at A7.
 pub fn open(control: &mut [u8], regions: usize, task: usize, class: usize) -> Answer
     requires { ⌜ Given (now control) regions task class ⌝ }
     ensures { λ r. ⌜ ((link : ℕ → ℕ) → Done (a7 (seen (now (control .entry))) link regions task class)
@@ -118,7 +118,7 @@ fn put(control: &mut [u8], area: &mut [u8], task: usize, class: usize, carved: C
     Answer::Accepted
 }
 
-// Step 8, of one block. Caller: the step of a task at that place.
+// Step 8, of one block. Caller: the step of a task at A8.
 pub fn carve(
     control: &mut [u8],
     area: &mut [u8],

@@ -24,7 +24,7 @@ pub fn set(control: &mut [u8], task: usize, class: usize, top: u16, count: u16)
 }
 
 // A freed block, at `unit`, and the cache that it goes on: how many blocks that has, and the unit of its top.
-struct Freed {
+struct FreedBlock {
     pub unit: u16,
     pub count: u16,
     pub top: u16,
@@ -37,7 +37,7 @@ fn put_block(
     regions: usize,
     task: usize,
     class: usize,
-    freed: Freed,
+    freed: FreedBlock,
 ) -> Answer
     requires { ⌜ GivenArea (now control) (now area) regions task class × (freed .count < perRegion class) ⌝ }
     ensures { λ r. ⌜ DoneIn
@@ -60,7 +60,7 @@ fn put_block(
     Answer::Freed
 }
 
-// Step 1.
+// Step 1. Caller: the step of a task at F1.
 pub fn put(control: &mut [u8], area: &mut [u8], regions: usize, task: usize, class: usize) -> Answer
     requires { ⌜ GivenArea (now control) (now area) regions task class ⌝ }
     ensures { λ r. ⌜ DoneIn (f1 (seen (now (control .entry))) (link (now (area .entry))) regions task class)
@@ -77,7 +77,7 @@ pub fn put(control: &mut [u8], area: &mut [u8], regions: usize, task: usize, cla
     }
     let unit = control::notes::task_unit(control, task);
     let top = control::caches::cache_top(control, task, class);
-    let freed = Freed {
+    let freed = FreedBlock {
         unit: unit,
         count: count,
         top: top,

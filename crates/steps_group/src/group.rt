@@ -48,14 +48,14 @@ fn extend(control: &mut [u8], task: usize, index: u16, count: u16)
 
 // The top of a cache that is taken into a group, or closes it: how many blocks the cache has, the unit of its top, and
 // how many blocks the group has.
-struct Top {
+struct TopForGroup {
     pub count: u16,
     pub unit: u16,
     pub group: u16,
 }
 
 // The same, and the region of the group.
-struct TopIn {
+struct TopForGroupIn {
     pub count: u16,
     pub unit: u16,
     pub group: u16,
@@ -70,7 +70,7 @@ fn take_first(
     regions: usize,
     task: usize,
     class: usize,
-    top: Top,
+    top: TopForGroup,
 ) -> Answer
     requires { ⌜ GivenArea (now control) (now area) regions task class × (1 ≤ top .count)
         × (top .unit < REGION-UNITS * regions) ⌝ }
@@ -99,7 +99,7 @@ fn take_more(
     regions: usize,
     task: usize,
     class: usize,
-    top: TopIn,
+    top: TopForGroupIn,
 ) -> Answer
     requires { ⌜ GivenArea (now control) (now area) regions task class × (1 ≤ top .count)
         × (top .unit < REGION-UNITS * regions) × (top .region < regions) ⌝ }
@@ -140,7 +140,7 @@ fn take_top(
     regions: usize,
     task: usize,
     class: usize,
-    top: Top,
+    top: TopForGroup,
 ) -> Answer
     requires { ⌜ GivenArea (now control) (now area) regions task class × (1 ≤ top .count) ⌝ }
     ensures { λ r. ⌜ DoneIn
@@ -165,7 +165,7 @@ fn take_top(
         control::tasks::set_task_place(control, task, places::F3_READ);
         return Answer::Accepted;
     }
-    let more = TopIn {
+    let more = TopForGroupIn {
         count: count,
         unit: unit,
         group: group,
@@ -174,7 +174,7 @@ fn take_top(
     take_more(control, area, regions, task, class, more)
 }
 
-// Step 2: the cache's top is taken into the group, or the group is closed.
+// Step 2: the cache's top is taken into the group, or the group is closed. Caller: the step of a task at F2.
 pub fn take(
     control: &mut [u8],
     area: &mut [u8],
@@ -199,7 +199,7 @@ pub fn take(
         control::tasks::set_task_place(control, task, places::F3_READ);
         return Answer::Accepted;
     }
-    let top = Top {
+    let top = TopForGroup {
         count: count,
         unit: control::caches::cache_top(control, task, class),
         group: group,

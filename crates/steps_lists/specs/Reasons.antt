@@ -17,6 +17,7 @@ emptyPlace Partial = popPlace Spare
 emptyPlace Spare = IDLE
 emptyPlace Region = pushPlace Back
 
+-- the answer there
 abbrev pub emptyAnswer : Pop → Answer
 emptyAnswer Partial = Accepted
 emptyAnswer Spare = NoDescriptor

@@ -12,6 +12,7 @@ use Rattle.control.specs.declared.answer.Answer.{Answer}
 use Rattle.control.specs.declared.answer.Answer.the-variants.{Accepted}
 use Rattle.control.specs.declared.moves.Pop.{Pop}
 use Rattle.control.specs.declared.moves.Pop.the-variants.{Partial, Spare, Region}
+use Rattle.control.specs.Places.{TO-NEXT, TO-EXCHANGE}
 use Rattle.stepped.specs.Outcome.{bad, accept, over}
 use Rattle.stepped.specs.Lists.{popPlace, popList, popItems, popNextField, whenEmpty, whenPopped, popRead, popNextOf}
 use Rattle.stepped.specs.Lists.{popNext, popExchange}
@@ -51,7 +52,7 @@ module _ (v : View) (regions t c : ℕ) where
     -- a is the place of the head read, w the head that is read
     pub read-noted : {a w : ℕ} → a ≡ popPlace p → w ≡ v (Head (popList p c)) → itemOf (v (Head (popList p c))) ≢ 0
         → itemOf (v (Head (popList p c))) ≤ popItems p regions
-        → popRead v regions t c p ≡ accept nothing (TaskPlace t := (a + 1) ∷ TaskHead t := w ∷ []) []
+        → popRead v regions t c p ≡ accept nothing (TaskPlace t := (a + TO-NEXT) ∷ TaskHead t := w ∷ []) []
     unfolding popRead
     read-noted d e h k = rw (d, e, ne-eqb _ _ h, le-leb _ _ k)
 
@@ -64,7 +65,7 @@ module _ (v : View) (regions t c : ℕ) where
     -- a is the place of the head read, y the next that is read
     pub next-noted : (x : ℕ) {a y : ℕ} → a ≡ popPlace p → y ≡ v (popNextField p x)
         → v (popNextField p x) ≤ popItems p regions
-        → popNextOf v regions t c p x ≡ accept nothing (TaskPlace t := (a + 2) ∷ TaskNext t := y ∷ []) []
+        → popNextOf v regions t c p x ≡ accept nothing (TaskPlace t := (a + TO-EXCHANGE) ∷ TaskNext t := y ∷ []) []
     unfolding popNextOf
     next-noted x d e h = rw (d, e, le-leb _ _ h)
 

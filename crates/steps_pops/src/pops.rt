@@ -4,6 +4,7 @@ use control::answer::Answer;
 use control::lists;
 use control::moves::Pop;
 use control::notes;
+use control::places;
 use control::tasks;
 use steps_lists::heads;
 use steps_lists::items;
@@ -39,7 +40,7 @@ pub fn read(control: &mut [u8], regions: usize, task: usize, class: usize, pop: 
     if reason::pop_items(pop, regions) < item {
         return Answer::Refused(14);
     }
-    tasks::set_task_place(control, task, reason::pop_place(pop) + 1);
+    tasks::set_task_place(control, task, reason::pop_place(pop) + places::TO_NEXT);
     notes::set_task_head(control, task, word);
     Answer::Accepted
 }
@@ -54,7 +55,7 @@ fn next_of(control: &mut [u8], regions: usize, task: usize, pop: Pop, item: usiz
     if reason::pop_items(pop, regions) < next as usize {
         return Answer::Refused(14);
     }
-    tasks::set_task_place(control, task, reason::pop_place(pop) + 2);
+    tasks::set_task_place(control, task, reason::pop_place(pop) + places::TO_EXCHANGE);
     tasks::set_task_next(control, task, next);
     Answer::Accepted
 }

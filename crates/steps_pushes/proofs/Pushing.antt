@@ -12,6 +12,7 @@ use Rattle.control.specs.Layout.{Head, TaskHead, TaskPlace, TaskState}
 use Rattle.control.specs.declared.answer.Answer.{Answer}
 use Rattle.control.specs.declared.moves.Push.{Push}
 use Rattle.control.specs.declared.moves.Push.the-variants.{Release, Offer}
+use Rattle.control.specs.Places.{TO-NEXT, TO-EXCHANGE}
 use Rattle.stepped.specs.Outcome.{bad, accept}
 use Rattle.stepped.specs.Lists.{pushPlace, pushList, pushItems, pushNextField, itemField, whenPushed, pushRead}
 use Rattle.stepped.specs.Lists.{pushNext, pushExchange}
@@ -47,7 +48,7 @@ module _ (v : View) (regions t c : ℕ) (p : Push) where
   -- a is the place of the head read, w the head that is read
   pub read-noted : {a w : ℕ} → a ≡ pushPlace p → w ≡ v (Head (pushList p c))
       → itemOf (v (Head (pushList p c))) ≤ pushItems p regions
-      → pushRead v regions t c p ≡ accept nothing (TaskPlace t := (a + 1) ∷ TaskHead t := w ∷ []) []
+      → pushRead v regions t c p ≡ accept nothing (TaskPlace t := (a + TO-NEXT) ∷ TaskHead t := w ∷ []) []
   unfolding pushRead
   read-noted d e h = rw (d, e, le-leb _ _ h)
 
@@ -65,7 +66,7 @@ module _ (v : View) (regions t c : ℕ) (p : Push) where
     -- a is the place of the head read, x the item and w the noted head, on which b is on top
     pub next-written : {a x w b : ℕ} → a ≡ pushPlace p → x ≡ v (itemField p t) → w ≡ v (TaskHead t) → b ≡ itemOf w
         → itemOf (v (TaskHead t)) ≤ pushItems p regions
-        → pushNext v regions t c p ≡ accept nothing (TaskPlace t := (a + 2) ∷ pushNextField p x := b ∷ []) []
+        → pushNext v regions t c p ≡ accept nothing (TaskPlace t := (a + TO-EXCHANGE) ∷ pushNextField p x := b ∷ []) []
     unfolding pushNext
     next-written d e f g k = rw (g, d, e, f, lt-ltb _ _ h, le-leb _ _ k)
 

@@ -40,7 +40,7 @@ pub fn read(control: &mut [u8], regions: usize, task: usize, class: usize, push:
     if reason::push_items(push, regions) < heads::item_of(word) {
         return Answer::Refused(14);
     }
-    tasks::set_task_place(control, task, reason::push_place(push) + 1);
+    tasks::set_task_place(control, task, reason::push_place(push) + places::TO_NEXT);
     notes::set_task_head(control, task, word);
     Answer::Accepted
 }
@@ -60,7 +60,11 @@ pub fn next(control: &mut [u8], regions: usize, task: usize, push: Push) -> Answ
     if most < below {
         return Answer::Refused(14);
     }
-    tasks::set_task_place(control, task, reason::push_place(push) + 2);
+    tasks::set_task_place(
+        control,
+        task,
+        reason::push_place(push) + places::TO_EXCHANGE,
+    );
     items::set_next(control, push, item, below as u8);
     Answer::Accepted
 }

@@ -9,7 +9,7 @@ use Rattle.limits.specs.Limits.{DESCRIPTORS}
 use Rattle.fields.specs.Columns.{View, Write, _:=_}
 use Rattle.links.specs.Link.{_⇒_}
 use Rattle.words.specs.declared.anchor.Anchor as Word
-use Rattle.words.specs.Anchor.{anchorOf, anchorWord, returned, Fields, Room}
+use Rattle.words.specs.Anchor.{anchorOf, anchorWord, returned, AnchorFits, Room}
 use Rattle.words.proofs.Anchors.{returned-fits}
 use Rattle.classes.specs.Classes.{perRegion}
 use Rattle.classes.specs.Geometry.{unitOf}
@@ -211,8 +211,8 @@ module _ {a : Word.Anchor} (w g n : ℕ) (e : a ≡ anchorOf w) (r : Room (ancho
   pub room-at : Room a g n
   room-at = subst⁻¹ (λ (x : Word.Anchor). Room x g n) e r
 
-  pub word-fits : {b : Word.Anchor} (first : ℕ) → first < 65536 → b ≡ returned a first g n → Fields b
-  word-fits first h f = subst⁻¹ (λ (x : Word.Anchor). Fields x) f (returned-fits a first g n (omega arith) room-at)
+  pub word-fits : {b : Word.Anchor} (first : ℕ) → first < 65536 → b ≡ returned a first g n → AnchorFits b
+  word-fits first h f = subst⁻¹ (λ (x : Word.Anchor). AnchorFits x) f (returned-fits a first g n (omega arith) room-at)
 
 -- a noted anchor that was found to have room for the group
 pub has-room : {n : ℕ} (g w c : ℕ) → n ≡ perRegion c → hasRoom n g w ≡ true → Room (anchorOf w) g (perRegion c)

@@ -58,7 +58,7 @@ fn read_by(
     read_of(control, regions, task, class, entry - 1, group)
 }
 
-// Step 3, the read of the anchor, through the map entry of the group's region.
+// Step 3, the read of the anchor, through the map entry of the group's region. Caller: the step of a task at F3_READ.
 pub fn read(control: &mut [u8], regions: usize, task: usize, class: usize) -> Answer
     requires { ⌜ Given (now control) regions task class ⌝ }
     ensures { λ r. ⌜ ((link : ℕ → ℕ) → Done (f3Read (seen (now (control .entry))) link regions task class)
@@ -79,7 +79,8 @@ pub fn read(control: &mut [u8], regions: usize, task: usize, class: usize) -> An
     read_by(control, regions, task, class, entry, group)
 }
 
-// Step 3, the last link: that of the group's last block is written to the noted anchor's avail.
+// Step 3, the last link: that of the group's last block is written to the noted anchor's avail. Caller: the step of a
+// task at F3_LINK.
 pub fn write_last(
     control: &mut [u8],
     area: &mut [u8],

@@ -136,7 +136,7 @@ fn exchange_of(
     won(control, regions, task, class, due)
 }
 
-// Step 3, the exchange.
+// Step 3, the exchange. Caller: the step of a task at F3_EXCHANGE.
 pub fn exchange(control: &mut [u8], regions: usize, task: usize, class: usize) -> Answer
     requires { ⌜ Given (now control) regions task class ⌝ }
     ensures { λ r. ⌜ ((link : ℕ → ℕ) → Done (f3Exchange (seen (now (control .entry))) link regions task class)

@@ -13,7 +13,7 @@ use Rattle.schedule.specs.declared.record.Record.the-variants.{Start, Allocate,
 use Rattle.schedule.specs.declared.tally.Tally.{Tally}
 use Rattle.schedule.specs.declared.treat.Line.{Line}
 use Rattle.schedule.specs.Records.{recordAt, entryAt, endOf}
-use Rattle.schedule.specs.Tally.{none, counted}
+use Rattle.schedule.specs.Tally.{noneCounted, counted}
 use Rattle.schedule.specs.Stand.{shown, table}
 use Rattle.schedule.specs.Bytes.{onBytes, Does}
 use Rattle.text.specs.Numbers.{Appended}
@@ -59,7 +59,7 @@ module _ (input : List ℕ) where
 
   -- Before the record n at the byte `at`, with the counts y and the memories s: the first bytes of `out`, as many as
   -- are used, and what is ahead make up the output from s₀.
-  pub record Ahead (s₀ : Memories) (used at n : ℕ) (y : Tally) (s : Memories) (out : List ℕ) : Type 0 where
+  pub record TableAhead (s₀ : Memories) (used at n : ℕ) (y : Tally) (s : Memories) (out : List ℕ) : Type 0 where
     pub fuel : ℕ
     pub enough : length input - at ≤ fuel
     pub few : n ≤ at
@@ -68,15 +68,15 @@ module _ (input : List ℕ) where
     pub said : output input s₀ ≡ take used out ++ ahead fuel at n y s
 
   -- what is used lies within the room for the longest table
-  pub within : {s₀ s : Memories} {used at n : ℕ} {y : Tally} {out : List ℕ} → Ahead s₀ used at n y s out
+  pub within : {s₀ s : Memories} {used at n : ℕ} {y : Tally} {out : List ℕ} → TableAhead s₀ used at n y s out
       → length input ≤ 65536
       → 2293888 ≤ length out → used ≤ length out
   within A long room = omega (arith, A .room, A .most, long, room)
 
   -- the column names are written
   pub begins : {before out : List ℕ} {used : ℕ} {y : Tally} (s : Memories) → Appended before out 0 columnsText used
-      → y ≡ none
-      → Ahead s used 0 0 y s out
+      → y ≡ noneCounted
+      → TableAhead s used 0 0 y s out
   unfolding output tableText
   begins s w e = record {
     fuel = length input;
@@ -99,17 +99,17 @@ module _ (input : List ℕ) where
       (omega (arith, value))
 
   -- a line more is written
-  module _ {s₀ s : Memories} {used at n : ℕ} {y : Tally} {out : List ℕ} (A : Ahead s₀ used at n y s out)
+  module _ {s₀ s : Memories} {used at n : ℕ} {y : Tally} {out : List ℕ} (A : TableAhead s₀ used at n y s out)
       (h : at < length input) where
     pub goes-on : {e : Entry} → e ≡ entryAt input at n
         → {control area : List ℕ} {line : Line} → Does (shown onBytes e) (s .control) (s .area) control area line
         → {out′ : List ℕ} {used′ : ℕ} → Appended out out′ used (textOf line) used′ × (length (textOf line) ≤ 35)
         → {next : ℕ} {z : Tally} → z ≡ counted y (line .code) → next ≡ endOf (e .body) at (length input)
-        → Ahead s₀ used′ next (n + 1) z (record { control = control; area = area }) out′
+        → TableAhead s₀ used′ next (n + 1) z (record { control = control; area = area }) out′
     goes-on {e} is {control} {area} {line} D {out′} {used′} w {next} {z} counts end = by (A .fuel) (A .enough) (A .said)
       where
         by : (f : ℕ) → length input - at ≤ f → output input s₀ ≡ take used out ++ ahead f at n y s
-            → Ahead s₀ used′ next (n + 1) z (record { control = control; area = area }) out′
+            → TableAhead s₀ used′ next (n + 1) z (record { control = control; area = area }) out′
         by zero l q = absurd (omega arith)
         by (suc f) l q = record {
           fuel = f;
@@ -129,7 +129,7 @@ module _ (input : List ℕ) where
         }
 
   -- the last line is written
-  pub ends : {s₀ s : Memories} {used at n : ℕ} {y : Tally} {before out : List ℕ} → Ahead s₀ used at n y s out
+  pub ends : {s₀ s : Memories} {used at n : ℕ} {y : Tally} {before out : List ℕ} → TableAhead s₀ used at n y s out
       → length input ≤ at
       → length out ≡ length before → {last : List ℕ} {r : ℕ} → Appended out last used (lastText y) r
       → Appended before last 0 (output input s₀) r

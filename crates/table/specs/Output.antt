@@ -6,7 +6,7 @@ use Rattle.plain.specs.Calls.{unstarted}
 use Rattle.stepped.specs.Outcome.{Memories}
 use Rattle.schedule.specs.declared.tally.Tally.{Tally}
 use Rattle.schedule.specs.declared.treat.Line.{Line}
-use Rattle.schedule.specs.Tally.{none}
+use Rattle.schedule.specs.Tally.{noneCounted}
 use Rattle.schedule.specs.Stand.{table}
 use Rattle.schedule.specs.Bytes.{onBytes}
 use Rattle.schedule.specs.Plain.{onPlain}
@@ -24,8 +24,8 @@ tableText t = columnsText ++ rowsText (t .0) (t .1)
 
 -- the whole output for an input, with two memories before the first record
 unfoldable pub output : List ℕ → Memories → List ℕ
-output input s = tableText (table onBytes (length input) input 0 0 none s)
+output input s = tableText (table onBytes (length input) input 0 0 noneCounted s)
 
 -- the same of the plain pool, which is not started before the first record
 unfoldable pub plainOutput : List ℕ → List ℕ
-plainOutput input = tableText (table onPlain (length input) input 0 0 none unstarted)
+plainOutput input = tableText (table onPlain (length input) input 0 0 noneCounted unstarted)

@@ -9,12 +9,12 @@ use borrow.Author.Tests.{eqb-true, eq-eqb, ne-eqb, leb-true, leb-false, lt-leb}
 use lib.Bits.{bitAnd, bitOr, and-mask, or-shifted-r}
 use lib.Dec.{eqb}
 use Rattle.words.specs.declared.anchor.Anchor.{Anchor}
-use Rattle.words.specs.Anchor.{EMPTY, PARTIAL, FULL, isState, anchorOf, anchorWord, Fields}
-use Rattle.words.specs.Anchor.{full, Room, stateAt, returned, same}
+use Rattle.words.specs.Anchor.{EMPTY, PARTIAL, FULL, isState, anchorOf, anchorWord, AnchorFits}
+use Rattle.words.specs.Anchor.{full, Room, stateAt, returned, sameAnchor}
 
 -- ---- packing and unpacking
 
-pub anchor-of-word : (a : Anchor) → Fields a → anchorOf (anchorWord a) ≡ a
+pub anchor-of-word : (a : Anchor) → AnchorFits a → anchorOf (anchorWord a) ≡ a
 anchor-of-word a f =
     let s : anchorWord a % 4 ≡ a .state = omega arith in
     let q : anchorWord a / 4 ≡ a .avail + a .count * 2147483648 = omega arith in
@@ -26,14 +26,14 @@ anchor-of-word a f =
 pub word-of-anchor : (w : ℕ) → anchorWord (anchorOf w) ≡ w
 word-of-anchor w = omega arith
 
-pub parts-fit : (w : ℕ) → w < 18446744073709551616 → Fields (anchorOf w)
+pub parts-fit : (w : ℕ) → w < 18446744073709551616 → AnchorFits (anchorOf w)
 parts-fit w h = omega arith
 
-pub anchor-below : (a : Anchor) → Fields a → anchorWord a < 18446744073709551616
+pub anchor-below : (a : Anchor) → AnchorFits a → anchorWord a < 18446744073709551616
 anchor-below a f = omega arith
 
 -- two anchors that fit and have equal words are equal
-pub anchor-injective : (a b : Anchor) → Fields a → Fields b → anchorWord a ≡ anchorWord b → a ≡ b
+pub anchor-injective : (a b : Anchor) → AnchorFits a → AnchorFits b → anchorWord a ≡ anchorWord b → a ≡ b
 anchor-injective a b f g e = sym (anchor-of-word a f) ∙ ap anchorOf e ∙ anchor-of-word b g
 
 -- ---- states
@@ -54,7 +54,7 @@ no-state s h = (λ e. omega (arith, leb-false s 2 e), λ e. lt-leb s 2 (omega ar
 
 -- ---- the anchors that the steps write
 
-pub full-fits : (n : ℕ) → n < 2147483648 → Fields (full n)
+pub full-fits : (n : ℕ) → n < 2147483648 → AnchorFits (full n)
 full-fits n h = omega arith
 
 -- EMPTY if count is now n
@@ -75,7 +75,7 @@ pub returned-state : (a : Anchor) (first group n : ℕ) → isState ((returned a
 returned-state a first group n = either-state (eqb (a .count + group) n)
 
 pub returned-fits : (a : Anchor) (first group n : ℕ) → first < 2147483648 → Room a group n
-    → Fields (returned a first group n)
+    → AnchorFits (returned a first group n)
 returned-fits a first group n h r =
     let s = leb-true (stateAt (a .count + group) n) 2 (returned-state a first group n) in
     record { state = omega arith; avail = h; count = omega arith }
@@ -87,10 +87,10 @@ anchor s v k = record { state = s; avail = v; count = k }
 
 module _ (a b : Anchor) where
   -- where the states and the first blocks are equal, the counts decide
-  pub same-counts : a .state ≡ b .state → a .avail ≡ b .avail → eqb (a .count) (b .count) ≡ same a b
+  pub same-counts : a .state ≡ b .state → a .avail ≡ b .avail → eqb (a .count) (b .count) ≡ sameAnchor a b
   same-counts s v = rw (eq-eqb (a .state) (b .state) s, eq-eqb (a .avail) (b .avail) v)
 
-  parts-equal : same a b ≡ true → (a .state ≡ b .state) × (a .avail ≡ b .avail) × (a .count ≡ b .count)
+  parts-equal : sameAnchor a b ≡ true → (a .state ≡ b .state) × (a .avail ≡ b .avail) × (a .count ≡ b .count)
   parts-equal e =
       let s = eqb (a .state) (b .state) in
       let v = eqb (a .avail) (b .avail) in
@@ -101,31 +101,31 @@ module _ (a b : Anchor) where
         eqb-true (a .count) (b .count) (p .1),
       )
 
-  same-equal : same a b ≡ true → a ≡ b
+  same-equal : sameAnchor a b ≡ true → a ≡ b
   same-equal e =
       let p = parts-equal e in
       let whole : anchor (a .state) (a .avail) (a .count) ≡ b = rw (p .0, p .1, p .2) in
       whole
 
   -- one part that differs is enough
-  pub not-same : (a .state ≡ b .state → a .avail ≡ b .avail → a .count ≡ b .count → ⊥) → false ≡ same a b
-  not-same h = unless (same a b) (λ e. let p = parts-equal e in h (p .0) (p .1) (p .2))
+  pub not-same : (a .state ≡ b .state → a .avail ≡ b .avail → a .count ≡ b .count → ⊥) → false ≡ sameAnchor a b
+  not-same h = unless (sameAnchor a b) (λ e. let p = parts-equal e in h (p .0) (p .1) (p .2))
     where
       unless : (t : Bool) → (t ≡ true → ⊥) → false ≡ t
       unless true f = absurd (f refl)
       unless false f = refl
 
-  equal-same : a ≡ b → same a b ≡ true
+  equal-same : a ≡ b → sameAnchor a b ≡ true
   equal-same e =
       sym (same-counts (ap (λ (x : Anchor). x .state) e) (ap (λ (x : Anchor). x .avail) e))
       ∙ eq-eqb (a .count) (b .count) (ap (λ (x : Anchor). x .count) e)
 
   -- won exactly where the anchors are equal
-  pub same-anchors : (same a b ≡ true) ↔ (a ≡ b)
+  pub same-anchors : (sameAnchor a b ≡ true) ↔ (a ≡ b)
   same-anchors = (same-equal, equal-same)
 
   -- and so exactly where their words are
-  pub same-words : Fields a → Fields b → (same a b ≡ true) ↔ (anchorWord a ≡ anchorWord b)
+  pub same-words : AnchorFits a → AnchorFits b → (sameAnchor a b ≡ true) ↔ (anchorWord a ≡ anchorWord b)
   same-words f g = (λ e. ap anchorWord (same-equal e), λ e. equal-same (anchor-injective a b f g e))
 
 -- ---- what the code's shifts and masks make of a word, and of parts that fit their bits
@@ -134,7 +134,7 @@ pub unpacked : (w : ℕ)
     → record { state = bitAnd w 3; avail = bitAnd (w / 4) 2147483647; count = w / 8589934592 } ≡ anchorOf w
 unpacked w = rw (and-mask w 2, and-mask (w / 4) 31)
 
-pub packed : (a : Anchor) → Fields a
+pub packed : (a : Anchor) → AnchorFits a
     → bitOr (bitOr (a .state) (a .avail * 4 % 18446744073709551616)) (a .count * 8589934592 % 18446744073709551616)
     ≡ anchorWord a
 packed a f =

@@ -7,27 +7,28 @@ use borrow.Author.Tests.{eq-eqb, ne-eqb}
 use Rattle.limits.specs.Limits.{TAGS}
 use Rattle.words.specs.declared.head.Head.{Head}
 use Rattle.words.specs.declared.head.Top.the-variants.{Empty, Item}
-use Rattle.words.specs.Head.{ITEMS, itemOf, tagOf, word, nextTag, advancedWord, headOf, wordOf, topOf, advanced}
+use Rattle.words.specs.Head.{TAG-WEIGHT, itemOf, tagOf, word, nextTag, advancedWord, headOf, wordOf, topOf}
+use Rattle.words.specs.Head.{advanced}
 
 -- ---- on numbers
 
-pub itemOf-word : (item tag : ℕ) → item < ITEMS → itemOf (word item tag) ≡ item
+pub itemOf-word : (item tag : ℕ) → item < TAG-WEIGHT → itemOf (word item tag) ≡ item
 itemOf-word item tag h = omega arith
 
-pub tagOf-word : (item tag : ℕ) → item < ITEMS → tagOf (word item tag) ≡ tag
+pub tagOf-word : (item tag : ℕ) → item < TAG-WEIGHT → tagOf (word item tag) ≡ tag
 tagOf-word item tag h = omega arith
 
 -- every number is the word of its parts
 pub word-parts : (w : ℕ) → word (itemOf w) (tagOf w) ≡ w
 word-parts w = omega arith
 
-pub itemOf-below : (w : ℕ) → itemOf w < ITEMS
+pub itemOf-below : (w : ℕ) → itemOf w < TAG-WEIGHT
 itemOf-below w = omega arith
 
 pub tagOf-below : (w : ℕ) → w < 18446744073709551616 → tagOf w < TAGS
 tagOf-below w h = omega arith
 
-pub word-below : (item tag : ℕ) → item < ITEMS → tag < TAGS → word item tag < 18446744073709551616
+pub word-below : (item tag : ℕ) → item < TAG-WEIGHT → tag < TAGS → word item tag < 18446744073709551616
 word-below item tag h l = omega arith
 
 -- ---- tags
@@ -49,14 +50,14 @@ nextTag-counts n = omega arith
 
 -- ---- on heads
 
-pub head-of-word : (h : Head) → h .item < ITEMS → headOf (wordOf h) ≡ h
+pub head-of-word : (h : Head) → h .item < TAG-WEIGHT → headOf (wordOf h) ≡ h
 head-of-word h l = rw (itemOf-word (h .item) (h .tag) l, tagOf-word (h .item) (h .tag) l)
 
 pub word-of-head : (w : ℕ) → wordOf (headOf w) ≡ w
 word-of-head = word-parts
 
 -- two heads with equal words are equal
-pub head-injective : (h k : Head) → h .item < ITEMS → k .item < ITEMS → wordOf h ≡ wordOf k → h ≡ k
+pub head-injective : (h k : Head) → h .item < TAG-WEIGHT → k .item < TAG-WEIGHT → wordOf h ≡ wordOf k → h ≡ k
 head-injective h k lh lk e = sym (head-of-word h lh) ∙ ap headOf e ∙ head-of-word k lk
 
 pub advanced-tag : (h : Head) (item : ℕ) → (advanced h item) .tag ≡ (h .tag + 1) % TAGS
@@ -88,11 +89,11 @@ pub advanced-through : (w item : ℕ) {h k : Head} {r : ℕ} → h ≡ headOf w 
     → r ≡ advancedWord w item
 advanced-through w item p q e = e ∙ ap wordOf (q ∙ ap (λ (x : Head). advanced x item) p)
 
-pub advancedWord-below : (w item : ℕ) → item < ITEMS → advancedWord w item < 18446744073709551616
+pub advancedWord-below : (w item : ℕ) → item < TAG-WEIGHT → advancedWord w item < 18446744073709551616
 advancedWord-below w item h = word-below item (nextTag (tagOf w)) h (nextTag-below (tagOf w))
 
-pub itemOf-advanced : (w item : ℕ) → item < ITEMS → itemOf (advancedWord w item) ≡ item
+pub itemOf-advanced : (w item : ℕ) → item < TAG-WEIGHT → itemOf (advancedWord w item) ≡ item
 itemOf-advanced w item = itemOf-word item (nextTag (tagOf w))
 
-pub tagOf-advanced : (w item : ℕ) → item < ITEMS → tagOf (advancedWord w item) ≡ nextTag (tagOf w)
+pub tagOf-advanced : (w item : ℕ) → item < TAG-WEIGHT → tagOf (advancedWord w item) ≡ nextTag (tagOf w)
 tagOf-advanced w item = tagOf-word item (nextTag (tagOf w))

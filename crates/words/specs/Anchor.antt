@@ -5,13 +5,15 @@ use lib.Dec.{eqb, leb}
 use Rattle.limits.specs.Limits.{MOST-BLOCKS}
 use Rattle.words.specs.declared.anchor.Anchor.{Anchor}
 
--- the states: 0 EMPTY, 1 PARTIAL, 2 FULL
+-- the states: "0 EMPTY"
 abbrev pub EMPTY : ℕ
 EMPTY = 0
 
+-- "1 PARTIAL"
 abbrev pub PARTIAL : ℕ
 PARTIAL = 1
 
+-- "2 FULL"
 abbrev pub FULL : ℕ
 FULL = 2
 
@@ -28,7 +30,7 @@ abbrev pub anchorWord : Anchor → ℕ
 anchorWord a = a .state + a .avail * 4 + a .count * 8589934592
 
 -- the parts fit their bits: 2, 31 and 31
-pub record Fields (a : Anchor) : Type 0 where
+pub record AnchorFits (a : Anchor) : Type 0 where
   pub state : a .state < 4
   pub avail : a .avail < 2147483648
   pub count : a .count < 2147483648
@@ -52,5 +54,5 @@ returned a first group n =
     record { state = stateAt (a .count + group) n; avail = first; count = a .count + group }
 
 -- the exchange is won exactly if all three fields are as noted
-abbrev pub same : Anchor → Anchor → Bool
-same a b = eqb (a .state) (b .state) && eqb (a .avail) (b .avail) && eqb (a .count) (b .count)
+abbrev pub sameAnchor : Anchor → Anchor → Bool
+sameAnchor a b = eqb (a .state) (b .state) && eqb (a .avail) (b .avail) && eqb (a .count) (b .count)

@@ -10,21 +10,21 @@ use Rattle.words.specs.declared.head.Top.the-variants.{Empty, Item}
 
 -- ---- on numbers
 
--- "the low 32 hold the item's number plus one": the numbers below this
-abbrev pub ITEMS : ℕ
-ITEMS = 4294967296
+-- what 1 in the tag adds to the word: "the low 32 hold the item's number plus one", which is below this
+abbrev pub TAG-WEIGHT : ℕ
+TAG-WEIGHT = 4294967296
 
 -- the low 32 bits hold the item's number plus one
 abbrev pub itemOf : ℕ → ℕ
-itemOf w = w % ITEMS
+itemOf w = w % TAG-WEIGHT
 
 -- the high 32 hold the tag
 abbrev pub tagOf : ℕ → ℕ
-tagOf w = w / ITEMS
+tagOf w = w / TAG-WEIGHT
 
 -- the word of an item's number plus one and a tag
 abbrev pub word : ℕ → ℕ → ℕ
-word item tag = item + tag * ITEMS
+word item tag = item + tag * TAG-WEIGHT
 
 -- each won exchange adds one to the tag, and after 4,294,967,295 comes 0
 abbrev pub nextTag : ℕ → ℕ

@@ -1,5 +1,5 @@
 -- The bits of a word, as numbers. One mark per unit is set while the block starting there is in a user's hands;
--- the mark of a region's unit u is bit u % 64 of the region's word u / 64.
+-- the mark of the unit u is bit u % 64 of the word u / 64.
 use Prim.Native.Nat.{ℕ, _+_, _-_, _/_, _%_, _^_}
 use mathlib.Core.Path.{_≡_}
 use mathlib.Core.Logic.{_≢_}

@@ -1,7 +1,7 @@
 // The anchor of a descriptor, 64 bits: the state in the low 2; then, in 31, avail, the index of the first block
 // of the region's chain; then, in 31, count, the number of blocks in that chain.
 ghost use mathlib.Core.Path.{_≡_};
-ghost use Rattle.words.specs.Anchor.{anchorOf, anchorWord, Fields, full, returned, Room, same};
+ghost use Rattle.words.specs.Anchor.{anchorOf, anchorWord, AnchorFits, full, returned, Room, sameAnchor};
 
 // Every block of the region is in its chain.
 pub const EMPTY: u32 = 0;
@@ -36,7 +36,7 @@ impl Anchor {
     // The word that holds the anchor. Its parts must fit their bits. Those of `full` and `returned` do, and the
     // steps that exchange an anchor and the step that writes a new descriptor store no others.
     pub fn word(self) -> u64
-        requires { ⌜ Fields self ⌝ }
+        requires { ⌜ AnchorFits self ⌝ }
         ensures { λ r. ⌜ r ≡ anchorWord self ⌝ }
     {
         let low = (self.state as u64) | ((self.avail as u64) << 2);
@@ -79,7 +79,7 @@ impl Anchor {
 
     // Whether the anchor is the one noted: an anchor's exchange is won exactly then.
     pub fn same(self, other: Anchor) -> bool
-        ensures { λ r. ⌜ r ≡ same self other ⌝ }
+        ensures { λ r. ⌜ r ≡ sameAnchor self other ⌝ }
     {
         if self.state != other.state {
             return false;

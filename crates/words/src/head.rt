@@ -3,8 +3,8 @@
 ghost use mathlib.Core.Path.{_≡_};
 ghost use Rattle.words.specs.Head.{headOf, wordOf, emptyHead, topOf, advanced};
 
-// The low 32 bits of a word hold the numbers below this.
-const ITEMS: u64 = 4_294_967_296;
+// What 1 in the tag adds to the word; the low 32 bits hold the numbers below this.
+const TAG_WEIGHT: u64 = 4_294_967_296;
 
 pub struct Head {
     // The number of the item on top plus one; 0 for none.
@@ -31,8 +31,8 @@ impl Head {
         ensures { λ r. ⌜ r ≡ headOf word ⌝ }
     {
         Head {
-            item: (word % ITEMS) as u32,
-            tag: (word / ITEMS) as u32,
+            item: (word % TAG_WEIGHT) as u32,
+            tag: (word / TAG_WEIGHT) as u32,
         }
     }
 
@@ -40,7 +40,7 @@ impl Head {
     pub fn word(self) -> u64
         ensures { λ r. ⌜ r ≡ wordOf self ⌝ }
     {
-        (self.item as u64) + (self.tag as u64) * ITEMS
+        (self.item as u64) + (self.tag as u64) * TAG_WEIGHT
     }
 
     // The item on top. The read by which a pop finds its list empty is this one.

@@ -11,7 +11,7 @@ returns c = allocate-refused _ _ _ _ (c .before .tests .ensures) _ (λ e. omega 
 begin-requires : tie.Need-begin-requires
 begin-requires c κs =
     let T = c .before .before .tests .ensures in
-    (control-is _ _ _ _ _ T (omega arith), task-is _ _ _ _ _ T (omega arith))
+    (control-is _ _ _ _ T (omega arith), task-is _ _ _ _ T (omega arith))
 
 returns-2 : tie.Need-returns-2
 returns-2 c =

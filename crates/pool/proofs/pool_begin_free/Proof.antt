@@ -9,14 +9,14 @@ returns : tie.Need-returns
 returns c = free-refused _ _ _ _ (c .before .tests .ensures) _ (λ e. omega arith)
 
 regions-requires : tie.Need-regions-requires
-regions-requires c κs = control-is _ _ _ _ _ (c .before .before .tests .ensures) (omega arith)
+regions-requires c κs = control-is _ _ _ _ (c .before .before .tests .ensures) (omega arith)
 
 begin-requires : tie.Need-begin-requires
 begin-requires c κs =
     let T = c .before .before .before .before .tests .ensures in (
-      control-is _ _ _ _ _ T (omega arith),
-      regions-are _ _ _ _ _ T (omega arith) _ (c .before .regions .ensures),
-      task-is _ _ _ _ _ T (omega arith),
+      control-is _ _ _ _ T (omega arith),
+      regions-are _ _ _ _ T (omega arith) _ (c .before .regions .ensures),
+      task-is _ _ _ _ T (omega arith),
     )
 
 returns-2 : tie.Need-returns-2

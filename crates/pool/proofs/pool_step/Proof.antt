@@ -9,18 +9,18 @@ returns : tie.Need-returns
 returns c = step-refused _ _ _ _ (c .before .tests .ensures) (λ e. omega arith)
 
 regions-requires : tie.Need-regions-requires
-regions-requires c κs = control-is _ _ _ _ _ (c .before .before .tests .ensures) (omega arith)
+regions-requires c κs = control-is _ _ _ _ (c .before .before .tests .ensures) (omega arith)
 
 step-requires : tie.Need-step-requires
 step-requires c κs =
     let read = c .before .before in
     let T = read .before .before .before .tests .ensures in
     let R = read .regions .ensures in (
-      control-is _ _ _ _ _ T (omega arith),
-      regions-some _ _ _ _ _ T (omega arith) _ R,
-      regions-are _ _ _ _ _ T (omega arith) _ R,
-      area-is _ _ _ _ _ T (omega arith) _ R,
-      task-is _ _ _ _ _ T (omega arith),
+      control-is _ _ _ _ T (omega arith),
+      regions-some _ _ _ _ T (omega arith) _ R,
+      regions-are _ _ _ _ T (omega arith) _ R,
+      area-is _ _ _ _ T (omega arith) _ R,
+      task-is _ _ _ _ T (omega arith),
     )
 
 returns-2 : tie.Need-returns-2

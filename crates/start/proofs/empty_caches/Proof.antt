@@ -1,16 +1,16 @@
 -- The caches are emptied from the last down.
 use mathlib.Core.Path.{refl}
-use Prim.Native.Nat.{_-_, _*_}
+use Prim.Native.Nat.{_-_}
 use native.Mathlib.Omega.{arith}
 use borrow.Author.Needs.{needs}
 use Rattle.limits.specs.Limits.{UNITS}
-use Rattle.control.specs.Layout.{CACHES, Top}
+use Rattle.control.specs.Layout.{CACHES, TopOfCache}
 use Rattle.start.proofs.Columns.{Filling, filling-begins, filling-goes, filling-ends}
 use Rattle.start.proofs.empty_caches.Statement.{statement}
 use Rattle.start.proofs.empty_caches.Tie as tie
 
 abbrev Inv-loop : tie.InvT-loop
-Inv-loop control₀ i₀ control i = Filling Top (λ i. UNITS) CACHES control₀ i control
+Inv-loop control₀ i₀ control i = Filling TopOfCache (λ i. UNITS) CACHES control₀ i control
 
 abbrev μ-loop : tie.MeasureT-loop
 μ-loop control₀ i₀ control i = i

@@ -1,18 +1,18 @@
 -- At the head of the loop what is written and what is still ahead make up the whole output.
-use Prim.Native.Nat.{_-_, _≤_}
+use Prim.Native.Nat.{_-_}
 use mathlib.Core.Path.{_≡_, refl, _∙_}
 use native.Mathlib.Omega.{arith}
 use lib.ListN.{length}
 use borrow.Author.Needs.{needs}
 use borrow.Rule.Slice.PartMut.{mid-len}
 use Rattle.text.proofs.Writing.{at-part}
-use Rattle.table.proofs.Playing.{Ahead, within, begins, short, goes-on, ends, further}
+use Rattle.table.proofs.Playing.{TableAhead, within, begins, short, goes-on, ends, further}
 use Rattle.table.proofs.write.Statement.{statement}
 use Rattle.table.proofs.write.Tie as tie
 
 abbrev Inv-loop : tie.InvT-loop
 Inv-loop control₀ area₀ input out₀ used₀ counts₀ number₀ at₀ control area out used counts number at =
-    Ahead input (record { control = control₀; area = area₀ }) used at number counts
+    TableAhead input (record { control = control₀; area = area₀ }) used at number counts
     (record { control = control; area = area }) out
     × (length control ≡ length control₀) × (length area ≡ length area₀) × (length out ≡ length out₀)
 
@@ -79,8 +79,8 @@ add-used c =
 
 end-requires : tie.Need-end-requires Inv-loop μ-loop
 end-requires c κs =
-    let at-test =
-    c .before .before .before .before .before .before .before .before .before .before .before .before .before .before .before in
+    let ended = c .before .before .before .before .before .before .before .before in
+    let at-test = ended .before .before .before .before .before .before .before in
     omega (
       arith,
       at-test .loop-test .taken,
@@ -89,19 +89,20 @@ end-requires c κs =
 
 add-number : tie.Need-add-number Inv-loop μ-loop
 add-number c =
-    let at-loop =
-    c .before .before .before .before .before .before .before .before .before .before .before .before .before .before .before .before .before in
+    let ended = c .before .before .before .before .before .before .before .before in
+    let at-test = ended .before .before .before .before .before .before .before .before in
+    let at-loop = at-test .before in
     omega (
       arith,
       at-loop .loop .inv .0 .few,
       at-loop .before .before .before .before .before .before .before .before .before .before .pre .1,
-      c .before .before .before .before .before .before .before .before .before .before .before .before .before .before .before .before .loop-test .taken,
+      at-test .loop-test .taken,
     )
 
 loop-less : tie.Need-loop-less Inv-loop μ-loop
 loop-less c =
-    let read =
-    c .before .before .before .before .before .before .before .before .before .before .before .before .before .before .before in
+    let ended = c .before .before .before .before .before .before .before .before in
+    let read = ended .before .before .before .before .before .before .before in
     let at-loop = read .before .before in
     let input =
     at-loop .before .before .before .before .before .before .before .before .before .before .args .input .now in

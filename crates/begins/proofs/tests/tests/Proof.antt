@@ -7,33 +7,33 @@ use Rattle.begins.proofs.tests.tests.Statement.{statement}
 use Rattle.begins.proofs.tests.tests.Tie as tie
 
 returns : tie.Need-returns
-returns c = wrong-control _ _ _ _ (λ e. omega arith)
+returns c = wrong-control _ _ _ (λ e. omega arith)
 
 returns-2 : tie.Need-returns-2
-returns-2 c = many-tasks _ _ _ _ (omega arith) (omega arith)
+returns-2 c = many-tasks _ _ _ (omega arith) (omega arith)
 
 returns-3 : tie.Need-returns-3
-returns-3 c = not-started _ _ _ _ (omega arith) (omega arith)
+returns-3 c = not-started _ _ _ (omega arith) (omega arith)
 
 returns-4 : tie.Need-returns-4
-returns-4 c = no-regions _ _ _ _ (omega arith) (λ e. omega arith) (omega arith) (omega arith)
+returns-4 c = no-regions _ _ _ (omega arith) (λ e. omega arith) (omega arith) (omega arith)
 
 returns-5 : tie.Need-returns-5
-returns-5 c = many-regions _ _ _ _ (omega arith) (λ e. omega arith) (omega arith) (omega arith)
+returns-5 c = many-regions _ _ _ (omega arith) (λ e. omega arith) (omega arith) (omega arith)
 
 returns-6 : tie.Need-returns-6
 returns-6 c =
-    wrong-area _ _ _ _ (omega arith) (λ e. omega arith) (omega arith) (λ e. omega arith) (omega arith)
+    wrong-area _ _ _ (omega arith) (λ e. omega arith) (omega arith) (λ e. omega arith) (omega arith)
     (λ e. omega arith)
 
 returns-7 : tie.Need-returns-7
 returns-7 c =
-    no-task _ _ _ _ (omega arith) (λ e. omega arith) (omega arith) (λ e. omega arith) (omega arith) (omega arith)
+    no-task _ _ _ (omega arith) (λ e. omega arith) (omega arith) (λ e. omega arith) (omega arith) (omega arith)
     (omega arith)
 
 returns-8 : tie.Need-returns-8
 returns-8 c =
-    all-pass _ _ _ _ (omega arith) (λ e. omega arith) (omega arith) (λ e. omega arith) (omega arith) (omega arith)
+    all-pass _ _ _ (omega arith) (λ e. omega arith) (omega arith) (λ e. omega arith) (omega arith) (omega arith)
     (omega arith)
 
 pub tests-spec : {M : Type 1} → statement M

@@ -3,13 +3,13 @@ use mathlib.Core.Path.{_≡_, refl, _∙_}
 use native.Mathlib.Omega.{arith}
 use lib.ListN.{length}
 use borrow.Author.Needs.{needs}
-use Rattle.schedule.proofs.Running.{Ahead, begins, ends, goes-on, stops}
+use Rattle.schedule.proofs.Running.{RunAhead, begins, ends, goes-on, stops}
 use Rattle.schedule.proofs.treat.run.Statement.{statement}
 use Rattle.schedule.proofs.treat.run.Tie as tie
 
 abbrev Inv-loop : tie.InvT-loop
 Inv-loop control₀ area₀ task most left₀ answer₀ control area left answer =
-    Ahead task most control₀ area₀ left answer control area
+    RunAhead task most control₀ area₀ left answer control area
     × (length control ≡ length control₀) × (length area ≡ length area₀)
 
 abbrev μ-loop : tie.MeasureT-loop

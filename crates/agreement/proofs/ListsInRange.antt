@@ -11,6 +11,7 @@ use Rattle.plain.specs.State.{Phase, Mem}
 use Rattle.control.specs.Layout.{TaskHead, TaskPlace, TaskNext}
 use Rattle.control.specs.Places.{POP-PARTIAL, POP-SPARE, POP-REGION, PUSH-RETIRE, PUSH-BACK, PUSH-RELEASE, PUSH-OFFER}
 use Rattle.control.specs.Places.{A3-READ}
+use Rattle.control.specs.Places.{TO-NEXT, TO-EXCHANGE}
 use Rattle.control.specs.declared.moves.Pop.{Pop}
 use Rattle.control.specs.declared.moves.Pop.the-variants.{Partial, Spare, Region}
 use Rattle.control.specs.declared.moves.Push.{Push}
@@ -18,7 +19,7 @@ use Rattle.control.specs.declared.moves.Push.the-variants.{Retire, Back, Releas
 use Rattle.stepped.specs.Lists.{popPlace, popItems, pushPlace, pushItems}
 use Rattle.agreement.specs.Contents.{Slot, slotOf}
 use Rattle.agreement.specs.Relation.{PopRelated, PushRelated}
-use Rattle.agreement.specs.InRange.{OneTo, TaskLists}
+use Rattle.agreement.specs.InRange.{OneTo, ListsInRange}
 use Rattle.agreement.proofs.WorkPlaces.{pop-span, push-span}
 
 -- ---- a place belongs to one move
@@ -26,15 +27,15 @@ use Rattle.agreement.proofs.WorkPlaces.{pop-span, push-span}
 -- q is one of the three places from b on
 record Span (b q : ℕ) : Type 0 where
   from : b ≤ q
-  to : q ≤ b + 2
+  to : q ≤ b + TO-EXCHANGE
 
 -- the pops come first, then the pushes
-pop-first : (p : Pop) → (POP-PARTIAL ≤ popPlace p) × (popPlace p + 2 < PUSH-RETIRE)
+pop-first : (p : Pop) → (POP-PARTIAL ≤ popPlace p) × (popPlace p + TO-EXCHANGE < PUSH-RETIRE)
 pop-first Partial = omega arith
 pop-first Spare = omega arith
 pop-first Region = omega arith
 
-push-later : (p : Push) → (PUSH-RETIRE ≤ pushPlace p) × (pushPlace p + 2 < A3-READ)
+push-later : (p : Push) → (PUSH-RETIRE ≤ pushPlace p) × (pushPlace p + TO-EXCHANGE < A3-READ)
 push-later Retire = omega arith
 push-later Back = omega arith
 push-later Release = omega arith
@@ -63,17 +64,17 @@ push-at Offer q h =
 -- ---- what one move noted
 
 module _ {m : Mem} {s : Slot} {b ℓ items : ℕ} where
-  popped-head : {φ : Phase} → PopRelated m s b ℓ items φ → b + 1 ≤ s .place → OneTo items (s .noted .head .item)
+  popped-head : {φ : Phase} → PopRelated m s b ℓ items φ → b + TO-NEXT ≤ s .place → OneTo items (s .noted .head .item)
   popped-head (PopRelated.at-read e) h = absurd (omega arith)
   popped-head (PopRelated.at-next e N i j) h = (i, j)
   popped-head (PopRelated.at-exchange e N i j x f) h = (i, j)
 
-  popped-next : {φ : Phase} → PopRelated m s b ℓ items φ → b + 2 ≤ s .place → s .noted .next ≤ items
+  popped-next : {φ : Phase} → PopRelated m s b ℓ items φ → b + TO-EXCHANGE ≤ s .place → s .noted .next ≤ items
   popped-next (PopRelated.at-read e) h = absurd (omega arith)
   popped-next (PopRelated.at-next e N i j) h = absurd (omega arith)
   popped-next (PopRelated.at-exchange e N i j x f) h = x
 
-  pushed-head : {x : ℕ} {nx : ℕ → ℕ} {φ : Phase} → PushRelated m s b ℓ items x nx φ → b + 1 ≤ s .place
+  pushed-head : {x : ℕ} {nx : ℕ → ℕ} {φ : Phase} → PushRelated m s b ℓ items x nx φ → b + TO-NEXT ≤ s .place
       → s .noted .head .item ≤ items
   pushed-head (PushRelated.at-read e) h = absurd (omega arith)
   pushed-head (PushRelated.at-next e N i) h = i
@@ -86,7 +87,7 @@ module _ (regions : ℕ) (v : View) (m : Mem) (t : ℕ) where
   q = v (TaskPlace t)
 
   abbrev Lists : Type 0
-  Lists = TaskLists regions v t
+  Lists = ListsInRange regions v t
 
   -- no move is under way
   pub none : (POP-PARTIAL ≤ q → q < A3-READ → ⊥) → Lists
@@ -103,10 +104,10 @@ module _ (regions : ℕ) (v : View) (m : Mem) (t : ℕ) where
       let own : Span (popPlace P) q = omega arith in
       record {
         pop-head = λ p a b.
-            subst (λ (z : Pop). popPlace z + 1 ≤ q → OneTo (popItems z regions) (itemOf (v (TaskHead t))))
+            subst (λ (z : Pop). popPlace z + TO-NEXT ≤ q → OneTo (popItems z regions) (itemOf (v (TaskHead t))))
             (sym (pop-at P q own) ∙ pop-at p q (omega arith)) (popped-head h) a;
         pop-next = λ p a b.
-            subst (λ (z : Pop). popPlace z + 2 ≤ q → v (TaskNext t) ≤ popItems z regions)
+            subst (λ (z : Pop). popPlace z + TO-EXCHANGE ≤ q → v (TaskNext t) ≤ popItems z regions)
             (sym (pop-at P q own) ∙ pop-at p q (omega arith)) (popped-next h) a;
         push-head = λ p a b. absurd (omega (arith, pop-first P, push-later p));
       }
@@ -121,6 +122,6 @@ module _ (regions : ℕ) (v : View) (m : Mem) (t : ℕ) where
         pop-head = λ p a b. absurd (omega (arith, pop-first p, push-later P));
         pop-next = λ p a b. absurd (omega (arith, pop-first p, push-later P));
         push-head = λ p a b.
-            subst (λ (z : Push). pushPlace z + 1 ≤ q → itemOf (v (TaskHead t)) ≤ pushItems z regions)
+            subst (λ (z : Push). pushPlace z + TO-NEXT ≤ q → itemOf (v (TaskHead t)) ≤ pushItems z regions)
             (sym (push-at P q own) ∙ push-at p q (omega arith)) (pushed-head h) a;
       }

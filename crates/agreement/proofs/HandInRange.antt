@@ -13,7 +13,7 @@ use Rattle.words.specs.declared.anchor.Anchor.{Anchor}
 use Rattle.classes.specs.Classes.{perRegion}
 use Rattle.classes.specs.Geometry.{Block, unitOf}
 use Rattle.classes.proofs.BlockUnits.{block-at, index-below, region-is}
-use Rattle.plain.specs.State.{State, numberOf, Place, Note, Mem, region, Work, working}
+use Rattle.plain.specs.State.{State, stateNumber, Place, Note, Mem, region, Work, working}
 use Rattle.plain.specs.Held.{owed, classAt, underWay, holdsDescriptor, holdsRegion}
 use Rattle.plain.specs.Blocks.{blocksFrom}
 use Rattle.plain.specs.Places.{Together}
@@ -30,10 +30,10 @@ use Rattle.agreement.specs.Relation.{NoteRelated, GroupRelated, PlaceRel
 use Rattle.agreement.specs.Relation.{r-region, r-retire, r-back, r-release, r-offer, r-a3-read, r-a3-exchange}
 use Rattle.agreement.specs.Relation.{r-a4, r-a7, r-a8, r-f1, r-f2, r-f2-more, r-f3-read, r-f3-link, r-f3-exchange}
 use Rattle.agreement.specs.Relation.{r-f4-clear, WorkRelated, r-working}
-use Rattle.agreement.specs.InRange.{TaskLists, TaskHands, TaskChains}
+use Rattle.agreement.specs.InRange.{ListsInRange, HandInRange, ChainsInRange}
 use Rattle.agreement.proofs.WorkPlaces.{pop-span, push-span}
 use Rattle.agreement.proofs.Freeing.{Freeing, allocates, fills, frees, owes, owed-one}
-use Rattle.agreement.proofs.TaskLists.{none, of-pop, of-push}
+use Rattle.agreement.proofs.ListsInRange.{none, of-pop, of-push}
 use Rattle.agreement.proofs.Tops.{first-of, descriptor-in-hand, region-in-hand}
 use Rattle.agreement.proofs.Couple.{Pair}
 use Rattle.agreement.proofs.Blocks.{home-below}
@@ -70,7 +70,7 @@ module _ (regions : ℕ) (v : View) (area : List ℕ) (m : Mem) (t : ℕ) (k : �
 
   -- what omega shows at each place
   abbrev Numbers : Type 0
-  Numbers = TaskHands regions v t × TaskChains v t
+  Numbers = HandInRange regions v t × ChainsInRange v t
 
   abbrev Turning : Place → Type 0
   Turning p = Pair regions (contentsOf v area) m t p k
@@ -87,14 +87,14 @@ module _ (regions : ℕ) (v : View) (area : List ℕ) (m : Mem) (t : ℕ) (k : �
   under-region {u = u} w b o = rw (← (region-is b)) (home-below w (home-of (w .turn) u o))
 
   -- the group that is under way
-  record Grouped : Type 0 where
+  record GroupFound : Type 0 where
     some : 1 ≤ v (GroupCount t)
     first : v (GroupFirst t) < perRegion c
     last : v (GroupLast t) < perRegion c
     region : r < regions
 
   grouped : {p : Place} {y : ℕ} {g : List ℕ} → Turning p → GroupRelated (contentsOf v area) s y g
-      → ((x : ℕ) → count x (y ∷ g) ≤ count x (underWay p)) → classAt p ≡ c → Together y g → Grouped
+      → ((x : ℕ) → count x (y ∷ g) ≤ count x (underWay p)) → classAt p ≡ c → Together y g → GroupFound
   grouped w G sub class together = record {
     some = omega (arith, G .counts);
     first = first-below w G sub class together;
@@ -103,7 +103,7 @@ module _ (regions : ℕ) (v : View) (area : List ℕ) (m : Mem) (t : ℕ) (k : �
   }
 
   -- a group that is about to return to the chain of the noted anchor
-  returns : {n : Note} → F3-LINK ≤ v (TaskPlace t) → v (TaskPlace t) ≤ F3-EXCHANGE → Grouped → d < DESCRIPTORS
+  returns : {n : Note} → F3-LINK ≤ v (TaskPlace t) → v (TaskPlace t) ≤ F3-EXCHANGE → GroupFound → d < DESCRIPTORS
       → NoteRelated m c d n (anchorOf (v (TaskAnchor t)))
       → v (GroupCount t) + anchorOf (v (TaskAnchor t)) .count ≤ perRegion c → Numbers
   returns i j F f N l = let a = note-in N in (omega arith, omega arith)
@@ -118,13 +118,13 @@ module _ (regions : ℕ) (v : View) (area : List ℕ) (m : Mem) (t : ℕ) (k : �
   freeing i j e h = frees i j e (omega (arith, when-same u 1))
 
   -- the same, and the descriptor that is owed where the anchor was found FULL
-  owing : {p : Place} (z : State) → v (TaskState t) ≡ numberOf z → count d (owed z d) ≤ holdsDescriptor d p
+  owing : {p : Place} (z : State) → v (TaskState t) ≡ stateNumber z → count d (owed z d) ≤ holdsDescriptor d p
       → classAt p ≡ c
       → one u u ≤ count u (underWay p) → Freeing v t p
   owing z i o e h = owes (λ f. omega (arith, owed-one z d (sym i ∙ f))) e (omega (arith, when-same u 1))
 
   abbrev Lists : Type 0
-  Lists = TaskLists regions v t
+  Lists = ListsInRange regions v t
 
   -- what is shown at each place: of what was noted of a list, of what is in hand, and of what a free has under way
   abbrev Ranged : Place → Type 0
