@@ -90,14 +90,10 @@ plainBegins t y = begins (y .1 .code) (classAt (y .0 .task t .place))
 abbrev pub lends : List ℕ → Lent
 lends area = record { control = CONTROL-BYTES; area = area }
 
--- a start with so many tasks
-abbrev pub of-tasks : ℕ → Start
-of-tasks n = record { tasks = n }
-
--- such a start, an allocation of the size begun by the task t, and n steps of it
-abbrev pub allocating : (area : List ℕ) (tasks t size n : ℕ) → List Event
-allocating area tasks t size n =
-    starting (of-tasks tasks) area ∷ call (allocate t size) (lends area) ∷ replicate n (call (step t) (lends area))
+-- a start, an allocation of the size begun by the task t, and n steps of it
+abbrev pub allocating : (area : List ℕ) (b : Start) (t size n : ℕ) → List Event
+allocating area b t size n =
+    starting b area ∷ call (allocate t size) (lends area) ∷ replicate n (call (step t) (lends area))
 
 -- Of sizes, in both pools, whatever they hold, and of every task. Of first allocations, on the bytes: after every
 -- accepted start, whatever bytes the memories held before, and of each of its tasks; the start, the beginning and all
@@ -108,9 +104,9 @@ RowHolds (of-size s x) =
     (t : ℕ) (v : View) (m : Mem)
     → (steppedBegins v t (Stepped.beginAllocate t s) ≡ x) × (plainBegins t (Plain.beginAllocate t s m) ≡ x)
 RowHolds (first-allocation s n unit) =
-    (area : List ℕ) (tasks t : ℕ) (before : Memories) → Plain.StartArea (length area) → Plain.StartTasks tasks
-    → t < tasks
-    → map brief (steppedAnswers (allocating area tasks t s n) before) ≡ finishing (suc n) unit
+    (area : List ℕ) (b : Start) (t : ℕ) (before : Memories) → Plain.StartArea (length area)
+    → Plain.StartTasks (b .tasks) → t < b .tasks
+    → map brief (steppedAnswers (allocating area b t s n) before) ≡ finishing (suc n) unit
 RowHolds (tag-won tag next) = (w item : ℕ) → tagOf w ≡ tag → advancedWord w item ≡ word item next
 RowHolds (group-returned n g state count) =
     (first : ℕ) → returned (full n) first g n ≡ record { state = state; avail = first; count = count }
@@ -166,23 +162,23 @@ join (r ∷ p) q h k = (h .0, join p q (h .1) k)
 
 -- ---- first allocations
 
-module _ (area : List ℕ) (tasks t : ℕ) (a : Plain.StartArea (length area)) (T : Plain.StartTasks tasks)
-    (l : t < tasks) where
+module _ (area : List ℕ) (b : Start) (t : ℕ) (a : Plain.StartArea (length area)) (T : Plain.StartTasks (b .tasks))
+    (l : t < b .tasks) where
   abbrev regions : ℕ
   regions = length area / REGION-BYTES
 
   -- the started pool, with what it keeps
   abbrev pool : Mem → Pool
-  pool m = record { tasks = tasks; regions = regions; mem = m }
+  pool m = record { tasks = b .tasks; regions = regions; mem = m }
 
   passes : (m : Mem) → Taken (lengths (lends area)) t (pool m)
   passes m = record { control-is = refl; started = T .0; area-is = omega (arith, a); below = l }
 
-  starts : whole (starting (of-tasks tasks) area) unstarted ≡ (pool (startMem regions), going nothing)
+  starts : whole (starting b area) unstarted ≡ (pool (startMem regions), going nothing)
   unfolding Plain.plainCall
   starts =
       if-yes (ℕ-discrete CONTROL-BYTES CONTROL-BYTES) _ _ refl ∙ if-yes (Plain.startArea? (length area)) _ _ a
-      ∙ if-yes (Plain.startTasks? tasks) _ _ T
+      ∙ if-yes (Plain.startTasks? (b .tasks)) _ _ T
 
   -- the pool with the allocation begun: no cache has a block
   abbrev begun : ℕ → Mem
@@ -223,11 +219,11 @@ module _ (area : List ℕ) (tasks t : ℕ) (a : Plain.StartArea (length area)) (
       let e : regions ≡ suc (regions - 1) = omega (arith, a) in
       ap (λ n. rising n 0) e
 
-  -- b is the last block of a region
-  finishes : (size b : ℕ) → size ≤ LARGEST-SIZE → suc b ≡ perRegion (classOf size)
-      → Finishes t (unitOf 0 (classOf size) b) (b + 10) (begun size)
-  finishes size b q e =
-      opens t (classOf size) (λ c. []) 0 0 b (rising (DESCRIPTORS - 1) 1) (rising (regions - 1) 1) refl
+  -- i is the last block of a region
+  finishes : (size i : ℕ) → size ≤ LARGEST-SIZE → suc i ≡ perRegion (classOf size)
+      → Finishes t (unitOf 0 (classOf size) i) (i + 10) (begun size)
+  finishes size i q e =
+      opens t (classOf size) (λ c. []) 0 0 i (rising (DESCRIPTORS - 1) 1) (rising (regions - 1) 1) refl
       (unlisted (classOf size) (is-class size q))
       spare-descriptors spare-regions e
       (update-same (startMem regions .task) t (taskOf (working (a1 (classOf size))) (λ c. [])))
@@ -235,15 +231,15 @@ module _ (area : List ℕ) (tasks t : ℕ) (a : Plain.StartArea (length area)) (
   -- what the plain pool does is what the stepped run answers: so few events meet the premises, since none is a write
   carried : (size n unit : ℕ) → 1 ≤ size → size ≤ LARGEST-SIZE → n + 3 ≤ TAGS → Finishes t unit n (begun size)
       → (before : Memories)
-      → map brief (steppedAnswers (allocating area tasks t size (suc n)) before) ≡ finishing (suc (suc n)) unit
+      → map brief (steppedAnswers (allocating area b t size (suc n)) before) ≡ finishing (suc (suc n)) unit
   unfolding unstarted
   carried size n unit p q few F before =
       let steps = replicate (suc n) (call (step t) (lends area)) in
       let es = call (allocate t size) (lends area) ∷ steps in
-      let P : Premises (starting (of-tasks tasks) area ∷ es) unstarted =
-      short 0 (starting (of-tasks tasks) area ∷ es) unstarted (λ h. absurd (omega arith))
+      let P : Premises (starting b area ∷ es) unstarted =
+      short 0 (starting b area ∷ es) unstarted (λ h. absurd (omega arith))
       (omega (arith, length-replicate (suc n) (call (step t) (lends area)))) (no-writes (suc n) _) in
-      ap (map brief) (answered-from-start es before unstarted (of-tasks tasks) area a T (P .1))
+      ap (map brief) (answered-from-start es before unstarted b area a T (P .1))
       ∙ ap (λ x. map brief (x .1 ∷ wholeAnswers es (x .0))) starts
       ∙ ap (λ x. (0, 0) ∷ map brief (x .1 ∷ wholeAnswers steps (x .0))) (begins-so size p q)
       ∙ ap (λ q. (0, 0) ∷ ((0, 0) ∷ map brief q)) (steps-so (suc n) (begun size))
@@ -254,12 +250,12 @@ module _ (area : List ℕ) (tasks t : ℕ) (a : Plain.StartArea (length area)) (
       no-writes (suc n) s = no-writes n _
 
 -- The first allocation of a size: it opens region 0 and gives the last of its n blocks, at step n + 10.
-pub first : (size b : ℕ) → 1 ≤ size → size ≤ LARGEST-SIZE → suc b ≡ perRegion (classOf size)
-    → RowHolds (first-allocation size (suc (b + 10)) (unitOf 0 (classOf size) b))
-first size b p q e area tasks t before a T l =
-    carried area tasks t a T l size (b + 10) (unitOf 0 (classOf size) b) p q
+pub first : (size i : ℕ) → 1 ≤ size → size ≤ LARGEST-SIZE → suc i ≡ perRegion (classOf size)
+    → RowHolds (first-allocation size (suc (i + 10)) (unitOf 0 (classOf size) i))
+first size i p q e area b t before a T l =
+    carried area b t a T l size (i + 10) (unitOf 0 (classOf size) i) p q
     (omega (arith, perRegion-high (classOf size)))
-    (finishes area tasks t a T l size b q e) before
+    (finishes area b t a T l size i q e) before
 
 first-256 : RowHolds (first-allocation 256 26 480)
 unfolding units perRegion classOf

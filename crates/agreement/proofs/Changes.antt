@@ -25,8 +25,7 @@ use Rattle.agreement.specs.Relation.{ChainRelated, Core, Related, SlotRe
 use Rattle.agreement.proofs.Couple.{Pair, descriptor-apart, region-apart}
 use Rattle.agreement.proofs.Frames.{after, lists-kept}
 use Rattle.agreement.proofs.Parts.{anchor-related, descriptorNext-related, head-related, map-related}
-use Rattle.agreement.proofs.Parts.{mark-related}
-use Rattle.agreement.proofs.Parts.{regionNext-related}
+use Rattle.agreement.proofs.Parts.{mark-related, regionNext-related, core-lists, core-descriptors, core-entries}
 use Rattle.agreement.proofs.Sets.{setAnchor, setDescriptorNext, setHead, setMap, setMark, setRegionNext, setSlot}
 
 -- a won exchange of the list ℓ: what others noted of it is past
@@ -50,12 +49,7 @@ module _ {regions : ℕ} {a : Contents} {m : Mem} {t : ℕ} {p : Place} {k : ℕ
       → SlotRelated regions (setSlot t s (setHead ℓ h a)) (setTask t T (setRow ℓ q m)) s T
       → Related regions (setSlot t s (setHead ℓ h a)) (setTask t T (setRow ℓ q m))
   heading ℓ h q s T e f g own = after {a = a} {m = m} t s T refl refl
-      (record {
-        lists = head-related (C .lists) ℓ h (m .won ℓ + 1) q e f g;
-        descriptors = C .descriptors;
-        entries = C .entries;
-        length = C .length;
-      })
+      (core-lists C (head-related (C .lists) ℓ h (m .won ℓ + 1) q e f g))
       own
       (λ j l d. record {
         lists =
@@ -91,12 +85,7 @@ module _ {regions : ℕ} {a : Contents} {m : Mem} {t : ℕ} {p : Place} {k : ℕ
       → SlotRelated regions (setSlot t s (setDescriptorNext x n a)) (setTask t T m) s T
       → Related regions (setSlot t s (setDescriptorNext x n a)) (setTask t T m)
   dnexting x n s T h b own = after {a = a} {m = m} t s T refl refl
-      (record {
-        lists = descriptorNext-related (C .lists) x n (λ ℓ l. off-lists x ℓ l h) b;
-        descriptors = C .descriptors;
-        entries = C .entries;
-        length = C .length;
-      })
+      (core-lists C (descriptorNext-related (C .lists) x n (λ ℓ l. off-lists x ℓ l h) b))
       own
       (λ j l d. record {
         lists = record {
@@ -115,12 +104,7 @@ module _ {regions : ℕ} {a : Contents} {m : Mem} {t : ℕ} {p : Place} {k : ℕ
       → SlotRelated regions (setSlot t s (setRegionNext x n a)) (setTask t T m) s T
       → Related regions (setSlot t s (setRegionNext x n a)) (setTask t T m)
   rnexting x n s T h b own = after {a = a} {m = m} t s T refl refl
-      (record {
-        lists = regionNext-related (C .lists) x n (off-regions x h) b;
-        descriptors = C .descriptors;
-        entries = C .entries;
-        length = C .length;
-      })
+      (core-lists C (regionNext-related (C .lists) x n (off-regions x h) b))
       own
       (λ j l d. record {
         lists = record {
@@ -143,12 +127,7 @@ module _ {regions : ℕ} {a : Contents} {m : Mem} {t : ℕ} {p : Place} {k : ℕ
       → SlotRelated regions (setSlot t s (setAnchor d b a)) (setTask t T (setDescriptor d E m)) s T
       → Related regions (setSlot t s (setAnchor d b a)) (setTask t T (setDescriptor d E m))
   anchoring d b E s T l e f g c i₁ i₂ own = after {a = a} {m = m} t s T refl refl
-      (record {
-        lists = C .lists;
-        descriptors = anchor-related (C .descriptors) d b E l e f g c i₁ i₂;
-        entries = C .entries;
-        length = C .length;
-      })
+      (core-descriptors C (anchor-related (C .descriptors) d b E l e f g c i₁ i₂))
       own
       (λ j i n. record {
         lists = lists-kept;
@@ -162,12 +141,7 @@ module _ {regions : ℕ} {a : Contents} {m : Mem} {t : ℕ} {p : Place} {k : ℕ
       → SlotRelated regions (setSlot t s (setMap r z a)) (setTask t T (State.setMap r z m)) s T
       → Related regions (setSlot t s (setMap r z a)) (setTask t T (State.setMap r z m))
   clearing r z s T own = after {a = a} {m = m} t s T refl refl
-      (record {
-        lists = C .lists;
-        descriptors = C .descriptors;
-        entries = map-related (C .entries) r z z refl;
-        length = C .length;
-      })
+      (core-entries C (map-related (C .entries) r z z refl))
       own
       (λ j l d. record { lists = lists-kept; links = λ v h. refl; regions = λ x h. refl })
       (w .rel .slots)
@@ -177,12 +151,7 @@ module _ {regions : ℕ} {a : Contents} {m : Mem} {t : ℕ} {p : Place} {k : ℕ
       → SlotRelated regions (setSlot t s (setMark u b a)) (setTask t T (setHands u b m)) s T
       → Related regions (setSlot t s (setMark u b a)) (setTask t T (setHands u b m))
   marking u b s T own = after {a = a} {m = m} t s T refl refl
-      (record {
-        lists = C .lists;
-        descriptors = C .descriptors;
-        entries = mark-related (C .entries) u b;
-        length = C .length;
-      })
+      (core-entries C (mark-related (C .entries) u b))
       own
       (λ j l d. record { lists = lists-kept; links = λ v h. refl; regions = λ x h. refl })
       (w .rel .slots)

@@ -23,7 +23,7 @@ use Rattle.stepped.specs.Start.{startWrites}
 use Rattle.stepped.specs.Calls
 use Rattle.stepped.specs.Calls.{Lent, lengths}
 use Rattle.agreement.specs.Events.{Event, call, write}
-use Rattle.agreement.proofs.Example.{schedule, events, answers, told}
+use Rattle.agreement.proofs.Example.{three, schedule, events, answers, told}
 
 -- what stands in the fields, and each block's link
 pub record FieldsAndLinks : Type 0 where
@@ -57,7 +57,7 @@ run [] s = []
 run (e ∷ es) s = says (outcome e s) ∷ run es (becomes (outcome e s) s)
 
 abbrev pub fresh : FieldsAndLinks
-fresh = record { view = assigned (startWrites 3 2) (λ f. 0); link = λ u. 0 }
+fresh = record { view = assigned (startWrites three 2) (λ f. 0); link = λ u. 0 }
 
 pub computed : told (run (events schedule) fresh) ≡ answers schedule
 unfolding startWrites units perRegion classOf isFirst Calls.tested Calls.whenIdle Calls.beginAllocate Calls.freeMarked

@@ -32,7 +32,7 @@ use Rattle.plain.proofs.Turn.{Turn}
 use Rattle.agreement.specs.Contents.{Contents, Slot}
 use Rattle.agreement.specs.Relation.{Core, Related, SlotRelated}
 use Rattle.agreement.proofs.Frames.{after, lists-kept}
-use Rattle.agreement.proofs.Parts.{links-related}
+use Rattle.agreement.proofs.Parts.{links-related, core-lists, core-links}
 use Rattle.agreement.proofs.Sets.{setLink, setSlot}
 
 -- the relation, and the plain pool's own invariant, at the turn of the task t, which is at the place p with the caches
@@ -157,9 +157,7 @@ module _ {regions : ℕ} {a : Contents} {m : Mem} {t : ℕ} {p : Place} {k : ℕ
 
   -- all but the tasks, as it was
   pub kept-core : (s : Slot) (T : Task) → Core regions (setSlot t s a) (setTask t T m)
-  kept-core s T =
-      let C = w .rel .core in
-      record { lists = C .lists; descriptors = C .descriptors; entries = C .entries; length = C .length }
+  kept-core s T = core-lists (w .rel .core) (w .rel .core .lists)
 
   -- ---- the task's part alone
   pub quiet : (s : Slot) (T : Task) → SlotRelated regions (setSlot t s a) (setTask t T m) s T
@@ -180,20 +178,16 @@ module _ {regions : ℕ} {a : Contents} {m : Mem} {t : ℕ} {p : Place} {k : ℕ
       let I = w .turn .inv in
       let b = own-block u o in
       after {a = a} {m = m} t s T refl refl
-      (record {
-        lists = C .lists;
-        descriptors =
-            links-related (C .descriptors) (link (withLink (a .area) u x)) (λ d l g v h. link-other (a .area) u x v
-            (λ e. absurd (omega (
-              arith,
-              b .3,
-              total-one DESCRIPTORS (chainWeight u) (m .descriptor) d l,
-              g (count u (m .descriptor d .chain)),
-              ap (λ (z : ℕ). count z (m .descriptor d .chain)) e,
-            ))));
-        entries = C .entries;
-        length = length-linked (u ⇒ x ∷ []) (a .area) ∙ C .length;
-      })
+      (core-links C
+      (links-related (C .descriptors) (link (withLink (a .area) u x)) (λ d l g v h. link-other (a .area) u x v
+      (λ e. absurd (omega (
+        arith,
+        b .3,
+        total-one DESCRIPTORS (chainWeight u) (m .descriptor) d l,
+        g (count u (m .descriptor d .chain)),
+        ap (λ (z : ℕ). count z (m .descriptor d .chain)) e,
+      )))))
+      (length-linked (u ⇒ x ∷ []) (a .area)))
       own
       (λ j l d. record {
         lists = lists-kept;

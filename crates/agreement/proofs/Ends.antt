@@ -209,7 +209,7 @@ module _ (lent : Lengths) (v : View) (link : ℕ → ℕ) (t : ℕ) where
   end-passed a i e = not-refused (λ n f. subst IsEnd (sym e ∙ f) i)
 
   -- a step that passes the tests is that of its place
-  at-place : {place : ℕ} → Tested lent v t → v (TaskPlace t) ≡ place → 1 ≤ place → v (TaskClass t) < CLASSES
+  at-place : {place : ℕ} → Tested lent v t → v (TaskPlace t) ≡ place → IDLE < place → v (TaskClass t) < CLASSES
       → o ≡ Steps.stepAt v link (v Regions) t (v (TaskClass t)) place
   unfolding Calls.stepOutcome Steps.stepOf
   at-place T e l h =
@@ -217,7 +217,7 @@ module _ (lent : Lengths) (v : View) (link : ℕ → ℕ) (t : ℕ) where
       ∙ rw (lt-ltb IDLE (v (TaskPlace t)) (omega arith), lt-ltb (v (TaskClass t)) CLASSES h, e)
 
   -- the step at the place of a task that is not idle is refused by 14 alone
-  pub place-goes : v (TaskClass t) < CLASSES → 1 ≤ v (TaskPlace t)
+  pub place-goes : v (TaskClass t) < CLASSES → IDLE < v (TaskPlace t)
       → Goes placeRefusals (Steps.stepAt v link (v Regions) t (v (TaskClass t)) (v (TaskPlace t)) .answer)
   place-goes fits busy = goes (step-at v link t fits busy)
 

@@ -56,15 +56,28 @@ writes at b = write at b ∷ []
 abbrev pub ExampleLine : Type 0
 ExampleLine = List Event × List Answer
 
--- A list of partial descriptors has the number of its class. Blocks of 256 bytes are class 15, with n = 16; block i of
--- region r is the unit 512 × r + 32 × i.
+-- the classes of the blocks that are asked for, by their bytes
+abbrev CLASS-160 : ℕ
+CLASS-160 = classOf 160
+
+abbrev CLASS-192 : ℕ
+CLASS-192 = classOf 192
+
+abbrev CLASS-224 : ℕ
+CLASS-224 = classOf 224
+
+abbrev CLASS-256 : ℕ
+CLASS-256 = classOf 256
+
+-- A list of partial descriptors has the number of its class. A region has 16 blocks of 256 bytes; block i of region r
+-- is the unit 512 × r + 32 × i.
 abbrev pub contention : List ExampleLine
 contention =
     -- Tasks 0 and 1 begin alike: each has read the head of the spare descriptors and the next of the top one.
     (allocates 0 256, [])
-    ∷ (steps 0 4, going (found-empty 15) ∷ [])
+    ∷ (steps 0 4, going (found-empty CLASS-256) ∷ [])
     ∷ (allocates 1 256, [])
-    ∷ (steps 1 4, going (found-empty 15) ∷ [])
+    ∷ (steps 1 4, going (found-empty CLASS-256) ∷ [])
     -- Task 0 wins its exchange; task 1 loses it and pops the next descriptor. Each opens a region and carves its 16
     -- blocks, and its user gets the last of them.
     ∷ (steps 0 1, going (popped SPARE-DESCRIPTORS 0) ∷ [])
@@ -88,12 +101,12 @@ contention =
     ∷ (steps 1 1, finished 0 ∷ [])
     ∷ (frees 1 448, [])
     -- A group of one, block 960, goes back to region 1: FULL, then PARTIAL. Its descriptor is offered.
-    ∷ (steps 1 9, going (gave 1) ∷ going (pushed 15 1) ∷ [])
+    ∷ (steps 1 9, going (gave 1) ∷ going (pushed CLASS-256 1) ∷ [])
     -- Task 2 pops that descriptor and reads its anchor.
     ∷ (allocates 2 256, [])
-    ∷ (steps 2 5, going (popped 15 1) ∷ [])
+    ∷ (steps 2 5, going (popped CLASS-256 1) ∷ [])
     -- Task 1 returns a group of one to region 0, then one of 14 to region 1, whose anchor changes; block 448 is cached.
-    ∷ (steps 1 8, going (gave 0) ∷ going (pushed 15 0) ∷ [])
+    ∷ (steps 1 8, going (gave 0) ∷ going (pushed CLASS-256 0) ∷ [])
     ∷ (steps 1 19, going (gave 1) ∷ finished 0 ∷ [])
     -- Task 2 loses its exchange of that anchor, reads it again and takes the chain of 15.
     ∷ (steps 2 1, going (anchor-lost 1) ∷ [])
@@ -111,16 +124,16 @@ closing =
     ∷ (allocates 0 256, [])
     ∷ (steps 0 1, finished 416 ∷ [])
     ∷ (frees 2 416, [])
-    ∷ (steps 2 29, going (gave 1) ∷ going (pushed SPARE-REGIONS 1) ∷ going (pushed 15 1) ∷ finished 0 ∷ [])
+    ∷ (steps 2 29, going (gave 1) ∷ going (pushed SPARE-REGIONS 1) ∷ going (pushed CLASS-256 1) ∷ finished 0 ∷ [])
     ∷ []
 
 abbrev pub reopening : List ExampleLine
 reopening =
-    -- Region 1 is opened again, for blocks of 224 bytes, class 14; the user writes the first and the last byte of one.
+    -- Region 1 is opened again, for blocks of 224 bytes; the user writes the first and the last byte of one.
     (allocates 0 224, [])
     ∷ (
       steps 0 28,
-      going (found-empty 14) ∷ going (popped SPARE-DESCRIPTORS 2) ∷ going (popped SPARE-REGIONS 1)
+      going (found-empty CLASS-224) ∷ going (popped SPARE-DESCRIPTORS 2) ∷ going (popped SPARE-REGIONS 1)
           ∷ finished 988 ∷ [],
     )
     ∷ (writes 7904 7, [])
@@ -130,18 +143,21 @@ reopening =
     ∷ (allocates 1 256, [])
     ∷ (steps 1 1, finished 448 ∷ [])
     ∷ (allocates 1 256, [])
-    ∷ (steps 1 8, going (popped 15 1) ∷ going (anchor-empty 1) ∷ going (pushed SPARE-DESCRIPTORS 1) ∷ [])
-    ∷ (steps 1 7, going (popped 15 0) ∷ going (took 0) ∷ finished 480 ∷ [])
+    ∷ (steps 1 8, going (popped CLASS-256 1) ∷ going (anchor-empty 1) ∷ going (pushed SPARE-DESCRIPTORS 1) ∷ [])
+    ∷ (steps 1 7, going (popped CLASS-256 0) ∷ going (took 0) ∷ finished 480 ∷ [])
     -- Task 1 wants 192 bytes: it has read the head of the spare descriptors, with descriptor 1 on top, and its next.
     ∷ (allocates 1 192, [])
-    ∷ (steps 1 4, going (found-empty 13) ∷ [])
+    ∷ (steps 1 4, going (found-empty CLASS-192) ∷ [])
     ∷ []
 
 abbrev pub meanwhile : List ExampleLine
 meanwhile =
     -- Task 2 pops descriptor 1, finds no spare region, pushes it back and ends with 13: it is on top again.
     (allocates 2 160, [])
-    ∷ (steps 2 6, going (found-empty 12) ∷ going (popped SPARE-DESCRIPTORS 1) ∷ going (found-empty SPARE-REGIONS) ∷ [])
+    ∷ (
+      steps 2 6,
+      going (found-empty CLASS-160) ∷ going (popped SPARE-DESCRIPTORS 1) ∷ going (found-empty SPARE-REGIONS) ∷ [],
+    )
     ∷ (steps 2 3, ended 13 (pushed SPARE-DESCRIPTORS 1) ∷ [])
     ∷ []
 
@@ -186,7 +202,7 @@ told [] = []
 told (a ∷ q) = toldBy (a .code) (a .decided) a (told q)
 
 -- three tasks
-abbrev three : Start
+abbrev pub three : Start
 three = record { tasks = 3 }
 
 -- the pool of three tasks and two regions
@@ -210,10 +226,11 @@ abbrev reopened : Pool
 reopened = after (events reopening) closed
 
 -- Region 1 goes from FULL to EMPTY by the one return of its part, its map entry is cleared and it is spare; then it is
--- open for class 14, by descriptor 2.
+-- open for blocks of 224 bytes, by descriptor 2.
 pub region-closed :
     (contended .mem .descriptor 1 .state ≡ FULL) × (closed .mem .descriptor 1 .state ≡ EMPTY) × (closed .mem .map 1 ≡ 0)
-    × (closed .mem .row SPARE-REGIONS ≡ 1 ∷ []) × (reopened .mem .map 1 ≡ 3) × (reopened .mem .descriptor 2 .class ≡ 14)
+    × (closed .mem .row SPARE-REGIONS ≡ 1 ∷ []) × (reopened .mem .map 1 ≡ 3)
+    × (reopened .mem .descriptor 2 .class ≡ CLASS-224)
 unfolding Plain.plainCall stepOf startMem rising units perRegion update ℕ-discrete decLt decLe both unstarted classOf
 region-closed = (refl, refl, refl, refl, refl, refl)
 
@@ -223,9 +240,9 @@ returned = after (events meanwhile) reopened
 -- Task 1 noted 4 won exchanges of the spare descriptors. There are two more when it tries its own, and the row is the
 -- same.
 pub head-returned :
-    (reopened .mem .task 1 .place ≡ working (popping (spare 13) (exchange 4)))
+    (reopened .mem .task 1 .place ≡ working (popping (spare CLASS-192) (exchange 4)))
     × (reopened .mem .won SPARE-DESCRIPTORS ≡ 4)
-    × (returned .mem .task 1 .place ≡ working (popping (spare 13) (exchange 4)))
+    × (returned .mem .task 1 .place ≡ working (popping (spare CLASS-192) (exchange 4)))
     × (returned .mem .won SPARE-DESCRIPTORS ≡ 6)
     × (reopened .mem .row SPARE-DESCRIPTORS ≡ 1 ∷ rising 61 3)
     × (returned .mem .row SPARE-DESCRIPTORS ≡ 1 ∷ rising 61 3)

@@ -80,9 +80,9 @@ module _ (b : List ℕ) (long : length b ≡ CONTROL-BYTES) (old : FoundStates b
 -- ---- starts
 
 -- a start leaves every noted state 0
-image-found : (tasks regions : ℕ) → tasks ≤ TASKS → regions ≤ REGIONS → FoundStates (startImage tasks regions)
-image-found tasks regions few small started t l =
-    omega (arith, image-view tasks regions few small (TaskState t) (omega (arith, l)), at-state tasks regions t)
+image-found : (b : Start) (regions : ℕ) → b .tasks ≤ TASKS → regions ≤ REGIONS → FoundStates (startImage b regions)
+image-found b regions few small started t l =
+    omega (arith, image-view b regions few small (TaskState t) (omega (arith, l)), at-state b regions t)
 
 start-found : (b : Start) (lent : Lent) (s : Memories) → FoundStates (s .control)
     → FoundStates (Calls.startIn b lent s .control)
@@ -97,7 +97,7 @@ start-found b lent s old =
     leb-true bytes AREA-BYTES
     (right-true (leb 1 bytes) (leb bytes AREA-BYTES)
     (right-true (eqb (bytes % REGION-BYTES) 0) (oneTo AREA-BYTES bytes) f)) in
-    image-found tasks (bytes / REGION-BYTES) (leb-true tasks TASKS (right-true (leb 1 tasks) (leb tasks TASKS) g))
+    image-found b (bytes / REGION-BYTES) (leb-true tasks TASKS (right-true (leb 1 tasks) (leb tasks TASKS) g))
     (omega (arith, l)))
     (λ g. old)) (λ f. old)) (λ e. old)
 
@@ -115,7 +115,7 @@ accepted-found s b area a t =
       le-leb 1 tasks (t .0),
       le-leb tasks TASKS (t .1),
     )
-    (image-found tasks (length area / REGION-BYTES) (t .1) (omega (arith, a)))
+    (image-found b (length area / REGION-BYTES) (t .1) (omega (arith, a)))
 
 -- ---- every event
 

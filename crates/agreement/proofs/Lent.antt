@@ -62,7 +62,7 @@ module _ (b : Start) (area : List ℕ) where
   -- a start by the outcomes of its tests 1, 2 and 3
   abbrev By : Bool → Bool → Bool → Memories → Effect
   By p q r s =
-      let image = startImage (b .tasks) (length area / REGION-BYTES) in
+      let image = startImage b (length area / REGION-BYTES) in
       cond p
       (cond q
       (cond r

@@ -45,7 +45,7 @@ use Rattle.agreement.proofs.Sets.{withSlots, setSlot, setOwner}
 use Rattle.agreement.proofs.Bridge.{owner-written}
 use Rattle.agreement.proofs.Tops.{descriptor-in-hand, region-in-hand}
 use Rattle.agreement.proofs.Frames.{Reads, after, lists-kept}
-use Rattle.agreement.proofs.Parts.{map-related}
+use Rattle.agreement.proofs.Parts.{map-related, core-descriptors, core-entries}
 use Rattle.agreement.proofs.Couple.{Pair, mine, descriptor-apart}
 use Rattle.stepped.proofs.Conjunction.{both-true}
 use Rattle.agreement.proofs.Both.{Both, pass}
@@ -94,24 +94,21 @@ opening {regions} {a} {m} {t} {c} {d} {r} w e s T low i own =
       empty-max (m .descriptor d .state),
     ) in
     after {a = a} {m = m} t s T refl refl
-    (record {
-      lists = C .lists;
-      descriptors = record {
-        each = descriptors C;
-        avails =
-            update-all (λ j x. j < DESCRIPTORS → x .avail ≤ MOST-BLOCKS) (a .descriptors .anchor) d (full (perRegion c))
-            (λ l. perRegion-high c) (λ j n. C .descriptors .avails j);
-        chainCounts =
-            update-all (λ j x. j < DESCRIPTORS → x .count ≤ MOST-BLOCKS) (a .descriptors .anchor) d (full (perRegion c))
-            (λ l. omega arith) (λ j n. C .descriptors .chainCounts j);
-        regionNumbers = update-all (λ j x. j < DESCRIPTORS → x < regions) (a .descriptors .region) d r (λ l. lr)
-            (λ j n. C .descriptors .regionNumbers j);
-        classNumbers = update-all (λ j x. j < DESCRIPTORS → x < CLASSES) (a .descriptors .class) d c (λ l. low)
-            (λ j n. C .descriptors .classNumbers j);
-      };
-      entries = map-related (C .entries) r e (suc d) i;
-      length = C .length;
-    })
+    (core-entries
+    (core-descriptors C {slots = a .slot} {tasks = m .task} (record {
+      each = descriptors C;
+      avails =
+          update-all (λ j x. j < DESCRIPTORS → x .avail ≤ MOST-BLOCKS) (a .descriptors .anchor) d (full (perRegion c))
+          (λ l. perRegion-high c) (λ j n. C .descriptors .avails j);
+      chainCounts =
+          update-all (λ j x. j < DESCRIPTORS → x .count ≤ MOST-BLOCKS) (a .descriptors .anchor) d (full (perRegion c))
+          (λ l. omega arith) (λ j n. C .descriptors .chainCounts j);
+      regionNumbers = update-all (λ j x. j < DESCRIPTORS → x < regions) (a .descriptors .region) d r (λ l. lr)
+          (λ j n. C .descriptors .regionNumbers j);
+      classNumbers = update-all (λ j x. j < DESCRIPTORS → x < CLASSES) (a .descriptors .class) d c (λ l. low)
+          (λ j n. C .descriptors .classNumbers j);
+    }))
+    (map-related (C .entries) r e (suc d) i))
     own
     (λ j l n. record {
       lists = lists-kept;

@@ -1,8 +1,9 @@
 -- The relation of one part of the memories after a change in that part: of the lists, the descriptors, the map and the
--- marks.
+-- marks; and of all but the tasks with one part related anew.
 use mathlib.Core.Path.{_≡_, refl, sym, subst, _∙_}
 use Prim.Native.Nat.{ℕ, suc, _≤_, _<_}
 use mathlib.Core.List.{List}
+use lib.ListN.{length}
 use Rattle.limits.specs.Limits.{UNITS, DESCRIPTORS, MOST-BLOCKS, SPARE-REGIONS, LISTS, DESCRIPTOR-LISTS}
 use Rattle.words.specs.declared.anchor.Anchor.{Anchor}
 use Rattle.words.specs.declared.head.Head.{Head}
@@ -11,13 +12,14 @@ use Rattle.rows.specs.Linked.{LinksAgree, Linked}
 use Rattle.rows.specs.Update.{update}
 use Rattle.rows.proofs.Linked.{linked-frame, linked-update}
 use Rattle.rows.proofs.Update.{update-all, update-all₂}
-use Rattle.plain.specs.State.{Descriptor, EMPTY, FULL, PARTIAL, State, stateNumber}
+use Rattle.links.specs.Link.{link}
+use Rattle.plain.specs.State.{Descriptor, EMPTY, FULL, Mem, PARTIAL, State, Task, stateNumber}
 use Rattle.plain.specs.States.{IfOpen, IsOpen}
-use Rattle.agreement.specs.Contents.{Lists, Descriptors, Entries}
-use Rattle.agreement.specs.Relation.{ChainRelated, DescriptorRelated, DescriptorsRelated, EntriesRelated}
+use Rattle.agreement.specs.Contents.{Slot, Lists, Descriptors, Entries, Contents}
+use Rattle.agreement.specs.Relation.{ChainRelated, Core, DescriptorRelated, DescriptorsRelated, EntriesRelated}
 use Rattle.agreement.specs.Relation.{ListsRelated, wrap}
 use Rattle.agreement.proofs.Sets.{withHeads, withDescriptorNexts, withRegionNexts, withAnchors, withMap}
-use Rattle.agreement.proofs.Sets.{withMarks}
+use Rattle.agreement.proofs.Sets.{withMarks, onLists, onDescriptors, onEntries, withSlots, withArea}
 
 -- ---- the lists
 module _ {regions : ℕ} {l : Lists} {won : ℕ → ℕ} {row : ℕ → List ℕ} (R : ListsRelated regions l won row) where
@@ -119,3 +121,36 @@ module _ {regions : ℕ} {E : Entries} {map hands : ℕ → ℕ} (R : EntriesRel
     maps = R .maps;
     marks = update-all₂ (λ j x y. j < UNITS → x ≡ y) (E .mark) hands u b b (λ l. refl) (λ j n. R .marks j);
   }
+
+-- ---- all but the tasks, with one part related anew, beside any parts of the tasks: a further part is named here alone
+
+-- the plain pool with other parts
+abbrev plainWith : (won : ℕ → ℕ) (row : ℕ → List ℕ) (P : ℕ → Descriptor) (map hands : ℕ → ℕ) (task : ℕ → Task) → Mem
+plainWith won row P map hands task =
+    record { row = row; won = won; descriptor = P; map = map; hands = hands; task = task }
+
+module _ {regions : ℕ} {a : Contents} {m : Mem} (C : Core regions a m) {slots : ℕ → Slot} {tasks : ℕ → Task} where
+  -- the lists
+  pub core-lists : {l : Lists} {won : ℕ → ℕ} {row : ℕ → List ℕ} → ListsRelated regions l won row
+      → Core regions (withSlots slots (onLists (λ x. l) a))
+      (plainWith won row (m .descriptor) (m .map) (m .hands) tasks)
+  core-lists L = record { lists = L; descriptors = C .descriptors; entries = C .entries; length = C .length }
+
+  -- the descriptors
+  pub core-descriptors : {D : Descriptors} {P : ℕ → Descriptor} → DescriptorsRelated regions (link (a .area)) D P
+      → Core regions (withSlots slots (onDescriptors (λ x. D) a))
+      (plainWith (m .won) (m .row) P (m .map) (m .hands) tasks)
+  core-descriptors R = record { lists = C .lists; descriptors = R; entries = C .entries; length = C .length }
+
+  -- the map and the marks
+  pub core-entries : {E : Entries} {map hands : ℕ → ℕ} → EntriesRelated regions E map hands
+      → Core regions (withSlots slots (onEntries (λ x. E) a))
+      (plainWith (m .won) (m .row) (m .descriptor) map hands tasks)
+  core-entries R = record { lists = C .lists; descriptors = C .descriptors; entries = R; length = C .length }
+
+  -- the links, in an area of the same length
+  pub core-links : {b : List ℕ} → DescriptorsRelated regions (link b) (a .descriptors) (m .descriptor)
+      → length b ≡ length (a .area)
+      → Core regions (withSlots slots (withArea b a))
+      (plainWith (m .won) (m .row) (m .descriptor) (m .map) (m .hands) tasks)
+  core-links R e = record { lists = C .lists; descriptors = R; entries = C .entries; length = e ∙ C .length }

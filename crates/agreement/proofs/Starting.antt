@@ -36,9 +36,9 @@ use Rattle.agreement.proofs.Views.{views-related}
 use Rattle.agreement.specs.Tied.{Tied}
 use Rattle.agreement.proofs.Simulation.{Alike, stays}
 
-module _ (tasks regions : ℕ) (few : tasks ≤ TASKS) (small : regions ≤ REGIONS) where
+module _ (b : Start) (regions : ℕ) (few : b .tasks ≤ TASKS) (small : regions ≤ REGIONS) where
   -- each write is to a field of the layout, and its value fits
-  start-sound : Sound layout (startWrites tasks regions)
+  start-sound : Sound layout (startWrites b regions)
   unfolding startWrites
   start-sound = (
     omega arith,
@@ -63,40 +63,40 @@ module _ (tasks regions : ℕ) (few : tasks ≤ TASKS) (small : regions ≤ REGI
   )
 
   -- what stands in the fields of the image
-  pub image-view : (g : Field) → Has layout g → seen (startImage tasks regions) g ≡ startView tasks regions g
+  pub image-view : (g : Field) → Has layout g → seen (startImage b regions) g ≡ startView b regions g
   unfolding startImage
   image-view g h =
-      seen-changed (startWrites tasks regions) (replicate CONTROL-BYTES 0) g (length-replicate {A = ℕ} CONTROL-BYTES 0)
+      seen-changed (startWrites b regions) (replicate CONTROL-BYTES 0) g (length-replicate {A = ℕ} CONTROL-BYTES 0)
       start-sound h
-      ∙ assigned-same (startWrites tasks regions) (seen (replicate CONTROL-BYTES 0)) zeroed g
+      ∙ assigned-same (startWrites b regions) (seen (replicate CONTROL-BYTES 0)) zeroed g
       (getLE-zeros CONTROL-BYTES (firstByte layout g) (width layout g))
-      ∙ start-view tasks regions g
+      ∙ start-view b regions g
 
   -- the image and any area of the length are related to the plain pool after a start
   started : (area : List ℕ) → length area ≡ REGION-BYTES * regions → 1 ≤ regions → (s : Pool)
-      → s ≡ record { tasks = tasks; regions = regions; mem = Plain.startMem regions } → Good s
-      → Tied (record { control = startImage tasks regions; area = area }) s
+      → s ≡ record { tasks = b .tasks; regions = regions; mem = Plain.startMem regions } → Good s
+      → Tied (record { control = startImage b regions; area = area }) s
   unfolding startImage
   started area e some s i g =
-      let G : Good (record { tasks = tasks; regions = regions; mem = Plain.startMem regions }) = subst Good i g in
-      subst (λ (z : Pool). Tied (record { control = startImage tasks regions; area = area }) z) (sym i)
+      let G : Good (record { tasks = b .tasks; regions = regions; mem = Plain.startMem regions }) = subst Good i g in
+      subst (λ (z : Pool). Tied (record { control = startImage b regions; area = area }) z) (sym i)
       (record {
         length =
-            length-written layout (startWrites tasks regions) (replicate CONTROL-BYTES 0)
+            length-written layout (startWrites b regions) (replicate CONTROL-BYTES 0)
             ∙ length-replicate {A = ℕ} CONTROL-BYTES 0;
         bytes =
-            bytes-written layout (startWrites tasks regions) (replicate CONTROL-BYTES 0)
+            bytes-written layout (startWrites b regions) (replicate CONTROL-BYTES 0)
             (λ k. rw (zeros CONTROL-BYTES k) (omega arith));
-        tasks = image-view Tasks (omega arith) ∙ at-tasks tasks regions;
+        tasks = image-view Tasks (omega arith) ∙ at-tasks b regions;
         good = G;
         some = λ k. some;
-        regions = λ k. image-view Regions (omega arith) ∙ at-regions tasks regions;
-        related = λ k. views-related image-view area small (G .inv k) (start-related tasks regions some area e small);
+        regions = λ k. image-view Regions (omega arith) ∙ at-regions b regions;
+        related = λ k. views-related image-view area small (G .inv k) (start-related b regions some area e small);
       })
 
 -- a pool that has just been started
-abbrev new : ℕ → ℕ → Pool
-new tasks regions = record { tasks = tasks; regions = regions; mem = Plain.startMem regions }
+abbrev new : Start → ℕ → Pool
+new b regions = record { tasks = b .tasks; regions = regions; mem = Plain.startMem regions }
 
 module _ {s₁ : Memories} {s : Pool} (S : Tied s₁ s) (b : Start) (lent : Lent) where
   abbrev tasks : ℕ
@@ -108,26 +108,26 @@ module _ {s₁ : Memories} {s : Pool} (S : Tied s₁ s) (b : Start) (lent : Lent
   -- ---- tests 3, 2 and 1
 
   test-three : Plain.StartArea bytes → (d : Dec (Plain.StartTasks tasks))
-      → (Plain.StartTasks tasks → Good (new tasks (bytes / REGION-BYTES)))
+      → (Plain.StartTasks tasks → Good (new b (bytes / REGION-BYTES)))
       → Alike (λ z. Unit {0})
       (ran (cond (oneTo TASKS tasks)
       (record {
         answer = Accepted;
         decided = nothing;
-        control = startImage tasks (bytes / REGION-BYTES);
+        control = startImage b (bytes / REGION-BYTES);
         area = lent .area;
       })
       (effect (refuse 3) s₁)))
-      (if d (new tasks (bytes / REGION-BYTES), going nothing) (Plain.refuse 3 s))
+      (if d (new b (bytes / REGION-BYTES), going nothing) (Plain.refuse 3 s))
   test-three a (yes t) g =
       rw (le-leb 1 tasks (t .0), le-leb tasks TASKS (t .1))
       (record {
         says = refl;
         shows = tt;
         tied =
-            started tasks (bytes / REGION-BYTES) (t .1) (omega (arith, a)) (lent .area) (omega (arith, a))
+            started b (bytes / REGION-BYTES) (t .1) (omega (arith, a)) (lent .area) (omega (arith, a))
             (omega (arith, a))
-            (new tasks (bytes / REGION-BYTES)) refl (g t);
+            (new b (bytes / REGION-BYTES)) refl (g t);
       })
   test-three a (no t) g = elim (decLe 1 tasks) [
     | yes l ↦ rw (le-leb 1 tasks l, lt-leb tasks TASKS (let k : ¬ (tasks ≤ TASKS) = λ k. t (l, k) in omega arith))
@@ -136,9 +136,9 @@ module _ {s₁ : Memories} {s : Pool} (S : Tied s₁ s) (b : Start) (lent : Lent
   ]
 
   test-two : (d : Dec (Plain.StartArea bytes))
-      → (Plain.StartArea bytes → Plain.StartTasks tasks → Good (new tasks (bytes / REGION-BYTES)))
+      → (Plain.StartArea bytes → Plain.StartTasks tasks → Good (new b (bytes / REGION-BYTES)))
       → Alike (λ z. Unit {0}) (ran (Stepped.startIn b (record { control = CONTROL-BYTES; area = lent .area }) s₁))
-      (if d (if (Plain.startTasks? tasks) (new tasks (bytes / REGION-BYTES), going nothing) (Plain.refuse 3 s))
+      (if d (if (Plain.startTasks? tasks) (new b (bytes / REGION-BYTES), going nothing) (Plain.refuse 3 s))
       (Plain.refuse 2 s))
   unfolding Stepped.startIn
   test-two (yes a) g =
@@ -158,11 +158,11 @@ module _ {s₁ : Memories} {s : Pool} (S : Tied s₁ s) (b : Start) (lent : Lent
   ]
 
   pub start-alike : (d : Dec (lent .control ≡ CONTROL-BYTES))
-      → (Plain.StartArea bytes → Plain.StartTasks tasks → Good (new tasks (bytes / REGION-BYTES)))
+      → (Plain.StartArea bytes → Plain.StartTasks tasks → Good (new b (bytes / REGION-BYTES)))
       → Alike (λ z. Unit {0}) (ran (Stepped.startIn b lent s₁))
       (if d
       (if (Plain.startArea? bytes)
-      (if (Plain.startTasks? tasks) (new tasks (bytes / REGION-BYTES), going nothing) (Plain.refuse 3 s))
+      (if (Plain.startTasks? tasks) (new b (bytes / REGION-BYTES), going nothing) (Plain.refuse 3 s))
       (Plain.refuse 2 s))
       (Plain.refuse 1 s))
   unfolding Stepped.startIn
@@ -186,18 +186,18 @@ accepted-start s₁ s b area a t =
       le-leb tasks TASKS (t .1),
       if-yes (ℕ-discrete CONTROL-BYTES CONTROL-BYTES)
           (if (Plain.startArea? (length area))
-          (if (Plain.startTasks? tasks) (new tasks regions, going nothing) (Plain.refuse 3 s))
+          (if (Plain.startTasks? tasks) (new b regions, going nothing) (Plain.refuse 3 s))
           (Plain.refuse 2 s)) (Plain.refuse 1 s) refl,
-      if-yes (Plain.startArea? (length area)) (if (Plain.startTasks? tasks) (new tasks regions, going nothing)
+      if-yes (Plain.startArea? (length area)) (if (Plain.startTasks? tasks) (new b regions, going nothing)
           (Plain.refuse 3 s))
           (Plain.refuse 2 s) a,
-      if-yes (Plain.startTasks? tasks) (new tasks regions, going nothing) (Plain.refuse 3 s) t,
+      if-yes (Plain.startTasks? tasks) (new b regions, going nothing) (Plain.refuse 3 s) t,
     )
     (record {
       says = refl;
       shows = tt;
       tied =
-          started tasks regions (t .1) (omega (arith, a)) area (omega (arith, a)) (omega (arith, a)) (new tasks regions)
+          started b regions (t .1) (omega (arith, a)) area (omega (arith, a)) (omega (arith, a)) (new b regions)
           refl
           (record { few = t .1; small = λ k. omega (arith, a); inv = λ k. start-inv regions });
     })

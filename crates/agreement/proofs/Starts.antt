@@ -18,7 +18,7 @@ use Rattle.fields.specs.Columns.{Column, Field, View, _:=_, assigned}
 use Rattle.words.specs.Head.{itemOf, tagOf}
 use Rattle.words.specs.Mark.{bitAt}
 use Rattle.plain.specs.Steps.{top}
-use Rattle.plain.specs.Calls.{rising, startMem}
+use Rattle.plain.specs.Calls.{rising, startMem, Start}
 use Rattle.control.specs.Layout.{CACHES, fieldOf, Head, Tasks, Regions, DescriptorNext, RegionNext, TopOfCache}
 use Rattle.control.specs.Layout.{TaskState}
 use Rattle.control.specs.Layout
@@ -31,11 +31,12 @@ use Rattle.agreement.proofs.Images.{assigned-append, filled, other-fill
 abbrev pub zeroed : View
 zeroed g = 0
 
-module _ (tasks regions : ℕ) where
+module _ (b : Start) (regions : ℕ) where
   -- the fields after a start, in the order of the writes
   abbrev first : View
   first =
-      assigned (Tasks := tasks ∷ Regions := regions ∷ Head SPARE-DESCRIPTORS := 1 ∷ Head SPARE-REGIONS := 1 ∷ []) zeroed
+      assigned (Tasks := b .tasks ∷ Regions := regions ∷ Head SPARE-DESCRIPTORS := 1 ∷ Head SPARE-REGIONS := 1 ∷ [])
+      zeroed
 
   abbrev second : View
   second = assigned (fill DescriptorNext (nextUp DESCRIPTORS) DESCRIPTORS) first
@@ -47,7 +48,7 @@ module _ (tasks regions : ℕ) where
   startView = assigned (fill TopOfCache (λ i. UNITS) CACHES) third
 
   -- these are all its writes
-  pub start-view : (g : Field) → assigned (startWrites tasks regions) zeroed g ≡ startView g
+  pub start-view : (g : Field) → assigned (startWrites b regions) zeroed g ≡ startView g
   unfolding startWrites
   start-view g =
       assigned-append (fill DescriptorNext (nextUp DESCRIPTORS) DESCRIPTORS)
@@ -65,7 +66,7 @@ module _ (tasks regions : ℕ) where
 
   -- ---- the columns
 
-  pub at-tasks : startView Tasks ≡ tasks
+  pub at-tasks : startView Tasks ≡ b .tasks
   at-tasks = unfilled Layout.startedTasks 0 refl refl refl
 
   pub at-regions : startView Regions ≡ regions
@@ -114,23 +115,23 @@ unfolding rising
 top-rising zero h = absurd (omega arith)
 top-rising (suc n) h = refl
 
-module _ (tasks regions : ℕ) (few : 1 ≤ regions) where
+module _ (b : Start) (regions : ℕ) (few : 1 ≤ regions) where
   abbrev v : View
-  v = startView tasks regions
+  v = startView b regions
 
   row : (ℓ : ℕ) → ℓ < DESCRIPTOR-LISTS → (d : Dec (ℓ ≡ SPARE-DESCRIPTORS)) (e : Dec (ℓ ≡ SPARE-REGIONS))
       → Linked (λ (x : ℕ). v (DescriptorNext x)) suc 0 (itemOf (v (Head ℓ)))
       (if d (rising DESCRIPTORS 0) (if e (rising regions 0) []))
   row ℓ l (yes d) e =
       let one : v (Head ℓ) ≡ 1 =
-      at-head tasks regions ℓ ∙ rw (ne-eqb SPARE-REGIONS ℓ (omega arith), eq-eqb SPARE-DESCRIPTORS ℓ (sym d)) in
-      rises (λ (x : ℕ). v (DescriptorNext x)) DESCRIPTORS DESCRIPTORS 0 (at-next tasks regions) refl
+      at-head b regions ℓ ∙ rw (ne-eqb SPARE-REGIONS ℓ (omega arith), eq-eqb SPARE-DESCRIPTORS ℓ (sym d)) in
+      rises (λ (x : ℕ). v (DescriptorNext x)) DESCRIPTORS DESCRIPTORS 0 (at-next b regions) refl
       (itemOf (v (Head ℓ)))
       (ap itemOf one ∙ top-rising DESCRIPTORS (omega arith))
   row ℓ l (no d) (yes e) = absurd (omega arith)
   row ℓ l (no d) (no e) =
       let none : v (Head ℓ) ≡ 0 =
-      at-head tasks regions ℓ ∙ rw
+      at-head b regions ℓ ∙ rw
       (ne-eqb SPARE-REGIONS ℓ (omega arith), ne-eqb SPARE-DESCRIPTORS ℓ (λ i. d (sym i))) in
       ends (ap itemOf none)
 
@@ -140,12 +141,12 @@ module _ (tasks regions : ℕ) (few : 1 ≤ regions) where
   spare (yes d) e = absurd (omega arith)
   spare (no d) (no e) = absurd (e refl)
   spare (no d) (yes e) =
-      rises (λ (x : ℕ). v (RegionNext x)) regions regions 0 (at-region-next tasks regions) (omega arith)
+      rises (λ (x : ℕ). v (RegionNext x)) regions regions 0 (at-region-next b regions) (omega arith)
       (itemOf (v (Head SPARE-REGIONS)))
-      (ap itemOf (at-head tasks regions SPARE-REGIONS) ∙ top-rising regions few)
+      (ap itemOf (at-head b regions SPARE-REGIONS) ∙ top-rising regions few)
 
-  tags : (ℓ : ℕ) (b c : Bool) → tagOf (cond b 1 (cond c 1 0)) ≡ 0
-  tags ℓ true c = refl
+  tags : (ℓ : ℕ) (p q : Bool) → tagOf (cond p 1 (cond q 1 0)) ≡ 0
+  tags ℓ true q = refl
   tags ℓ false true = refl
   tags ℓ false false = refl
 
@@ -157,42 +158,42 @@ module _ (tasks regions : ℕ) (few : 1 ≤ regions) where
   start-related area e h = record {
     core = record {
       lists = record {
-        tags = λ ℓ l. ap tagOf (at-head tasks regions ℓ) ∙ tags ℓ (eqb SPARE-REGIONS ℓ) (eqb SPARE-DESCRIPTORS ℓ);
+        tags = λ ℓ l. ap tagOf (at-head b regions ℓ) ∙ tags ℓ (eqb SPARE-REGIONS ℓ) (eqb SPARE-DESCRIPTORS ℓ);
         rows = λ ℓ l. row ℓ l (ℕ-discrete ℓ SPARE-DESCRIPTORS) (ℕ-discrete ℓ SPARE-REGIONS);
         spareRow = spare (ℕ-discrete SPARE-REGIONS SPARE-DESCRIPTORS) (ℕ-discrete SPARE-REGIONS SPARE-REGIONS);
-        descriptorNexts = λ d l. rw (at-next tasks regions d l) (next-max DESCRIPTORS d l);
-        regionNexts = λ r l. rw (at-region-next tasks regions r l) (next-max regions r l);
+        descriptorNexts = λ d l. rw (at-next b regions d l) (next-max DESCRIPTORS d l);
+        regionNexts = λ r l. rw (at-region-next b regions r l) (next-max regions r l);
       };
       descriptors = record {
         each = λ d l. record {
-          state = ap (λ (x : ℕ). x % 4) (unfilled tasks regions Layout.anchors d refl refl refl);
-          region = unfilled tasks regions Layout.descriptorRegions d refl refl refl;
-          class = unfilled tasks regions Layout.descriptorClasses d refl refl refl;
+          state = ap (λ (x : ℕ). x % 4) (unfilled b regions Layout.anchors d refl refl refl);
+          region = unfilled b regions Layout.descriptorRegions d refl refl refl;
+          class = unfilled b regions Layout.descriptorClasses d refl refl refl;
           chain = tt;
         };
-        avails = λ d l. rw (unfilled tasks regions Layout.anchors d refl refl refl) (omega arith);
-        chainCounts = λ d l. rw (unfilled tasks regions Layout.anchors d refl refl refl) (omega arith);
-        regionNumbers = λ d l. rw (unfilled tasks regions Layout.descriptorRegions d refl refl refl) few;
-        classNumbers = λ d l. rw (unfilled tasks regions Layout.descriptorClasses d refl refl refl) (omega arith);
+        avails = λ d l. rw (unfilled b regions Layout.anchors d refl refl refl) (omega arith);
+        chainCounts = λ d l. rw (unfilled b regions Layout.anchors d refl refl refl) (omega arith);
+        regionNumbers = λ d l. rw (unfilled b regions Layout.descriptorRegions d refl refl refl) few;
+        classNumbers = λ d l. rw (unfilled b regions Layout.descriptorClasses d refl refl refl) (omega arith);
       };
       entries = record {
-        maps = λ r l. unfilled tasks regions Layout.mapEntries r refl refl refl;
+        maps = λ r l. unfilled b regions Layout.mapEntries r refl refl refl;
         marks =
             λ u l. ap (λ (x : ℕ). bitAt x (u % WORD-MARKS))
-            (unfilled tasks regions Layout.unitMarks (u / WORD-MARKS) refl refl refl)
+            (unfilled b regions Layout.unitMarks (u / WORD-MARKS) refl refl refl)
             ∙ no-bit (u % WORD-MARKS);
       };
       length = e;
     };
     slots = λ t l. record {
-      fits = rw (unfilled tasks regions Layout.taskClasses t refl refl refl) (omega arith);
-      place = r-idle (unfilled tasks regions Layout.taskPlaces t refl refl refl);
+      fits = rw (unfilled b regions Layout.taskClasses t refl refl refl) (omega arith);
+      place = r-idle (unfilled b regions Layout.taskPlaces t refl refl refl);
       caches = record {
         tops =
             λ c i. ends
-            (if-yes (decLt c CLASSES) _ _ i ∙ at-top tasks regions (Layout.CacheTop t c .index) (omega arith));
+            (if-yes (decLt c CLASSES) _ _ i ∙ at-top b regions (Layout.CacheTop t c .index) (omega arith));
         counts =
-            λ c i. if-yes (decLt c CLASSES) _ _ i ∙ unfilled tasks regions Layout.cacheCounts
+            λ c i. if-yes (decLt c CLASSES) _ _ i ∙ unfilled b regions Layout.cacheCounts
             (Layout.CacheCount t c .index) refl refl refl;
       };
     };

@@ -16,7 +16,7 @@ use Rattle.control.specs.Layout.{Anchor, TaskAnchor, CacheTop, CacheCount, Task
 use Rattle.control.specs.Layout.{GroupLast, GroupCount}
 use Rattle.control.specs.Layout.{TaskPlace, TaskClass, TaskDescriptor, TaskRegion, TaskState, DescriptorRegion, Map}
 use Rattle.control.specs.Layout.{Regions}
-use Rattle.control.specs.Places.{A1, A3-READ, A3-EXCHANGE, A4, A8, F2, F3-READ, F3-LINK, F3-EXCHANGE, F4-CLEAR}
+use Rattle.control.specs.Places.{A1, A3-READ, A3-EXCHANGE, A4, A8, F2, F3-READ, F3-LINK, F3-EXCHANGE, F4-CLEAR, IDLE}
 use Rattle.control.specs.declared.moves.Pop.the-variants.{Partial, Spare, Region}
 use Rattle.control.specs.declared.moves.Push.the-variants.{Retire, Back, Release, Offer}
 use Rattle.stepped.specs.Outcome.{Outcome, bad}
@@ -161,7 +161,7 @@ module _ (v : View) (link : ℕ → ℕ) (t : ℕ) (fits : v (TaskClass t) < CLA
   -- ---- the step list
 
   -- idle is not the place of a task that has a request in hand
-  not-idle : {o : Outcome} → 1 ≤ v (TaskPlace t) → v (TaskPlace t) ≡ 0 → End o
+  not-idle : {o : Outcome} → IDLE < v (TaskPlace t) → v (TaskPlace t) ≡ IDLE → End o
   not-idle busy e = absurd (omega arith)
 
   -- a list of steps from the place k on
@@ -171,7 +171,7 @@ module _ (v : View) (link : ℕ → ℕ) (t : ℕ) (fits : v (TaskClass t) < CLA
         → EachEnds k (o ∷ os)
 
   infixr 5 _then_
-  all : 1 ≤ v (TaskPlace t) → EachEnds 0 (Steps.stepList v link regions t c)
+  all : IDLE < v (TaskPlace t) → EachEnds IDLE (Steps.stepList v link regions t c)
   all busy =
       not-idle busy
       then (λ e. a1)
@@ -216,6 +216,6 @@ module _ (v : View) (link : ℕ → ℕ) (t : ℕ) (fits : v (TaskClass t) < CLA
   at-place (_then_ h hs) (suc n) e = at-place hs n (omega arith)
 
   -- a task that is not idle: its step is refused by 14 alone
-  pub step-at : 1 ≤ v (TaskPlace t) → PlaceEnding v t (Steps.stepAt v link regions t c (v (TaskPlace t)))
+  pub step-at : IDLE < v (TaskPlace t) → PlaceEnding v t (Steps.stepAt v link regions t c (v (TaskPlace t)))
   unfolding Steps.stepAt
   step-at busy = at-place (all busy) (v (TaskPlace t)) (omega arith)

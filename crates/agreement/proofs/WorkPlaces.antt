@@ -3,7 +3,7 @@ use Prim.Native.Nat.{ℕ, _+_, _≤_, _<_}
 use native.Mathlib.Omega.{arith}
 use Rattle.plain.specs.State.{Phase, Work, Mem}
 use Rattle.control.specs.Places.{PLACES}
-use Rattle.control.specs.Places.{TO-EXCHANGE}
+use Rattle.control.specs.Places.{TO-EXCHANGE, IDLE}
 use Rattle.agreement.specs.Contents.{Contents, Slot}
 use Rattle.agreement.specs.Relation.{PopRelated, PushRelated, WorkRelated, r-a1, r-partial, r-spare, r-region}
 use Rattle.agreement.specs.Relation.{r-retire, r-back, r-release, r-offer, r-a3-read, r-a3-exchange, r-a4, r-a7}
@@ -24,7 +24,7 @@ push-span (PushRelated.at-exchange e N i j) = omega arith
 
 -- every place of a task at work
 pub work-place : {regions : ℕ} {a : Contents} {m : Mem} {s : Slot} {w : Work} → WorkRelated regions a m s w
-    → (1 ≤ s .place) × (s .place < PLACES)
+    → (IDLE < s .place) × (s .place < PLACES)
 work-place (r-a1 e) = omega arith
 work-place (r-partial h) = omega (arith, pop-span h)
 work-place (r-spare h) = omega (arith, pop-span h)

@@ -11,7 +11,7 @@ use Rattle.rows.specs.Counting.{count}
 use Rattle.rows.specs.Totals.{total}
 use Rattle.rows.proofs.Totals.{total-one}
 use Rattle.fields.specs.Columns.{View}
-use Rattle.links.specs.Link.{link, withLink, LinkWrite, _⇒_, linked}
+use Rattle.links.specs.Link.{link, withLink, LinkWrite, _⇒_, linked, LINK-BYTES}
 use Rattle.links.proofs.Links.{link-byte, byte-other}
 use Rattle.classes.specs.Classes.{block}
 use Rattle.classes.specs.Geometry.{regionOf, Block}
@@ -26,14 +26,14 @@ use Rattle.plain.proofs.Homes.{inside-open}
 use Rattle.agreement.specs.Contents.{contentsOf}
 use Rattle.agreement.specs.Relation.{Related}
 use Rattle.agreement.proofs.Frames.{kept-slot, lists-kept}
-use Rattle.agreement.proofs.Parts.{links-related}
+use Rattle.agreement.proofs.Parts.{links-related, core-links}
 use Rattle.agreement.proofs.Couple.{Valid, valid, same-class}
 use Rattle.agreement.proofs.Both.{Apart}
 
 -- two different blocks of open regions: a byte of one is none of the other's link
 away : {r c u r′ c′ v : ℕ} → Block r c u → Block r′ c′ v → (r ≡ r′ → c ≡ c′) → v ≢ u → (at : ℕ) → UNIT-BYTES * u ≤ at
     → at < UNIT-BYTES * u + block c
-    → UNIT-BYTES * v ≤ at → UNIT-BYTES * v + 4 ≤ at
+    → UNIT-BYTES * v ≤ at → UNIT-BYTES * v + LINK-BYTES ≤ at
 away {r} {c} {u} {r′} {c′} {v} b d same n at p q l = elim (ℕ-discrete r r′) [
   | yes e ↦ (let f : Block r c v = rw (same e, e) d in elim (decLt u v) [
     | yes k ↦ absurd (omega (arith, apart b f k))
@@ -68,7 +68,7 @@ module _ {regions : ℕ} {m : Mem} (I : Invariant regions m) (u at : ℕ) (held 
 
   -- the link of another block of an open region does not lie there
   pub far : (v : ℕ) → 1 ≤ total DESCRIPTORS (insideWeight v) (m .descriptor) → v ≢ u → UNIT-BYTES * v ≤ at
-      → UNIT-BYTES * v + 4 ≤ at
+      → UNIT-BYTES * v + LINK-BYTES ≤ at
   far v h n = let y = valid m v h in away (here .block) (y .block) (same-class I here y) n at from class-here
 
   -- a block that a task or a chain has is not the one in hands
@@ -96,17 +96,14 @@ module _ {regions : ℕ} {m : Mem} (I : Invariant regions m) (u at : ℕ) (held 
   write-related v area b R =
       let C = R .core in
       record {
-        core = record {
-          lists = C .lists;
-          descriptors = links-related (C .descriptors) (link (set area at b)) (λ d l g x h. link-kept area b x (omega (
-            arith,
-            total-one DESCRIPTORS (chainWeight x) (m .descriptor) d l,
-            g
-                (count x (m .descriptor d .chain)),
-          )));
-          entries = C .entries;
-          length = length-set area at b ∙ C .length;
-        };
+        core =
+            core-links C
+            (links-related (C .descriptors) (link (set area at b)) (λ d l g x h. link-kept area b x (omega (
+              arith,
+              total-one DESCRIPTORS (chainWeight x) (m .descriptor) d l,
+              g (count x (m .descriptor d .chain)),
+            ))))
+            (length-set area at b);
         slots = λ t l. kept-slot {a = contentsOf v area} {m = m} (record {
           lists = lists-kept;
           links = λ x h. link-kept area b x (omega (arith, total-one TASKS (blockWeight x) (m .task) t l));

@@ -122,7 +122,7 @@ module _ (lent left : Memories) (r : ℕ) where
       let e : r ≡ numberOf a = step-refused-first t C ∙ none-failed ts (numberOf a) P in
       let R = refused a (subst Refusal e h) in
       let class = ltb-true (v (TaskClass t)) CLASSES (Q .1 .0) in
-      let busy = ltb-true 0 (v (TaskPlace t)) (Q .0) in
+      let busy = ltb-true IDLE (v (TaskPlace t)) (Q .0) in
       let G = place-goes long v (link (lent .area)) t class busy in
       e ∙ ap numberOf (R .1) ∙ only 14 (R .0) (subst (Goes placeRefusals) (R .1) G)
 

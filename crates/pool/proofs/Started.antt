@@ -72,7 +72,7 @@ module _ (c a : List ℕ) (tasks : ℕ) where
               )
               (record { number = refl; control-is = refl; area-is = refl })
 
-          pub started : 1 ≤ tasks → tasks ≤ TASKS → {c′ : List ℕ} → c′ ≡ startImage tasks (length a / REGION-BYTES)
+          pub started : 1 ≤ tasks → tasks ≤ TASKS → {c′ : List ℕ} → c′ ≡ startImage b (length a / REGION-BYTES)
               → Ensures (start b) c a c′ a 0
           unfolding startIn
           started s h i =

@@ -9,6 +9,10 @@ use Rattle.schedule.specs.declared.record.Entry.{Entry}
 use Rattle.schedule.specs.declared.record.Record.{Record}
 use Rattle.schedule.specs.declared.record.Record.the-variants.{Start, Allocate, Free, Step, Run, Bad}
 
+-- the longest schedule: the stand reads no byte past these
+abbrev pub INPUT-BYTES : ℕ
+INPUT-BYTES = 65536
+
 -- "2 allocate (task, size in two bytes, low first); 3 free (task, unit in two bytes, low first); .. 5 run (task, most
 -- steps in two bytes, low first)"
 unfoldable pub wideOf : ℕ → ℕ → ℕ → Record

@@ -1,9 +1,10 @@
 -- The stand over any pool: what each record does, and the table of a schedule.
-use Prim.Native.Nat.{ℕ, zero, suc, _+_, _/_, _%_}
+use Prim.Native.Nat.{ℕ, zero, suc, _+_, _*_, _/_, _%_}
 use mathlib.Core.Bool.{cond}
 use mathlib.Core.List.{List, [], _∷_}
 use lib.Dec.{eqb, ltb}
 use lib.ListN.{length}
+use Rattle.limits.specs.Limits.{REGION-BYTES}
 use Rattle.plain.specs.Calls.{Call, start, allocate, free, step}
 use Rattle.schedule.specs.declared.record.Entry.{Entry}
 use Rattle.schedule.specs.declared.record.Record.{Record}
@@ -19,7 +20,7 @@ STAND-REGIONS = 4
 
 -- its bytes
 abbrev pub STAND-AREA : ℕ
-STAND-AREA = 16384
+STAND-AREA = REGION-BYTES * STAND-REGIONS
 
 -- what the stand lends to a call: so many regions, which a start's record names, or what the last accepted start was
 -- lent

@@ -12,7 +12,7 @@ ghost use Rattle.schedule.specs.Bytes.{lentRegions, onBytes, Does, Stand
 // "The stand keeps an area of 16,384 bytes": four regions.
 const STAND_REGIONS: usize = 4;
 
-const STAND_AREA: usize = STAND_REGIONS * limits::REGION_BYTES;
+pub const STAND_AREA: usize = STAND_REGIONS * limits::REGION_BYTES;
 
 // How many bytes of the area the pool was started with. Callers: the calls that are no start.
 fn lent(control: &[u8]) -> usize

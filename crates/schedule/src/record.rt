@@ -3,7 +3,7 @@ ghost use mathlib.Core.Path.{_≡_};
 ghost use Prim.Native.Nat.{_+_, _≤_, _<_};
 ghost use lib.ListN.{length, getD};
 ghost use Rattle.fields.specs.Little.{getLE};
-ghost use Rattle.schedule.specs.Records.{wideOf, recordAt, entryAt, endOf};
+ghost use Rattle.schedule.specs.Records.{INPUT-BYTES, wideOf, recordAt, entryAt, endOf};
 
 pub enum Record {
     // Tasks and regions.
@@ -29,7 +29,7 @@ pub struct Entry {
 
 // A record whose body is a task and a number in two bytes. Caller: `read`, which has tested that the input has them.
 fn wide(input: &[u8], at: usize, kind: u8) -> Record
-    requires { ⌜ (at + 4 ≤ length (now input)) × (length (now input) ≤ 65536) ⌝ }
+    requires { ⌜ (at + 4 ≤ length (now input)) × (length (now input) ≤ INPUT-BYTES) ⌝ }
     ensures { λ r. ⌜ r ≡ wideOf kind (getD (now (input .entry)) (at + 1) 0) (getLE (now (input .entry)) (at + 2) 2) ⌝ }
 {
     let task = input[at + 1];
@@ -45,7 +45,7 @@ fn wide(input: &[u8], at: usize, kind: u8) -> Record
 
 // The record that begins at a byte of the input.
 pub fn read(input: &[u8], at: usize) -> Record
-    requires { ⌜ (at < length (now input)) × (length (now input) ≤ 65536) ⌝ }
+    requires { ⌜ (at < length (now input)) × (length (now input) ≤ INPUT-BYTES) ⌝ }
     ensures { λ r. ⌜ r ≡ recordAt (now (input .entry)) at ⌝ }
 {
     let kind = input[at];
@@ -76,7 +76,7 @@ pub fn read(input: &[u8], at: usize) -> Record
 
 // The record that begins at a byte of the input, and is the one of this number.
 pub fn numbered(input: &[u8], at: usize, number: u64) -> Entry
-    requires { ⌜ (at < length (now input)) × (length (now input) ≤ 65536) ⌝ }
+    requires { ⌜ (at < length (now input)) × (length (now input) ≤ INPUT-BYTES) ⌝ }
     ensures { λ r. ⌜ r ≡ entryAt (now (input .entry)) at number ⌝ }
 {
     let body = read(input, at);
@@ -89,7 +89,7 @@ pub fn numbered(input: &[u8], at: usize, number: u64) -> Entry
 
 // Where the next record begins; a bad one ends the schedule, whose length is `end`.
 pub fn end(body: Record, at: usize, end: usize) -> usize
-    requires { ⌜ at ≤ 65536 ⌝ }
+    requires { ⌜ at ≤ INPUT-BYTES ⌝ }
     ensures { λ r. ⌜ r ≡ endOf body at end ⌝ }
 {
     match body {

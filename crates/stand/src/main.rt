@@ -2,26 +2,28 @@
 // calls and writes; it reads no more than the 65,536 bytes of its buffer.
 use libc::STDIN_FILENO;
 use libc::STDOUT_FILENO;
+use schedule::lend;
 ghost use mathlib.Core.Path.{_≡_};
 ghost use Prim.Native.Nat.{_≤_};
 ghost use lib.ListN.{length};
+ghost use Rattle.schedule.specs.Records.{INPUT-BYTES};
 ghost use Rattle.text.specs.Numbers.{Appended};
-ghost use Rattle.table.specs.Output.{plainOutput};
+ghost use Rattle.table.specs.Output.{TABLE-BYTES, plainOutput};
 
 // Zeros for the table of the longest input.
-fn room() -> [u8; 2293888]
-    ensures { λ r. ⌜ 2293888 ≡ length r ⌝ }
+fn room() -> [u8; table::TABLE_BYTES]
+    ensures { λ r. ⌜ TABLE-BYTES ≡ length r ⌝ }
 {
-    [0; 2293888]
+    [0; table::TABLE_BYTES]
 }
 
 // Plays the schedule on two memories that are zero at first, and puts its table at the start of `out`.
 fn play(input: &[u8], out: &mut [u8]) -> usize
-    requires { ⌜ (length (now input) ≤ 65536) × (2293888 ≤ length (now out)) ⌝ }
+    requires { ⌜ (length (now input) ≤ INPUT-BYTES) × (TABLE-BYTES ≤ length (now out)) ⌝ }
     ensures { λ r. ⌜ Appended (now (out .entry)) (now (out .exit)) 0 (plainOutput (now (input .entry))) r ⌝ }
 {
-    let mut control = [0u8; 8192];
-    let mut area = [0u8; 16384];
+    let mut control = [0u8; limits::CONTROL_BYTES];
+    let mut area = [0u8; lend::STAND_AREA];
     table::write(&mut control, &mut area, input, out)
 }
 

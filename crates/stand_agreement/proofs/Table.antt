@@ -21,7 +21,7 @@ use Rattle.schedule.specs.declared.record.Record.{Record}
 use Rattle.schedule.specs.declared.record.Record.the-variants.{Start, Allocate, Free, Step, Run, Bad}
 use Rattle.schedule.specs.declared.tally.Tally.{Tally}
 use Rattle.schedule.specs.declared.treat.Line.{Line}
-use Rattle.schedule.specs.Records.{wideOf, recordAt, entryAt, endOf}
+use Rattle.schedule.specs.Records.{INPUT-BYTES, wideOf, recordAt, entryAt, endOf}
 use Rattle.schedule.specs.Tally.{noneCounted, counted}
 use Rattle.schedule.specs.Stand.{STAND-AREA}
 use Rattle.schedule.specs.Stand.{as-started, lineOf, runs, treated, table}
@@ -125,7 +125,7 @@ same-treated Bad m B l = record { number = refl; beside = later (omega arith) B 
 
 -- ---- the table
 
-module _ (input : List ℕ) (bytes : Bytes input) (long : length input ≤ 65536) where
+module _ (input : List ℕ) (bytes : Bytes input) (long : length input ≤ INPUT-BYTES) where
   same-table : (f at n k : ℕ) (y : Tally) (s : Memories) (p : Pool) → at ≤ length input → k ≤ 65535 * at → Beside k s p
       → table onBytes f input at n y s ≡ table onPlain f input at n y p
   unfolding table
@@ -171,7 +171,7 @@ zeros-beside = record {
 -- On every input of at most 65,536 bytes the stand's lines and totals are those of the plain pool fed the same records.
 -- There is no premise: no user writes, the control memory is zero at first, and the input bounds the number of
 -- exchanges.
-pub stand-table : (input : List ℕ) → Bytes input → length input ≤ 65536
+pub stand-table : (input : List ℕ) → Bytes input → length input ≤ INPUT-BYTES
     → table onBytes (length input) input 0 0 noneCounted zeros
     ≡ table onPlain (length input) input 0 0 noneCounted unstarted
 stand-table input bytes long =

@@ -73,7 +73,7 @@ pub image-is : (tasks regions n : ℕ) {b₀ b₁ b₂ b₃ b₄ b₅ b₆ b₇ 
     → b₄ ≡ changed (Head SPARE-REGIONS := 1 ∷ []) b₃
     → b₅ ≡ filled DescriptorNext (nextUp DESCRIPTORS) DESCRIPTORS b₄
     → b₆ ≡ filled RegionNext (nextUp regions) regions b₅
-    → b₇ ≡ filled TopOfCache (λ i. UNITS) CACHES b₆ → b₇ ≡ startImage tasks regions
+    → b₇ ≡ filled TopOfCache (λ i. UNITS) CACHES b₆ → b₇ ≡ startImage (record { tasks = tasks }) regions
 unfolding startImage startWrites filled
 image-is tasks regions n e h₀ h₁ h₂ h₃ h₄ h₅ h₆ h₇ =
     let ds = fill DescriptorNext (nextUp DESCRIPTORS) DESCRIPTORS in

@@ -78,7 +78,7 @@ fn empty_caches(control: &mut [u8])
 // The control memory of a pool that has just been started.
 pub fn image(control: &mut [u8], tasks: u8, regions: u8)
     requires { ⌜ Control (now control) × (regions ≤ REGIONS) ⌝ }
-    ensures { λ r. ⌜ now (control .exit) ≡ startImage tasks regions ⌝ }
+    ensures { λ r. ⌜ now (control .exit) ≡ startImage (record { tasks = tasks }) regions ⌝ }
 {
     clear(control);
     started::set_tasks(control, tasks);

@@ -124,7 +124,7 @@ lengths lent = record { control = lent .control; area = length (lent .area) }
 unfoldable pub startIn : Start → Lent → Memories → Effect
 startIn b lent s =
     let bytes = length (lent .area) in
-    let image = startImage (b .tasks) (bytes / REGION-BYTES) in
+    let image = startImage b (bytes / REGION-BYTES) in
     cond (eqb (lent .control) CONTROL-BYTES)
     (cond (eqb (bytes % REGION-BYTES) 0 && oneTo AREA-BYTES bytes)
     (cond (oneTo TASKS (b .tasks))

@@ -6,6 +6,7 @@ use lib.Dec.{eqb}
 use lib.ListN.{replicate}
 use Rattle.limits.specs.Limits.{CONTROL-BYTES, UNITS, DESCRIPTORS, SPARE-DESCRIPTORS, SPARE-REGIONS}
 use Rattle.fields.specs.Columns.{Field, Write, _:=_}
+use Rattle.plain.specs.Calls.{Start}
 use Rattle.control.specs.Layout.{CACHES, Head, TopOfCache, DescriptorNext, RegionNext, Tasks, Regions, changed}
 
 -- the fields f 0 to f (n - 1) get the values x 0 to x (n - 1)
@@ -18,9 +19,9 @@ abbrev pub nextUp : ℕ → ℕ → ℕ
 nextUp n i = cond (eqb (i + 1) n) 0 (i + 2)
 
 -- what differs from zero: "both spare lists rising from item 0 on top", and the bottom as the top of each empty cache
-unfoldable pub startWrites : ℕ → ℕ → List Write
-startWrites tasks regions =
-    Tasks := tasks
+unfoldable pub startWrites : Start → ℕ → List Write
+startWrites b regions =
+    Tasks := b .tasks
     ∷ Regions := regions
     ∷ Head SPARE-DESCRIPTORS := 1
     ∷ Head SPARE-REGIONS := 1
@@ -28,5 +29,5 @@ startWrites tasks regions =
     ++ (fill RegionNext (nextUp regions) regions ++ fill TopOfCache (λ i. UNITS) CACHES))
 
 -- "tasks idle, caches and partial lists empty, tags 0, marks clear, map entries none": every other byte is zero
-unfoldable pub startImage : ℕ → ℕ → List ℕ
-startImage tasks regions = changed (startWrites tasks regions) (replicate CONTROL-BYTES 0)
+unfoldable pub startImage : Start → ℕ → List ℕ
+startImage b regions = changed (startWrites b regions) (replicate CONTROL-BYTES 0)

@@ -37,16 +37,16 @@ module _ (v : View) (link : ℕ → ℕ) (regions t c : ℕ) {place : ℕ} where
 module _ (v : View) (link : ℕ → ℕ) (regions t : ℕ) where
   pub idle : v (TaskPlace t) ≡ IDLE → stepOf v link regions t ≡ refuse 7
   unfolding stepOf
-  idle h = rw (le-ltb 0 (v (TaskPlace t)) (omega (arith, h))) refl
+  idle h = rw (le-ltb IDLE (v (TaskPlace t)) (omega (arith, h))) refl
 
-  module _ (h : 1 ≤ v (TaskPlace t)) where
+  module _ (h : IDLE < v (TaskPlace t)) where
     pub no-class : CLASSES ≤ v (TaskClass t) → stepOf v link regions t ≡ bad
     unfolding stepOf
-    no-class g = rw (lt-ltb 0 (v (TaskPlace t)) h) (rw (le-ltb (v (TaskClass t)) CLASSES g) refl)
+    no-class g = rw (lt-ltb IDLE (v (TaskPlace t)) h) (rw (le-ltb (v (TaskClass t)) CLASSES g) refl)
 
     pub to-place : {place c : ℕ} → place ≡ v (TaskPlace t) → c ≡ v (TaskClass t) → c < CLASSES
         → stepOf v link regions t ≡ stepAt v link regions t c place
     unfolding stepOf
     to-place {place} {c} p k g =
-        rw (lt-ltb 0 (v (TaskPlace t)) h)
+        rw (lt-ltb IDLE (v (TaskPlace t)) h)
         (rw (lt-ltb (v (TaskClass t)) CLASSES (omega (arith, k, g))) (rw (sym p) (rw (sym k) refl)))

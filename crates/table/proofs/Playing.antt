@@ -12,14 +12,14 @@ use Rattle.schedule.specs.declared.record.Record.{Record}
 use Rattle.schedule.specs.declared.record.Record.the-variants.{Start, Allocate, Free, Step, Run, Bad}
 use Rattle.schedule.specs.declared.tally.Tally.{Tally}
 use Rattle.schedule.specs.declared.treat.Line.{Line}
-use Rattle.schedule.specs.Records.{recordAt, entryAt, endOf}
+use Rattle.schedule.specs.Records.{INPUT-BYTES, recordAt, entryAt, endOf}
 use Rattle.schedule.specs.Tally.{noneCounted, counted}
 use Rattle.schedule.specs.Stand.{shown, table}
 use Rattle.schedule.specs.Bytes.{onBytes, Does}
 use Rattle.text.specs.Numbers.{Appended}
 use Rattle.text.specs.Lines.{columnsText, lineText, totalText}
 use Rattle.text.proofs.Digits.{short-line}
-use Rattle.table.specs.Output.{rowsText, tableText, output}
+use Rattle.table.specs.Output.{TABLE-BYTES, rowsText, tableText, output}
 
 -- the next record begins at least one byte further
 pub further : (r : Record) (at end : ℕ) → at < end → at < endOf r at end
@@ -69,8 +69,8 @@ module _ (input : List ℕ) where
 
   -- what is used lies within the room for the longest table
   pub within : {s₀ s : Memories} {used at n : ℕ} {y : Tally} {out : List ℕ} → TableAhead s₀ used at n y s out
-      → length input ≤ 65536
-      → 2293888 ≤ length out → used ≤ length out
+      → length input ≤ INPUT-BYTES
+      → TABLE-BYTES ≤ length out → used ≤ length out
   within A long room = omega (arith, A .room, A .most, long, room)
 
   -- the column names are written

@@ -12,6 +12,10 @@ use Rattle.schedule.specs.Bytes.{onBytes}
 use Rattle.schedule.specs.Plain.{onPlain}
 use Rattle.text.specs.Lines.{columnsText, lineText, totalText}
 
+-- room for the longest table: 65,536 lines of at most 35 bytes, the first line and the last
+abbrev pub TABLE-BYTES : ℕ
+TABLE-BYTES = 2293888
+
 -- "each line, in decimal: record from 0, kind byte, code, value", and the last line, which "counts codes 20, codes 0
 -- and the others"
 unfoldable pub rowsText : List Line → Tally → List ℕ

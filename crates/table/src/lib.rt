@@ -4,16 +4,19 @@ use schedule::tallied;
 use schedule::tally;
 ghost use Prim.Native.Nat.{_≤_};
 ghost use lib.ListN.{length};
+ghost use Rattle.schedule.specs.Records.{INPUT-BYTES};
 ghost use Rattle.schedule.specs.Bytes.{StandMemories};
 ghost use Rattle.text.specs.Numbers.{Appended};
-ghost use Rattle.table.specs.Output.{output};
+ghost use Rattle.table.specs.Output.{TABLE-BYTES, output};
 
-// Has the records treated one after the other, and puts the table's text at the start of `out`. A line has at most 35
-// bytes and its record at least one, so that the lines of 65,536 bytes of records fit into 65,536 * 35 bytes; the first
-// and the last line fit into the rest.
+// Room for the longest table. A line has at most 35 bytes and its record at least one, so that the lines of 65,536
+// bytes of records fit into 65,536 * 35 bytes; the first and the last line fit into the rest.
+pub const TABLE_BYTES: usize = 2293888;
+
+// Has the records treated one after the other, and puts the table's text at the start of `out`.
 pub fn write(control: &mut [u8], area: &mut [u8], input: &[u8], out: &mut [u8]) -> usize
-    requires { ⌜ StandMemories (now control) (now area) × (length (now input) ≤ 65536)
-        × (2293888 ≤ length (now out)) ⌝ }
+    requires { ⌜ StandMemories (now control) (now area) × (length (now input) ≤ INPUT-BYTES)
+        × (TABLE-BYTES ≤ length (now out)) ⌝ }
     ensures { λ r. ⌜ Appended (now (out .entry)) (now (out .exit)) 0
         (output (now (input .entry)) (record { control = now (control .entry); area = now (area .entry) })) r ⌝ }
 {
