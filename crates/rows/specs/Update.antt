@@ -1,8 +1,8 @@
--- A function of numbers, changed at one place.
+-- A function of numbers, changed at one of them.
 use Prim.Native.Nat.{ℕ}
 use native.Mathlib.Decide.{ℕ-discrete}
 use Rattle.rows.specs.Branch.{if}
 
--- The function f with the value v at the place i, and as it was at every other place j.
+-- The function f with the value v at the number i, and as it was at every other number j.
 unfoldable pub update : {A : Type 0} → (ℕ → A) → ℕ → A → ℕ → A
 update f i v j = if (ℕ-discrete j i) v (f j)
