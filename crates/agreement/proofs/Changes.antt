@@ -1,5 +1,6 @@
 -- The other changes of a turn: heads, nexts, descriptors, the map, the marks.
 use mathlib.Core.Path.{_≡_, refl, ap}
+use mathlib.Core.Logic.{_≢_}
 use mathlib.Core.List.{List}
 use Prim.Native.Nat.{ℕ, suc, _+_, _≤_, _<_}
 use native.Mathlib.Omega.{arith}
@@ -20,13 +21,15 @@ use Rattle.plain.specs.State.{setTask}
 use Rattle.plain.specs.Held.{holdsDescriptor, holdsRegion}
 use Rattle.plain.specs.States.{IfOpen}
 use Rattle.plain.specs.Weights.{descriptorWeight, regionWeight, rowWeight}
-use Rattle.agreement.specs.Contents.{Contents, Slot}
-use Rattle.agreement.specs.Relation.{ChainRelated, Core, Related, SlotRelated, wrap}
+use Rattle.agreement.specs.Contents.{Contents, Lists, Slot}
+use Rattle.agreement.specs.Relation.{ChainRelated, Core, ListsRelated, Related, SlotRelated, wrap}
 use Rattle.agreement.proofs.Couple.{Pair, descriptor-apart, region-apart}
-use Rattle.agreement.proofs.Frames.{after, lists-kept}
+use Rattle.agreement.proofs.Frames.{KeptLists, after, lists-kept}
 use Rattle.agreement.proofs.Parts.{anchor-related, descriptorNext-related, head-related, map-related}
 use Rattle.agreement.proofs.Parts.{mark-related, regionNext-related, core-lists, core-descriptors, core-entries}
+use Rattle.agreement.proofs.Parts.{plainWith}
 use Rattle.agreement.proofs.Sets.{setAnchor, setDescriptorNext, setHead, setMap, setMark, setRegionNext, setSlot}
+use Rattle.agreement.proofs.Sets.{onLists}
 
 -- a won exchange of the list ℓ: what others noted of it is past
 wins : (m : Mem) (ℓ j : ℕ) → m .won j ≤ update (m .won) ℓ (m .won ℓ + 1) j
@@ -42,22 +45,26 @@ module _ {regions : ℕ} {a : Contents} {m : Mem} {t : ℕ} {p : Place} {k : ℕ
   abbrev C : Core regions a m
   C = w .rel .core
 
+  -- ---- the lists alone: their relation, and what other tasks keep of them
+  relisting : {l : Lists} {won : ℕ → ℕ} {row : ℕ → List ℕ} (s : Slot) (T : Task) → ListsRelated regions l won row
+      → ((j : ℕ) → j < TASKS → j ≢ t → KeptLists (a .lists) l (m .won) won (m .row) row (m .task j .place))
+      → SlotRelated regions (setSlot t s (onLists (λ x. l) a))
+      (plainWith won row (m .descriptor) (m .map) (m .hands) (update (m .task) t T)) s T
+      → Related regions (setSlot t s (onLists (λ x. l) a))
+      (plainWith won row (m .descriptor) (m .map) (m .hands) (update (m .task) t T))
+  relisting s T L kept own = after {a = a} {m = m} t s T refl refl (core-lists C L) own
+      (λ j i d. record { lists = kept j i d; links = λ v h. refl; regions = λ x h. refl })
+      (w .rel .slots)
+
   -- ---- a head
   pub heading : (ℓ : ℕ) (h : Head) (q : List ℕ) (s : Slot) (T : Task) → h .tag ≡ wrap (m .won ℓ + 1)
       → (ℓ < DESCRIPTOR-LISTS → Linked (a .lists .descriptorNext) suc 0 (h .item) q)
       → (ℓ ≡ SPARE-REGIONS → Linked (a .lists .regionNext) suc 0 (h .item) q)
       → SlotRelated regions (setSlot t s (setHead ℓ h a)) (setTask t T (setRow ℓ q m)) s T
       → Related regions (setSlot t s (setHead ℓ h a)) (setTask t T (setRow ℓ q m))
-  heading ℓ h q s T e f g own = after {a = a} {m = m} t s T refl refl
-      (core-lists C (head-related (C .lists) ℓ h (m .won ℓ + 1) q e f g))
-      own
-      (λ j l d. record {
-        lists =
-            record { wins = wins m ℓ; still = still m ℓ q; descriptorNexts = λ x h. refl; regionNexts = λ x h. refl };
-        links = λ v h. refl;
-        regions = λ x h. refl;
-      })
-      (w .rel .slots)
+  heading ℓ h q s T e f g =
+      relisting s T (head-related (C .lists) ℓ h (m .won ℓ + 1) q e f g) (λ j l d.
+      record { wins = wins m ℓ; still = still m ℓ q; descriptorNexts = λ x h. refl; regionNexts = λ x h. refl })
 
   -- ---- the next of an item in hand
   off-lists : (x ℓ : ℕ) → ℓ < DESCRIPTOR-LISTS → 1 ≤ holdsDescriptor x p → count x (m .row ℓ) ≡ 0
@@ -84,40 +91,26 @@ module _ {regions : ℕ} {a : Contents} {m : Mem} {t : ℕ} {p : Place} {k : ℕ
   pub dnexting : (x n : ℕ) (s : Slot) (T : Task) → 1 ≤ holdsDescriptor x p → n ≤ DESCRIPTORS
       → SlotRelated regions (setSlot t s (setDescriptorNext x n a)) (setTask t T m) s T
       → Related regions (setSlot t s (setDescriptorNext x n a)) (setTask t T m)
-  dnexting x n s T h b own = after {a = a} {m = m} t s T refl refl
-      (core-lists C (descriptorNext-related (C .lists) x n (λ ℓ l. off-lists x ℓ l h) b))
-      own
-      (λ j l d. record {
-        lists = record {
-          wins = λ ℓ. omega arith;
-          still = λ ℓ e. refl;
-          descriptorNexts = λ y g. update-other (a .lists .descriptorNext) x n y (λ f. absurd (omega
-              (arith, descriptor-apart w x j l d h, ap (λ (z : ℕ). holdsDescriptor z (m .task j .place)) f)));
-          regionNexts = λ y g. refl;
-        };
-        links = λ v g. refl;
-        regions = λ y g. refl;
+  dnexting x n s T h b =
+      relisting s T (descriptorNext-related (C .lists) x n (λ ℓ l. off-lists x ℓ l h) b) (λ j l d. record {
+        wins = λ ℓ. omega arith;
+        still = λ ℓ e. refl;
+        descriptorNexts = λ y g. update-other (a .lists .descriptorNext) x n y (λ f. absurd (omega
+            (arith, descriptor-apart w x j l d h, ap (λ (z : ℕ). holdsDescriptor z (m .task j .place)) f)));
+        regionNexts = λ y g. refl;
       })
-      (w .rel .slots)
 
   pub rnexting : (x n : ℕ) (s : Slot) (T : Task) → 1 ≤ holdsRegion x p → n ≤ regions
       → SlotRelated regions (setSlot t s (setRegionNext x n a)) (setTask t T m) s T
       → Related regions (setSlot t s (setRegionNext x n a)) (setTask t T m)
-  rnexting x n s T h b own = after {a = a} {m = m} t s T refl refl
-      (core-lists C (regionNext-related (C .lists) x n (off-regions x h) b))
-      own
-      (λ j l d. record {
-        lists = record {
-          wins = λ ℓ. omega arith;
-          still = λ ℓ e. refl;
-          descriptorNexts = λ y g. refl;
-          regionNexts = λ y g. update-other (a .lists .regionNext) x n y (λ f. absurd (omega
-              (arith, region-apart w x j l d h, ap (λ (z : ℕ). holdsRegion z (m .task j .place)) f)));
-        };
-        links = λ v g. refl;
-        regions = λ y g. refl;
+  rnexting x n s T h b =
+      relisting s T (regionNext-related (C .lists) x n (off-regions x h) b) (λ j l d. record {
+        wins = λ ℓ. omega arith;
+        still = λ ℓ e. refl;
+        descriptorNexts = λ y g. refl;
+        regionNexts = λ y g. update-other (a .lists .regionNext) x n y (λ f. absurd (omega
+            (arith, region-apart w x j l d h, ap (λ (z : ℕ). holdsRegion z (m .task j .place)) f)));
       })
-      (w .rel .slots)
 
   -- ---- an anchor: the region and the class stay
   pub anchoring : (d : ℕ) (b : Anchor) (E : Descriptor) (s : Slot) (T : Task) → d < DESCRIPTORS

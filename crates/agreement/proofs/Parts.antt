@@ -125,7 +125,7 @@ module _ {regions : ℕ} {E : Entries} {map hands : ℕ → ℕ} (R : EntriesRel
 -- ---- all but the tasks, with one part related anew, beside any parts of the tasks: a further part is named here alone
 
 -- the plain pool with other parts
-abbrev plainWith : (won : ℕ → ℕ) (row : ℕ → List ℕ) (P : ℕ → Descriptor) (map hands : ℕ → ℕ) (task : ℕ → Task) → Mem
+abbrev pub plainWith : (won : ℕ → ℕ) (row : ℕ → List ℕ) (P : ℕ → Descriptor) (map hands : ℕ → ℕ) (task : ℕ → Task) → Mem
 plainWith won row P map hands task =
     record { row = row; won = won; descriptor = P; map = map; hands = hands; task = task }
 
