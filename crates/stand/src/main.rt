@@ -7,8 +7,7 @@ ghost use mathlib.Core.Path.{_≡_};
 ghost use Prim.Native.Nat.{_≤_};
 ghost use lib.ListN.{length};
 ghost use Rattle.schedule.specs.Records.{INPUT-BYTES};
-ghost use Rattle.text.specs.Numbers.{Appended};
-ghost use Rattle.table.specs.Output.{TABLE-BYTES, plainOutput};
+ghost use Rattle.table.specs.Output.{TABLE-BYTES, Plays};
 
 // Zeros for the table of the longest input.
 fn room() -> [u8; table::TABLE_BYTES]
@@ -17,10 +16,11 @@ fn room() -> [u8; table::TABLE_BYTES]
     [0; table::TABLE_BYTES]
 }
 
-// Plays the schedule on two memories that are zero at first, and puts its table at the start of `out`.
+// Plays the schedule on two memories that are zero at first, and puts its table at the start of `out`. That this is the
+// plain pool's table is `play-is-plain` of crates/stand_agreement.
 fn play(input: &[u8], out: &mut [u8]) -> usize
     requires { ⌜ (length (now input) ≤ INPUT-BYTES) × (TABLE-BYTES ≤ length (now out)) ⌝ }
-    ensures { λ r. ⌜ Appended (now (out .entry)) (now (out .exit)) 0 (plainOutput (now (input .entry))) r ⌝ }
+    ensures { λ r. ⌜ Plays (now (input .entry)) (now (out .entry)) (now (out .exit)) r ⌝ }
 {
     let mut control = [0u8; limits::CONTROL_BYTES];
     let mut area = [0u8; lend::STAND_AREA];

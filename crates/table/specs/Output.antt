@@ -8,8 +8,9 @@ use Rattle.schedule.specs.declared.tally.Tally.{Tally}
 use Rattle.schedule.specs.declared.treat.Line.{Line}
 use Rattle.schedule.specs.Tally.{noneCounted}
 use Rattle.schedule.specs.Stand.{table}
-use Rattle.schedule.specs.Bytes.{onBytes}
+use Rattle.schedule.specs.Bytes.{zeros, onBytes}
 use Rattle.schedule.specs.Plain.{onPlain}
+use Rattle.text.specs.Numbers.{Appended}
 use Rattle.text.specs.Lines.{columnsText, lineText, totalText}
 
 -- room for the longest table: 65,536 lines of at most 35 bytes, the first line and the last
@@ -30,6 +31,15 @@ tableText t = columnsText ++ rowsText (t .0) (t .1)
 unfoldable pub output : List ℕ → Memories → List ℕ
 output input s = tableText (table onBytes (length input) input 0 0 noneCounted s)
 
--- the same of the plain pool, which is not started before the first record
+-- What the stand's program ensures: in the bytes `out` that it hands to its one write call, before and after, stands
+-- at the start the output for its input, on its two memories, which are zero at first; it is r bytes long.
+abbrev pub Plays : (input out out′ : List ℕ) → ℕ → Type 0
+Plays input out out′ r = Appended out out′ 0 (output input zeros) r
+
+-- the whole output of the plain pool, which is not started before the first record
 unfoldable pub plainOutput : List ℕ → List ℕ
 plainOutput input = tableText (table onPlain (length input) input 0 0 noneCounted unstarted)
+
+-- the same claim about the plain pool: what stands there is its output for that input
+abbrev pub PlaysPlain : (input out out′ : List ℕ) → ℕ → Type 0
+PlaysPlain input out out′ r = Appended out out′ 0 (plainOutput input) r

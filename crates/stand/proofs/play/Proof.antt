@@ -1,7 +1,5 @@
--- From memories that are zero the table is the plain pool's.
-use native.Mathlib.Omega.{arith}
+-- The two memories that are lent are zero.
 use borrow.Author.Needs.{needs}
-use Rattle.stand_agreement.proofs.Whole.{written-is-plain}
 use Rattle.stand.proofs.play.Statement.{statement}
 use Rattle.stand.proofs.play.Tie as tie
 
@@ -18,12 +16,7 @@ same-length : tie.Need-same-length
 same-length c = search needs
 
 returns : tie.Need-returns
-returns c =
-    let written = c .before .before .before .before in
-    let known = written .before .before .before .before .before in
-    let start = known .before in
-    written-is-plain (start .args .input .now) (λ i. omega (arith, known .shared-slice-known .given i)) (start .pre .0)
-    (written .write .ensures)
+returns c = c .before .before .before .before .write .ensures
 
 pub play-spec : {M : Type 1} → statement M
 play-spec =
