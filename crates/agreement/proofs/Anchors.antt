@@ -42,8 +42,9 @@ use Rattle.stepped.specs.Ranges.{isAnchor, hasChain}
 use Rattle.stepped.specs.Outcome.{accept}
 use Rattle.stepped.specs.Allocate as Allocate
 use Rattle.agreement.specs.Contents.{slotOf, contentsOf}
-use Rattle.agreement.specs.Relation.{PushRelated, NoteRelated, ChainRelated, r-retire, r-a3-read, r-a3-exchange}
-use Rattle.agreement.specs.Relation.{r-a4, r-working}
+use Rattle.control.specs.declared.moves.Push.the-variants.{Retire}
+use Rattle.agreement.specs.Relation.{at-read, NoteRelated, r-pushing, r-a3-read, r-a3-exchange, r-a4, r-working}
+use Rattle.agreement.specs.Relation.{ChainRelated}
 use Rattle.agreement.proofs.Slots.{toPlace, toAnchor, toChain}
 use Rattle.agreement.proofs.Sets.{withSlots, setAnchor}
 use Rattle.agreement.proofs.Bridge.{anchor-written}
@@ -114,7 +115,7 @@ module _ {regions : ℕ} {v : View} {area : List ℕ} {m : Mem} {t : ℕ} {k : �
             goes w (TaskPlace t := PUSH-RETIRE ∷ []) (toPlace PUSH-RETIRE (slotOf v t))
             (working (pushing (retire c d) read)) refl
             (rw (eq-eqb t t refl)) (λ j n. rw (ne-eqb t j n)) refl refl
-            (r-working (r-retire (PushRelated.at-read refl)));
+            (r-working (r-pushing Retire EMPTY tt (at-read refl)));
         sound = omega (arith, w .pair .turn .fits);
         apart = tt;
       }))

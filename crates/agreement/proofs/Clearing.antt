@@ -14,7 +14,8 @@ use Rattle.control.specs.Layout.{Map, TaskClass, TaskDescriptor, TaskPlace, Tas
 use Rattle.control.specs.Places.{PUSH-RELEASE}
 use Rattle.stepped.specs.Free as Free
 use Rattle.agreement.specs.Contents.{slotOf}
-use Rattle.agreement.specs.Relation.{PushRelated, r-release, r-working}
+use Rattle.control.specs.declared.moves.Push.the-variants.{Release}
+use Rattle.agreement.specs.Relation.{at-read, r-pushing, r-working}
 use Rattle.agreement.proofs.Slots.{toPlace}
 use Rattle.agreement.proofs.Bridge.{map-written}
 use Rattle.agreement.proofs.Tops.{region-in-hand}
@@ -45,7 +46,7 @@ f4-clear-both {regions} {v} {area} {m} {t} {k} {z} w e =
             own = rw (eq-eqb t t refl);
             others = λ j n. rw (ne-eqb t j n);
           })
-          (re-slot (w .pair) _ _ s p refl refl refl (r-working (r-release e (PushRelated.at-read refl))));
+          (re-slot (w .pair) _ _ s p refl refl refl (r-working (r-pushing Release z e (at-read refl))));
       sound = omega (arith, w .pair .turn .fits, w .pair .small);
       apart = tt;
     })

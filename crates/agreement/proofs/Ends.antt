@@ -235,14 +235,15 @@ module _ (lent : Lengths) (v : View) (link : ℕ → ℕ) (t : ℕ) where
   wins-push : (p : Push) → WinsPush p v t
       → Lists.pushExchange v (v Regions) t (v (TaskClass t)) p
       ≡ Lists.whenPushed v (v Regions) t (v (TaskClass t)) p
-      (pushed (Lists.pushList p (v (TaskClass t))) (v (Lists.itemField p t)))
-      (Head (Lists.pushList p (v (TaskClass t))) := advancedWord (v (TaskHead t)) (v (Lists.itemField p t) + 1) ∷ [])
+      (pushed (Lists.pushList p (v (TaskClass t))) (v (Lists.handField (Lists.pushItems p) t)))
+      (Head (Lists.pushList p (v (TaskClass t))) :=
+      advancedWord (v (TaskHead t)) (v (Lists.handField (Lists.pushItems p) t) + 1) ∷ [])
   unfolding Lists.pushExchange
   wins-push p W =
-      let items = Lists.pushItems p (v Regions) in
+      let items = Lists.howMany (Lists.pushItems p) (v Regions) in
       rw (
         W .same,
-        lt-ltb (v (Lists.itemField p t)) items (W .item),
+        lt-ltb (v (Lists.handField (Lists.pushItems p) t)) items (W .item),
         le-leb (itemOf (v (TaskHead t))) items (W .noted),
         eq-eqb (v (TaskHead t)) (v (TaskHead t)) refl,
       )

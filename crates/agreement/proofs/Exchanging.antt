@@ -33,8 +33,9 @@ use Rattle.control.specs.Layout.{TaskPlace, TaskRegion, TaskState, TaskUnit}
 use Rattle.control.specs.Places.{PUSH-OFFER, F1, F2, F3-READ, F4-CLEAR}
 use Rattle.stepped.specs.Free as Free
 use Rattle.agreement.specs.Contents.{Slot, slotOf, contentsOf}
-use Rattle.agreement.specs.Relation.{ChainRelated, GroupRelated, NoteRelated, PlaceRelated, PushRelated, Related}
-use Rattle.agreement.specs.Relation.{r-f1, r-f2, r-f3-read, r-f4-clear, r-offer, r-working}
+use Rattle.control.specs.declared.moves.Push.the-variants.{Offer}
+use Rattle.agreement.specs.Relation.{at-read, NoteRelated, GroupRelated, r-pushing, r-f1, r-f2, r-f3-read}
+use Rattle.agreement.specs.Relation.{r-f4-clear, PlaceRelated, r-working, ChainRelated, Related}
 use Rattle.agreement.proofs.Slots.{toGrouped, toPlace, toState}
 use Rattle.agreement.proofs.Sets.{setAnchor, setSlot}
 use Rattle.agreement.proofs.Bridge.{anchor-written}
@@ -198,7 +199,7 @@ module _ {regions : ℕ} {v : View} {area : List ℕ} {m : Mem} {t : ℕ} {k : �
         }) refl refl (r-working (r-f2 refl refl)))
         (anchorOf a .state) (n .state) d (N .state)
         (to _ (part PUSH-OFFER) (working (pushing (offer c u d) read)) (place-written PUSH-OFFER) refl refl
-        (r-working (r-offer (PushRelated.at-read refl)))))
+        (r-working (r-pushing Offer EMPTY tt (at-read refl)))))
 
     won : (e : Dec (length J ≡ perRegion c))
         → Both regions v area m

@@ -20,12 +20,14 @@ use Rattle.plain.specs.State.{Mem, Note, Phase, Work, Place, working, Task, reg
 use Rattle.plain.specs.Noted.{Noted, unnoted, pop-noted, push-noted, anchor-noted, entry-noted, noted}
 use Rattle.plain.specs.Held.{holdsDescriptor, holdsRegion, underWay}
 use Rattle.plain.specs.Weights.{blockWeight, rowWeight}
+use Rattle.stepped.specs.Lists.{Items, descriptor-items, region-items, pushItems}
 use Rattle.agreement.specs.Contents.{Lists, Contents, Slot}
-use Rattle.agreement.specs.Relation.{Core, GroupRelated, NoteRelated, HeadNoted, PlaceRelated, PopRelated}
-use Rattle.agreement.specs.Relation.{PushRelated, Related, SlotRelated, r-a1, r-a3-exchange, r-a3-read, r-a4}
-use Rattle.agreement.specs.Relation.{r-a7, r-a8, r-back, r-f1, r-f2, r-f2-more, r-f3-exchange, r-f3-link}
-use Rattle.agreement.specs.Relation.{r-f3-read, r-f4-clear, r-idle, r-offer, r-partial, r-region, r-release}
-use Rattle.agreement.specs.Relation.{r-retire, r-spare, WorkRelated, r-working}
+use Rattle.agreement.specs.Relation.{HeadNoted, MoveRelated, at-read, at-next, at-exchange, PopReady, nexts}
+use Rattle.agreement.specs.Relation.{inHand, NoteRelated, GroupRelated, WorkRelated, r-a1, r-popping, r-pushing}
+use Rattle.agreement.specs.Relation.{r-a3-read, r-a3-exchange, r-a4, r-a7, r-a8, r-f1, r-f2, r-f2-more, r-f3-read}
+use Rattle.agreement.specs.Relation.{r-f3-link, r-f3-exchange, r-f4-clear, PlaceRelated, r-idle, r-working}
+use Rattle.agreement.specs.Relation.{SlotRelated, Core, Related}
+use Rattle.agreement.proofs.HeldItems.{HoldsItem, push-holds}
 
 -- x is the descriptor whose anchor is noted
 abbrev pub Reads : ℕ → Noted → Type 0
@@ -64,19 +66,22 @@ module _ {a a′ : Contents} {m m′ : Mem} {T : Task} (K : Framed a a′ m m′
         (N .same (omega (arith, K .lists .wins ℓ, N .past, e)));
   }
 
-  kept-pop : {s : Slot} {b ℓ limit : ℕ} {φ : Phase} → PopRelated m s b ℓ limit φ → PopRelated m′ s b ℓ limit φ
-  kept-pop (PopRelated.at-read e) = PopRelated.at-read e
-  kept-pop (PopRelated.at-next e N p l) = PopRelated.at-next e (kept-noted N) p l
-  kept-pop {ℓ = ℓ} (PopRelated.at-exchange e N p l x f) =
-      PopRelated.at-exchange e (kept-noted N) p l x
-      (λ i. rw (K .lists .still ℓ (omega (arith, K .lists .wins ℓ, N .past, i)))
-      (f (omega (arith, K .lists .wins ℓ, N .past, i))))
+  kept-move : {s : Slot} {b ℓ items least : ℕ} {Ready Ready′ : ℕ → Type 0} {φ : Phase}
+      → ((n : ℕ) → HeadNoted m ℓ (s .noted .head) n → Ready n → Ready′ n)
+      → MoveRelated m s b ℓ items least Ready φ → MoveRelated m′ s b ℓ items least Ready′ φ
+  kept-move f (at-read e) = at-read e
+  kept-move f (at-next e N i l) = at-next e (kept-noted N) i l
+  kept-move f (at-exchange {n} e N i l r) = at-exchange e (kept-noted N) i l (f n N r)
 
-  kept-push : {s : Slot} {b ℓ limit x : ℕ} {nx nx′ : ℕ → ℕ} {φ : Phase} → nx′ x ≡ nx x
-      → PushRelated m s b ℓ limit x nx φ → PushRelated m′ s b ℓ limit x nx′ φ
-  kept-push h (PushRelated.at-read e) = PushRelated.at-read e
-  kept-push h (PushRelated.at-next e N l) = PushRelated.at-next e (kept-noted N) l
-  kept-push h (PushRelated.at-exchange e N l f) = PushRelated.at-exchange e (kept-noted N) l (h ∙ f)
+  -- a pop stays ready: its list is the same while the noted number stands
+  kept-ready : {s : Slot} {ℓ items : ℕ} (n : ℕ) → HeadNoted m ℓ (s .noted .head) n → PopReady m s ℓ items n
+      → PopReady m′ s ℓ items n
+  kept-ready {ℓ = ℓ} n N R = record {
+    most = R .most;
+    below =
+        λ i. rw (K .lists .still ℓ (omega (arith, K .lists .wins ℓ, N .past, i)))
+        (R .below (omega (arith, K .lists .wins ℓ, N .past, i)));
+  }
 
   kept-note : {c d : ℕ} {n : Note} {b : Anchor} → m′ .descriptor d .region ≡ m .descriptor d .region
       → NoteRelated m c d n b → NoteRelated m′ c d n b
@@ -103,25 +108,23 @@ under-links : {a a′ : Contents} {m m′ : Mem} {T : Task} → Framed a a′ m 
     → link (a′ .area) v ≡ link (a .area) v
 under-links K v h = K .links v (omega arith)
 
+-- the next of an item that the other task holds
+kept-next : {a a′ : Contents} {m m′ : Mem} {T : Task} (items : Items) (x : ℕ) → Framed a a′ m m′ T
+    → HoldsItem items x (T .place)
+    → nexts items a′ x ≡ nexts items a x
+kept-next descriptor-items x K h = K .lists .descriptorNexts x h
+kept-next region-items x K h = K .lists .regionNexts x h
+
 kept-work : {regions : ℕ} {a a′ : Contents} {m m′ : Mem} {s : Slot} {w : Work} {k : ℕ → List ℕ}
     → Framed a a′ m m′ (record { place = working w; cache = k }) → WorkRelated regions a m s w
     → WorkRelated regions a′ m′ s w
 unfolding kept-group
 kept-work K (r-a1 e) = r-a1 e
-kept-work K (r-partial h) = r-partial (kept-pop K h)
-kept-work K (r-spare h) = r-spare (kept-pop K h)
-kept-work K (r-region h) = r-region (kept-pop K h)
-kept-work {s = s} K (r-retire h) =
-    r-retire (kept-push K
-    (K .lists .descriptorNexts (s .hand .descriptor) (omega (arith, when-same (s .hand .descriptor) 1))) h)
-kept-work {s = s} K (r-back h) =
-    r-back (kept-push K
-    (K .lists .descriptorNexts (s .hand .descriptor) (omega (arith, when-same (s .hand .descriptor) 1))) h)
-kept-work {s = s} K (r-release e h) =
-    r-release e (kept-push K (K .lists .regionNexts (s .hand .region) (omega (arith, when-same (s .hand .region) 1))) h)
-kept-work {s = s} K (r-offer h) =
-    r-offer (kept-push K
-    (K .lists .descriptorNexts (s .hand .descriptor) (omega (arith, when-same (s .hand .descriptor) 1))) h)
+kept-work K (r-popping P h) = r-popping P (kept-move K (kept-ready K) h)
+kept-work {s = s} K (r-pushing P z {φ} f h) =
+    let same = kept-next (pushItems P) (inHand (pushItems P) (s .hand)) K
+    (push-holds P (s .class) (s .unit) (s .hand) z φ) in
+    r-pushing P z f (kept-move K (λ n N r. record { written = same ∙ r .written }) h)
 kept-work K (r-a3-read e) = r-a3-read e
 kept-work {s = s} K (r-a3-exchange e N i j k l) =
     r-a3-exchange e (kept-note K (K .regions (s .hand .descriptor) refl) N) i j k l

@@ -26,12 +26,11 @@ use Rattle.control.specs.Places.{POP-PARTIAL, PUSH-OFFER, A3-READ, F3-LINK, F3-
 use Rattle.control.specs.declared.moves.Pop.the-variants.{Partial, Spare, Region}
 use Rattle.control.specs.declared.moves.Push.the-variants.{Retire, Back, Release, Offer}
 use Rattle.agreement.specs.Contents.{Slot, slotOf, contentsOf}
-use Rattle.agreement.specs.Relation.{NoteRelated, GroupRelated, PlaceRelated, r-idle, r-a1, r-partial, r-spare}
-use Rattle.agreement.specs.Relation.{r-region, r-retire, r-back, r-release, r-offer, r-a3-read, r-a3-exchange}
-use Rattle.agreement.specs.Relation.{r-a4, r-a7, r-a8, r-f1, r-f2, r-f2-more, r-f3-read, r-f3-link, r-f3-exchange}
-use Rattle.agreement.specs.Relation.{r-f4-clear, WorkRelated, r-working}
+use Rattle.agreement.specs.Relation.{NoteRelated, GroupRelated, WorkRelated, r-a1, r-popping, r-pushing}
+use Rattle.agreement.specs.Relation.{r-a3-read, r-a3-exchange, r-a4, r-a7, r-a8, r-f1, r-f2, r-f2-more, r-f3-read}
+use Rattle.agreement.specs.Relation.{r-f3-link, r-f3-exchange, r-f4-clear, PlaceRelated, r-idle, r-working}
 use Rattle.agreement.specs.InRange.{ListsInRange, HandInRange, ChainsInRange}
-use Rattle.agreement.proofs.WorkPlaces.{pop-span, push-span}
+use Rattle.agreement.proofs.WorkPlaces.{span}
 use Rattle.agreement.proofs.Freeing.{Freeing, allocates, fills, frees, owes, owed-one}
 use Rattle.agreement.proofs.ListsInRange.{none, of-pop, of-push}
 use Rattle.agreement.proofs.Tops.{first-of, descriptor-in-hand, region-in-hand}
@@ -137,30 +136,30 @@ module _ (regions : ℕ) (v : View) (area : List ℕ) (m : Mem) (t : ℕ) (k : �
   numbers-at-work : {p : Work} → Turning (working p) → WorkRelated regions (contentsOf v area) m s p
       → Ranged (working p)
   numbers-at-work w (r-a1 e) = (no-move (omega arith), (omega arith, omega arith), allocates (omega arith))
-  numbers-at-work w (r-partial h) =
-      let i = pop-span h in
+  numbers-at-work w (r-popping Partial h) =
+      let i = span h in
       (of-pop regions v m t Partial h, (omega arith, omega arith), allocates (omega arith))
-  numbers-at-work w (r-spare h) =
-      let i = pop-span h in
+  numbers-at-work w (r-popping Spare h) =
+      let i = span h in
       (of-pop regions v m t Spare h, (omega arith, omega arith), allocates (omega arith))
-  numbers-at-work w (r-region h) =
-      let i = pop-span h in
+  numbers-at-work w (r-popping Region h) =
+      let i = span h in
       let f = descriptor-held w (omega arith) in
       (of-pop regions v m t Region h, (omega arith, omega arith), allocates (omega arith))
-  numbers-at-work w (r-retire h) =
-      let i = push-span h in
+  numbers-at-work w (r-pushing Retire z e h) =
+      let i = span h in
       let f = descriptor-held w (omega arith) in
       (of-push regions v m t Retire h, (omega arith, omega arith), allocates (omega arith))
-  numbers-at-work w (r-back h) =
-      let i = push-span h in
+  numbers-at-work w (r-pushing Back z e h) =
+      let i = span h in
       let f = descriptor-held w (omega arith) in
       (of-push regions v m t Back h, (omega arith, omega arith), allocates (omega arith))
-  numbers-at-work w (r-release {w = z} e h) =
+  numbers-at-work w (r-pushing Release z e h) =
       let f = region-held w (omega arith) in
-      let i = push-span h in
+      let i = span h in
       (of-push regions v m t Release h, (omega arith, omega arith), owing z e (omega arith) refl (omega arith))
-  numbers-at-work w (r-offer h) =
-      let i = push-span h in
+  numbers-at-work w (r-pushing Offer z e h) =
+      let i = span h in
       let f = descriptor-held w (omega arith) in (
         of-push regions v m t Offer h,
         (omega arith, omega arith),

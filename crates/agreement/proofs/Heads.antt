@@ -11,7 +11,7 @@ use lib.Dec.{eqb}
 use Rattle.limits.specs.Limits.{DESCRIPTORS, TAGS, SPARE-REGIONS, LISTS, DESCRIPTOR-LISTS}
 use Rattle.rows.specs.Branch.{if}
 use Rattle.rows.specs.Linked.{Linked}
-use Rattle.fields.specs.Columns.{Field, View, Write, _:=_, assigned}
+use Rattle.fields.specs.Columns.{View, Write, _:=_, assigned}
 use Rattle.words.specs.Head.{TAG-WEIGHT, itemOf, tagOf, headOf, advancedWord}
 use Rattle.words.specs.declared.head.Head.{Head as HeadWord}
 use Rattle.words.proofs.Heads.{itemOf-advanced, tagOf-advanced}
@@ -23,8 +23,10 @@ use Rattle.control.specs.Layout.{Head, DescriptorNext, RegionNext, TaskPlace, T
 use Rattle.control.specs.Answers.{codeOf, valueOf}
 use Rattle.control.specs.declared.answer.Answer.{Answer}
 use Rattle.stepped.specs.Outcome.{Outcome, accept, over}
-use Rattle.agreement.specs.Contents.{Slot, Contents, slotOf, contentsOf}
-use Rattle.agreement.specs.Relation.{HeadNoted, PlaceRelated, Related, wrap}
+use Rattle.stepped.specs.Lists.{Items, howMany, nextField}
+use Rattle.agreement.specs.Contents.{Slot, slotOf, contentsOf}
+use Rattle.agreement.specs.Relation.{wrap, HeadNoted, nexts, PlaceRelated, Related}
+use Rattle.agreement.proofs.ListMoves.{ListOf, descriptors, spare-regions}
 use Rattle.agreement.proofs.Slots.{toPlace, toHead}
 use Rattle.agreement.proofs.Sets.{withSlots, setSlot, setHead}
 use Rattle.agreement.proofs.Tops.{top-of, top-le, listed, listed-region, same-word, word-same, won-same}
@@ -34,44 +36,38 @@ use Rattle.agreement.proofs.Both.{Both, decide}
 use Rattle.agreement.proofs.Turns.{At, goes}
 use Rattle.agreement.proofs.Sharing.{shares}
 
--- The two kinds of list: its number, how many items there are, the field of an item's next, the column of the nexts.
-pub data Kind (regions : ℕ) : ℕ → ℕ → (ℕ → Field) → (Contents → ℕ → ℕ) → Type 0 where
-  descriptors : {ℓ : ℕ} → ℓ < DESCRIPTOR-LISTS
-      → Kind regions ℓ DESCRIPTORS DescriptorNext (λ a. a .lists .descriptorNext)
-  spare-regions : Kind regions SPARE-REGIONS regions RegionNext (λ a. a .lists .regionNext)
-
 -- what the relation says of a list
-pub record ListTied (v : View) (m : Mem) (ℓ items : ℕ) (nx : ℕ → Field) : Type 0 where
+pub record ListTied (regions : ℕ) (v : View) (m : Mem) (items : Items) (ℓ : ℕ) : Type 0 where
   pub below : ℓ < LISTS
-  pub most : items ≤ DESCRIPTORS
-  pub linked : Linked (λ (x : ℕ). v (nx x)) suc 0 (itemOf (v (Head ℓ))) (m .row ℓ)
-  pub nexts : (x : ℕ) → x < items → v (nx x) ≤ items
+  pub most : howMany items regions ≤ DESCRIPTORS
+  pub linked : Linked (λ (x : ℕ). v (nextField items x)) suc 0 (itemOf (v (Head ℓ))) (m .row ℓ)
+  pub nexts : (x : ℕ) → x < howMany items regions → v (nextField items x) ≤ howMany items regions
   pub noted : HeadNoted m ℓ (headOf (v (Head ℓ))) (m .won ℓ)
-  pub head : itemOf (v (Head ℓ)) ≤ items
+  pub head : itemOf (v (Head ℓ)) ≤ howMany items regions
 
 -- the exchange with the noted head is won, and leaves the item x, which is a number plus one, on top of the row q
-pub record Won (v : View) (m : Mem) (t ℓ : ℕ) (nx : ℕ → Field) (x : ℕ) (q : List ℕ) : Type 0 where
+pub record Won (v : View) (m : Mem) (t : ℕ) (items : Items) (ℓ x : ℕ) (q : List ℕ) : Type 0 where
   pub tag : wrap (tagOf (v (TaskHead t)) + 1) ≡ wrap (m .won ℓ + 1)
   pub most : x ≤ DESCRIPTORS
-  pub linked : Linked (λ (y : ℕ). v (nx y)) suc 0 x q
+  pub linked : Linked (λ (y : ℕ). v (nextField items y)) suc 0 x q
 
--- a list of one kind is linked by the nexts of that kind
-module _ (v : View) {f : ℕ} {q : List ℕ} {regions : ℕ} where
-  of-descriptors : {ℓ items : ℕ} {nx : ℕ → Field} {column : Contents → ℕ → ℕ} → Kind regions ℓ items nx column
-      → Linked (λ (y : ℕ). v (nx y)) suc 0 f q → ℓ < DESCRIPTOR-LISTS
+-- a list of descriptors is linked by their nexts, one of regions by theirs
+module _ (v : View) {f : ℕ} {q : List ℕ} where
+  of-descriptors : {items : Items} {ℓ : ℕ} → ListOf items ℓ → Linked (λ (y : ℕ). v (nextField items y)) suc 0 f q
+      → ℓ < DESCRIPTOR-LISTS
       → Linked (λ (y : ℕ). v (DescriptorNext y)) suc 0 f q
   of-descriptors (descriptors l) h b = h
   of-descriptors spare-regions h b = absurd (omega arith)
 
-  of-regions : {ℓ items : ℕ} {nx : ℕ → Field} {column : Contents → ℕ → ℕ} → Kind regions ℓ items nx column
-      → Linked (λ (y : ℕ). v (nx y)) suc 0 f q → ℓ ≡ SPARE-REGIONS → Linked (λ (y : ℕ). v (RegionNext y)) suc 0 f q
+  of-regions : {items : Items} {ℓ : ℕ} → ListOf items ℓ → Linked (λ (y : ℕ). v (nextField items y)) suc 0 f q
+      → ℓ ≡ SPARE-REGIONS
+      → Linked (λ (y : ℕ). v (RegionNext y)) suc 0 f q
   of-regions (descriptors l) h b = absurd (omega arith)
   of-regions spare-regions h b = h
 
 module _ {regions : ℕ} {v : View} {area : List ℕ} {m : Mem} {t : ℕ} {p : Place} {k : ℕ → List ℕ}
     (w : At regions v area m t p k) where
-  pub list-of : {ℓ items : ℕ} {nx : ℕ → Field} {column : Contents → ℕ → ℕ} → Kind regions ℓ items nx column
-      → ListTied v m ℓ items nx
+  pub list-of : {items : Items} {ℓ : ℕ} → ListOf items ℓ → ListTied regions v m items ℓ
   list-of (descriptors {ℓ = ℓ} l) =
       let C = w .pair .rel .core in
       record {
@@ -131,7 +127,7 @@ module _ {regions : ℕ} {v : View} {area : List ℕ} {m : Mem} {t : ℕ} {p : P
   }
 
   -- the exchange is won in both pools or in neither
-  pub exchanges : {ℓ items n : ℕ} {nx : ℕ → Field} → ListTied v m ℓ items nx → HeadNoted m ℓ (headOf (v (TaskHead t))) n
+  pub exchanges : {items : Items} {ℓ n : ℕ} → ListTied regions v m items ℓ → HeadNoted m ℓ (headOf (v (TaskHead t))) n
       → m .won ℓ < n + TAGS → {o o′ : Outcome} {y y′ : Result}
       → (m .won ℓ ≡ n → wrap (tagOf (v (TaskHead t)) + 1) ≡ wrap (m .won ℓ + 1) → Both regions v area m o y)
       → Both regions v area m o′ y′
@@ -146,8 +142,8 @@ module _ {regions : ℕ} {v : View} {area : List ℕ} {m : Mem} {t : ℕ} {p : P
 
   -- The exchange is won, and the writes ws, the new head word among them, change the task's own part to s, but not its
   -- caches: it goes to the place p′.
-  pub wins : {ℓ items x : ℕ} {nx : ℕ → Field} {column : Contents → ℕ → ℕ} {q : List ℕ} → Kind regions ℓ items nx column
-      → Won v m t ℓ nx x q → (ws : List Write) (s : Slot) (p′ : Place)
+  pub wins : {items : Items} {ℓ x : ℕ} {q : List ℕ} → ListOf items ℓ → Won v m t items ℓ x q
+      → (ws : List Write) (s : Slot) (p′ : Place)
       → contentsOf (assigned ws v) area
       ≡ withSlots (slotOf (assigned ws v)) (setHead ℓ (headOf (advancedWord (v (TaskHead t)) x)) (contentsOf v area))
       → slotOf (assigned ws v) t ≡ s → ((j : ℕ) → t ≢ j → slotOf (assigned ws v) j ≡ slotOf v j)

@@ -4,6 +4,7 @@ pub mod Sets
 pub mod Bridge
 pub mod Tops
 pub mod Parts
+pub mod HeldItems
 pub mod Frames
 pub mod Couple
 pub mod Changes
@@ -17,6 +18,7 @@ pub mod Starts
 pub mod Views
 pub mod Simulation
 pub mod Starting
+pub mod ListMoves
 pub mod WorkPlaces
 pub mod Begins
 pub mod Writing

@@ -9,18 +9,19 @@ use Rattle.fields.specs.Columns.{View}
 use Rattle.words.specs.Head.{itemOf}
 use Rattle.plain.specs.State.{Phase, Mem}
 use Rattle.control.specs.Layout.{TaskHead, TaskPlace, TaskNext}
-use Rattle.control.specs.Places.{POP-PARTIAL, POP-SPARE, POP-REGION, PUSH-RETIRE, PUSH-BACK, PUSH-RELEASE, PUSH-OFFER}
+use Rattle.control.specs.Places.{POP-PARTIAL, POP-SPARE, POP-REGION, PUSH-BACK, PUSH-RELEASE, PUSH-OFFER}
 use Rattle.control.specs.Places.{A3-READ}
 use Rattle.control.specs.Places.{TO-NEXT, TO-EXCHANGE}
 use Rattle.control.specs.declared.moves.Pop.{Pop}
 use Rattle.control.specs.declared.moves.Pop.the-variants.{Partial, Spare, Region}
 use Rattle.control.specs.declared.moves.Push.{Push}
 use Rattle.control.specs.declared.moves.Push.the-variants.{Retire, Back, Release, Offer}
-use Rattle.stepped.specs.Lists.{popPlace, popItems, pushPlace, pushItems}
+use Rattle.stepped.specs.Lists.{howMany, popPlace, popItems, pushPlace, pushItems}
 use Rattle.agreement.specs.Contents.{Slot, slotOf}
-use Rattle.agreement.specs.Relation.{PopRelated, PushRelated}
+use Rattle.agreement.specs.Relation.{MoveRelated, at-read, at-next, at-exchange, PopRelated}
 use Rattle.agreement.specs.InRange.{OneTo, ListsInRange}
-use Rattle.agreement.proofs.WorkPlaces.{pop-span, push-span}
+use Rattle.agreement.proofs.ListMoves.{pop-first, push-later}
+use Rattle.agreement.proofs.WorkPlaces.{span}
 
 -- ---- a place belongs to one move
 
@@ -28,18 +29,6 @@ use Rattle.agreement.proofs.WorkPlaces.{pop-span, push-span}
 record Span (b q : ℕ) : Type 0 where
   from : b ≤ q
   to : q ≤ b + TO-EXCHANGE
-
--- the pops come first, then the pushes
-pop-first : (p : Pop) → (POP-PARTIAL ≤ popPlace p) × (popPlace p + TO-EXCHANGE < PUSH-RETIRE)
-pop-first Partial = omega arith
-pop-first Spare = omega arith
-pop-first Region = omega arith
-
-push-later : (p : Push) → (PUSH-RETIRE ≤ pushPlace p) × (pushPlace p + TO-EXCHANGE < A3-READ)
-push-later Retire = omega arith
-push-later Back = omega arith
-push-later Release = omega arith
-push-later Offer = omega arith
 
 -- the pop and the push that have the place q
 abbrev popAt : ℕ → Pop
@@ -63,22 +52,19 @@ push-at Offer q h =
 
 -- ---- what one move noted
 
-module _ {m : Mem} {s : Slot} {b ℓ items : ℕ} where
-  popped-head : {φ : Phase} → PopRelated m s b ℓ items φ → b + TO-NEXT ≤ s .place → OneTo items (s .noted .head .item)
-  popped-head (PopRelated.at-read e) h = absurd (omega arith)
-  popped-head (PopRelated.at-next e N i j) h = (i, j)
-  popped-head (PopRelated.at-exchange e N i j x f) h = (i, j)
+module _ {m : Mem} {s : Slot} {b ℓ items least : ℕ} {Ready : ℕ → Type 0} where
+  noted-head : {φ : Phase} → MoveRelated m s b ℓ items least Ready φ → b + TO-NEXT ≤ s .place
+      → (least ≤ s .noted .head .item) × (s .noted .head .item ≤ items)
+  noted-head (at-read e) h = absurd (omega arith)
+  noted-head (at-next e N i j) h = (i, j)
+  noted-head (at-exchange e N i j r) h = (i, j)
 
-  popped-next : {φ : Phase} → PopRelated m s b ℓ items φ → b + TO-EXCHANGE ≤ s .place → s .noted .next ≤ items
-  popped-next (PopRelated.at-read e) h = absurd (omega arith)
-  popped-next (PopRelated.at-next e N i j) h = absurd (omega arith)
-  popped-next (PopRelated.at-exchange e N i j x f) h = x
-
-  pushed-head : {x : ℕ} {nx : ℕ → ℕ} {φ : Phase} → PushRelated m s b ℓ items x nx φ → b + TO-NEXT ≤ s .place
-      → s .noted .head .item ≤ items
-  pushed-head (PushRelated.at-read e) h = absurd (omega arith)
-  pushed-head (PushRelated.at-next e N i) h = i
-  pushed-head (PushRelated.at-exchange e N i j) h = i
+  -- before its exchange a move is ready, for some noted number
+  is-ready : {φ : Phase} {A : Type 0} → MoveRelated m s b ℓ items least Ready φ → b + TO-EXCHANGE ≤ s .place
+      → ((n : ℕ) → Ready n → A) → A
+  is-ready (at-read e) h f = absurd (omega arith)
+  is-ready (at-next e N i j) h f = absurd (omega arith)
+  is-ready (at-exchange {n} e N i j r) h f = f n r
 
 -- ---- one task
 
@@ -98,30 +84,31 @@ module _ (regions : ℕ) (v : View) (m : Mem) (t : ℕ) where
   }
 
   -- the pop P is under way
-  pub of-pop : {ℓ : ℕ} {φ : Phase} (P : Pop) → PopRelated m (slotOf v t) (popPlace P) ℓ (popItems P regions) φ → Lists
+  pub of-pop : {φ : Phase} (P : Pop) → PopRelated regions m (slotOf v t) P φ → Lists
   of-pop P h =
-      let i = pop-span h in
+      let i = span h in
       let own : Span (popPlace P) q = omega arith in
       record {
         pop-head = λ p a b.
-            subst (λ (z : Pop). popPlace z + TO-NEXT ≤ q → OneTo (popItems z regions) (itemOf (v (TaskHead t))))
-            (sym (pop-at P q own) ∙ pop-at p q (omega arith)) (popped-head h) a;
+            subst
+            (λ (z : Pop). popPlace z + TO-NEXT ≤ q → OneTo (howMany (popItems z) regions) (itemOf (v (TaskHead t))))
+            (sym (pop-at P q own) ∙ pop-at p q (omega arith)) (noted-head h) a;
         pop-next = λ p a b.
-            subst (λ (z : Pop). popPlace z + TO-EXCHANGE ≤ q → v (TaskNext t) ≤ popItems z regions)
-            (sym (pop-at P q own) ∙ pop-at p q (omega arith)) (popped-next h) a;
+            subst (λ (z : Pop). popPlace z + TO-EXCHANGE ≤ q → v (TaskNext t) ≤ howMany (popItems z) regions)
+            (sym (pop-at P q own) ∙ pop-at p q (omega arith)) (λ b. is-ready h b (λ n r. r .most)) a;
         push-head = λ p a b. absurd (omega (arith, pop-first P, push-later p));
       }
 
   -- the push P is under way
-  pub of-push : {ℓ x : ℕ} {nx : ℕ → ℕ} {φ : Phase} (P : Push)
-      → PushRelated m (slotOf v t) (pushPlace P) ℓ (pushItems P regions) x nx φ → Lists
+  pub of-push : {ℓ least : ℕ} {Ready : ℕ → Type 0} {φ : Phase} (P : Push)
+      → MoveRelated m (slotOf v t) (pushPlace P) ℓ (howMany (pushItems P) regions) least Ready φ → Lists
   of-push P h =
-      let i = push-span h in
+      let i = span h in
       let own : Span (pushPlace P) q = omega arith in
       record {
         pop-head = λ p a b. absurd (omega (arith, pop-first p, push-later P));
         pop-next = λ p a b. absurd (omega (arith, pop-first p, push-later P));
         push-head = λ p a b.
-            subst (λ (z : Push). pushPlace z + TO-NEXT ≤ q → itemOf (v (TaskHead t)) ≤ pushItems z regions)
-            (sym (push-at P q own) ∙ push-at p q (omega arith)) (pushed-head h) a;
+            subst (λ (z : Push). pushPlace z + TO-NEXT ≤ q → itemOf (v (TaskHead t)) ≤ howMany (pushItems z) regions)
+            (sym (push-at P q own) ∙ push-at p q (omega arith)) (λ b. noted-head h b .1) a;
       }

@@ -24,23 +24,17 @@ use Rattle.control.specs.declared.moves.Push.the-variants.{Retire, Back, Releas
 use Rattle.stepped.specs.Outcome.{Outcome, accept}
 use Rattle.stepped.specs.Ranges.{oneTo}
 use Rattle.stepped.specs.Lists as Lists
-use Rattle.stepped.specs.Lists.{popPlace, pushPlace}
+use Rattle.stepped.specs.Lists.{Items, descriptor-items, region-items, howMany, nextField, popPlace, popItems}
+use Rattle.stepped.specs.Lists.{pushPlace, pushItems}
 use Rattle.agreement.specs.Ends.{FindsEmpty, WinsPush, InPush}
 use Rattle.stepped.proofs.Conjunction.{left-true, right-true}
+use Rattle.agreement.proofs.ListMoves.{pop-first}
 use Rattle.agreement.proofs.Ways.{branch, PlaceEnding, going, Keeps, wrong, either, test, to, finish}
 
--- the places of the pops come before those of the push back
-before : (p : Pop) → popPlace p + TO-EXCHANGE < pushPlace Back
-before Partial = omega arith
-before Spare = omega arith
-before Region = omega arith
-
 -- the next of an item is no place
-next-keeps : (t : ℕ) (p : Push) (x y : ℕ) → Keeps t (Lists.pushNextField p x := y ∷ [])
-next-keeps t Retire x y u = refl
-next-keeps t Back x y u = refl
-next-keeps t Release x y u = refl
-next-keeps t Offer x y u = refl
+next-keeps : (t : ℕ) (items : Items) (x y : ℕ) → Keeps t (nextField items x := y ∷ [])
+next-keeps t descriptor-items x y u = refl
+next-keeps t region-items x y u = refl
 
 module _ (v : View) (t : ℕ) (fits : v (TaskClass t) < CLASSES) where
   abbrev c : ℕ
@@ -64,17 +58,17 @@ module _ (v : View) (t : ℕ) (fits : v (TaskClass t) < CLASSES) where
   pop-read p e =
       let item = itemOf (v (Head (Lists.popList p c))) in
       branch End (eqb item 0) (λ h. when-empty p (record { place = e; class = fits; empty = eqb-true item 0 h }))
-      (λ h. test (leb item (Lists.popItems p regions)) (to (popPlace p + TO-NEXT) (omega (arith, before p))
+      (λ h. test (leb item (howMany (popItems p) regions)) (to (popPlace p + TO-NEXT) (omega (arith, pop-first p))
       (λ u. refl)))
 
   pub pop-next : (p : Pop) → End (Lists.popNext v regions t c p)
   unfolding Lists.popNext Lists.popNextOf
   pop-next p =
       let item = itemOf (v (TaskHead t)) in
-      let items = Lists.popItems p regions in
+      let items = howMany (popItems p) regions in
       test (oneTo items item)
-      (test (leb (v (Lists.popNextField p (item - 1))) items)
-      (to (popPlace p + TO-EXCHANGE) (omega (arith, before p)) (λ u. refl)))
+      (test (leb (v (nextField (popItems p) (item - 1))) items)
+      (to (popPlace p + TO-EXCHANGE) (omega (arith, pop-first p)) (λ u. refl)))
 
   when-popped : (p : Pop) (x : ℕ) (e : Decided) (ws : List Write) → Keeps t ws
       → End (Lists.whenPopped v regions t c p x e ws)
@@ -86,13 +80,13 @@ module _ (v : View) (t : ℕ) (fits : v (TaskClass t) < CLASSES) where
   unfolding Lists.popExchange
   pop-exchange p =
       let ℓ = Lists.popList p c in
-      let items = Lists.popItems p regions in
+      let items = howMany (popItems p) regions in
       let word = v (TaskHead t) in
       let x = itemOf word - 1 in
       test (oneTo items (itemOf word) && leb (v (TaskNext t)) items && leb (itemOf (v (Head ℓ))) items)
       (either (eqb (v (Head ℓ)) word)
       (when-popped p x (popped ℓ x) (Head ℓ := advancedWord word (v (TaskNext t)) ∷ []) (λ u. refl))
-      (to (popPlace p) (omega (arith, before p)) (λ u. refl)))
+      (to (popPlace p) (omega (arith, pop-first p)) (λ u. refl)))
 
   -- ---- pushes
 
@@ -108,17 +102,17 @@ module _ (v : View) (t : ℕ) (fits : v (TaskClass t) < CLASSES) where
   pub push-read : (p : Push) → v (TaskPlace t) ≡ pushPlace p → End (Lists.pushRead v regions t c p)
   unfolding Lists.pushRead
   push-read p e =
-      test (leb (itemOf (v (Head (Lists.pushList p c)))) (Lists.pushItems p regions))
+      test (leb (itemOf (v (Head (Lists.pushList p c)))) (howMany (pushItems p) regions))
       (within p (pushPlace p + TO-NEXT) (omega arith) (omega arith) (λ u. refl))
 
   pub push-next : (p : Push) → v (TaskPlace t) ≡ pushPlace p + TO-NEXT → End (Lists.pushNext v regions t c p)
   unfolding Lists.pushNext
   push-next p e =
-      let x = v (Lists.itemField p t) in
+      let x = v (Lists.handField (pushItems p) t) in
       let below = itemOf (v (TaskHead t)) in
-      let items = Lists.pushItems p regions in
+      let items = howMany (pushItems p) regions in
       test (ltb x items && leb below items)
-      (within p (pushPlace p + TO-EXCHANGE) (omega arith) (omega arith) (next-keeps t p x below))
+      (within p (pushPlace p + TO-EXCHANGE) (omega arith) (omega arith) (next-keeps t (pushItems p) x below))
 
   -- free, steps 6 and 5
   f6 : (e : Decided) (ws : List Write) → Keeps t ws → End (Lists.f6 v regions t c e ws)
@@ -143,9 +137,9 @@ module _ (v : View) (t : ℕ) (fits : v (TaskClass t) < CLASSES) where
   unfolding Lists.pushExchange
   push-exchange p e =
       let ℓ = Lists.pushList p c in
-      let items = Lists.pushItems p regions in
+      let items = howMany (pushItems p) regions in
       let word = v (TaskHead t) in
-      let x = v (Lists.itemField p t) in
+      let x = v (Lists.handField (pushItems p) t) in
       let tests = ltb x items && leb (itemOf word) items in
       branch End (tests && leb (itemOf (v (Head ℓ))) items)
       (λ h.

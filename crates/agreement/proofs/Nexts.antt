@@ -5,16 +5,17 @@ use Prim.Native.Nat.{ℕ, _≤_, _<_}
 use native.Mathlib.Omega.{arith}
 use borrow.Author.Tests.{eq-eqb, ne-eqb}
 use Rattle.rows.proofs.Update.{update-same}
-use Rattle.fields.specs.Columns.{Field, View, _:=_, assigned}
+use Rattle.fields.specs.Columns.{View, _:=_, assigned}
 use Rattle.plain.specs.State.{Place, Mem}
 use Rattle.plain.specs.Moves.{nothing, going}
 use Rattle.plain.specs.Steps.{atPlace}
-use Rattle.plain.specs.Held.{holdsDescriptor, holdsRegion}
 use Rattle.plain.proofs.Places.{taskOf}
 use Rattle.control.specs.Layout.{DescriptorNext, RegionNext, TaskPlace}
 use Rattle.stepped.specs.Outcome.{accept}
+use Rattle.stepped.specs.Lists.{Items, descriptor-items, region-items, howMany, nextField}
 use Rattle.agreement.specs.Contents.{Slot, Contents, slotOf, contentsOf}
-use Rattle.agreement.specs.Relation.{PlaceRelated}
+use Rattle.agreement.specs.Relation.{nexts, PlaceRelated}
+use Rattle.agreement.proofs.HeldItems.{HoldsItem}
 use Rattle.agreement.proofs.Slots.{toPlace}
 use Rattle.agreement.proofs.Sets.{setSlot, setDescriptorNext, setRegionNext}
 use Rattle.agreement.proofs.Bridge.{descriptorNext-written, regionNext-written}
@@ -23,41 +24,30 @@ use Rattle.agreement.proofs.Changes.{dnexting, rnexting}
 use Rattle.agreement.proofs.Both.{Both}
 use Rattle.agreement.proofs.Turns.{At}
 use Rattle.agreement.proofs.Sharing.{shares}
-use Rattle.agreement.proofs.Heads.{Kind, descriptors, spare-regions}
 
 -- the memories with another next of the item x
-abbrev pub setNext : {regions ℓ items : ℕ} {nx : ℕ → Field} {column : Contents → ℕ → ℕ} → Kind regions ℓ items nx column
-    → ℕ → ℕ → Contents → Contents
-setNext (descriptors l) = setDescriptorNext
-setNext spare-regions = setRegionNext
+abbrev pub setNext : Items → ℕ → ℕ → Contents → Contents
+setNext descriptor-items = setDescriptorNext
+setNext region-items = setRegionNext
 
--- the item x is held at the place p
-abbrev pub HoldsItem : {regions ℓ items : ℕ} {nx : ℕ → Field} {column : Contents → ℕ → ℕ}
-    → Kind regions ℓ items nx column
-    → ℕ → Place → Type 0
-HoldsItem (descriptors l) x p = 1 ≤ holdsDescriptor x p
-HoldsItem spare-regions x p = 1 ≤ holdsRegion x p
-
-pub next-set : {regions ℓ items : ℕ} {nx : ℕ → Field} {column : Contents → ℕ → ℕ} (K : Kind regions ℓ items nx column)
-    (t : ℕ) (s : Slot) (x n : ℕ) (a : Contents) → column (setSlot t s (setNext K x n a)) x ≡ n
-next-set (descriptors l) t s x n a = update-same (a .lists .descriptorNext) x n
-next-set spare-regions t s x n a = update-same (a .lists .regionNext) x n
+pub next-set : (items : Items) (t : ℕ) (s : Slot) (x n : ℕ) (a : Contents)
+    → nexts items (setSlot t s (setNext items x n a)) x ≡ n
+next-set descriptor-items t s x n a = update-same (a .lists .descriptorNext) x n
+next-set region-items t s x n a = update-same (a .lists .regionNext) x n
 
 module _ {regions : ℕ} {v : View} {area : List ℕ} {m : Mem} {t : ℕ} {p : Place} {k : ℕ → List ℕ}
     (w : At regions v area m t p k) where
-  pub held-below : {ℓ items : ℕ} {nx : ℕ → Field} {column : Contents → ℕ → ℕ} (K : Kind regions ℓ items nx column)
-      (x : ℕ)
-      → HoldsItem K x p → x < items
-  held-below (descriptors l) x h = descriptor-in-hand (w .pair .turn) x h
-  held-below spare-regions x h = region-in-hand (w .pair .turn) x h
+  pub held-below : (items : Items) (x : ℕ) → HoldsItem items x p → x < howMany items regions
+  held-below descriptor-items x h = descriptor-in-hand (w .pair .turn) x h
+  held-below region-items x h = region-in-hand (w .pair .turn) x h
 
   -- the next of the item x is written, and the task goes to the place p′, whose number is b
-  pub writes-next : {ℓ items : ℕ} {nx : ℕ → Field} {column : Contents → ℕ → ℕ} (K : Kind regions ℓ items nx column)
-      (x n b : ℕ) (p′ : Place) → HoldsItem K x p → n ≤ items → b < 256
-      → PlaceRelated regions (setSlot t (toPlace b (slotOf v t)) (setNext K x n (contentsOf v area))) (atPlace t k p′ m)
-      (toPlace b (slotOf v t)) p′
-      → Both regions v area m (accept nothing (TaskPlace t := b ∷ nx x := n ∷ []) []) (atPlace t k p′ m, going nothing)
-  writes-next (descriptors l) x n b p′ h i j pl =
+  pub writes-next : (items : Items) (x n b : ℕ) (p′ : Place) → HoldsItem items x p → n ≤ howMany items regions → b < 256
+      → PlaceRelated regions (setSlot t (toPlace b (slotOf v t)) (setNext items x n (contentsOf v area)))
+      (atPlace t k p′ m) (toPlace b (slotOf v t)) p′
+      → Both regions v area m (accept nothing (TaskPlace t := b ∷ nextField items x := n ∷ []) [])
+      (atPlace t k p′ m, going nothing)
+  writes-next descriptor-items x n b p′ h i j pl =
       let ws = TaskPlace t := b ∷ DescriptorNext x := n ∷ [] in
       let s = toPlace b (slotOf v t) in
       record {
@@ -70,7 +60,7 @@ module _ {regions : ℕ} {v : View} {area : List ℕ} {m : Mem} {t : ℕ} {p : P
         sound = omega (arith, w .pair .turn .fits, descriptor-in-hand (w .pair .turn) x h);
         apart = tt;
       }
-  writes-next spare-regions x n b p′ h i j pl =
+  writes-next region-items x n b p′ h i j pl =
       let ws = TaskPlace t := b ∷ RegionNext x := n ∷ [] in
       let s = toPlace b (slotOf v t) in
       record {

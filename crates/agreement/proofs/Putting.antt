@@ -4,7 +4,7 @@ use mathlib.Core.List.{List, [], _∷_}
 use Prim.Native.Nat.{ℕ, _+_, _<_}
 use native.Mathlib.Omega.{arith}
 use borrow.Author.Tests.{eq-eqb, ne-eqb}
-use Rattle.fields.specs.Columns.{Field, View, _:=_, assigned, Sound}
+use Rattle.fields.specs.Columns.{View, _:=_, assigned, Sound}
 use Rattle.words.specs.Head.{headOf, advancedWord}
 use Rattle.words.proofs.Heads.{advancedWord-below}
 use Rattle.plain.specs.State.{State, stateNumber, read, offer, Place, pushing, f1, f2, Mem, setRow, working}
@@ -15,25 +15,28 @@ use Rattle.control.specs.Layout.{TaskState}
 use Rattle.control.specs.Places.{PUSH-OFFER, F1, F2}
 use Rattle.control.specs.Answers.{codeOf, valueOf}
 use Rattle.control.specs.declared.answer.Answer.{Answer}
+use Rattle.control.specs.declared.moves.Push.the-variants.{Offer}
 use Rattle.stepped.specs.Outcome.{over}
 use Rattle.stepped.specs.Lists as Lists
-use Rattle.agreement.specs.Contents.{Contents, slotOf, contentsOf}
-use Rattle.agreement.specs.Relation.{PushRelated, PlaceRelated, Related, r-offer, r-f1, r-f2, r-working}
+use Rattle.stepped.specs.Lists.{Items}
+use Rattle.agreement.specs.Contents.{slotOf, contentsOf}
+use Rattle.agreement.specs.Relation.{at-read, r-pushing, r-f1, r-f2, PlaceRelated, r-working, Related}
+use Rattle.agreement.proofs.ListMoves.{ListOf}
 use Rattle.agreement.proofs.Slots.{toPlace, toGrouped}
 use Rattle.agreement.proofs.Sets.{setSlot, setHead}
 use Rattle.agreement.proofs.Bridge.{head-written}
 use Rattle.agreement.proofs.Both.{Both}
 use Rattle.agreement.proofs.Turns.{At}
 use Rattle.agreement.proofs.Following.{six, five}
-use Rattle.agreement.proofs.Heads.{Kind, list-of, Won, wins}
+use Rattle.agreement.proofs.Heads.{list-of, Won, wins}
 
 -- the head word that it writes
 abbrev pub advanced : View → ℕ → ℕ → ℕ
 advanced v t x = advancedWord (v (TaskHead t)) (x + 1)
 
 module _ {regions : ℕ} {v : View} {area : List ℕ} {m : Mem} {t : ℕ} {p : Place} {k : ℕ → List ℕ}
-    (w : At regions v area m t p k) {ℓ items : ℕ} {nx : ℕ → Field} {column : Contents → ℕ → ℕ} {q : List ℕ}
-    (K : Kind regions ℓ items nx column) (x : ℕ) (W : Won v m t ℓ nx (x + 1) q) where
+    (w : At regions v area m t p k) {items : Items} {ℓ : ℕ} {q : List ℕ} (K : ListOf items ℓ) (x : ℕ)
+    (W : Won v m t items ℓ (x + 1) q) where
   exchange-sound : Sound layout (Head ℓ := advanced v t x ∷ [])
   exchange-sound =
       omega (arith, list-of w K .below, advancedWord-below (v (TaskHead t)) (x + 1) (omega (arith, W .most)))
@@ -100,4 +103,4 @@ module _ {regions : ℕ} {v : View} {area : List ℕ} {m : Mem} {t : ℕ} {p : P
       five w e (Head ℓ := advanced v t x ∷ []) (setRow ℓ q m) u exchange-sound (refl, refl)
       (leads F1 (working (f1 c u)) (r-working (r-f1 refl))) leads-f2
       (v (TaskState t)) z d f
-      (leads PUSH-OFFER (working (pushing (offer c u d) read)) (r-working (r-offer (PushRelated.at-read refl))))
+      (leads PUSH-OFFER (working (pushing (offer c u d) read)) (r-working (r-pushing Offer z tt (at-read refl))))

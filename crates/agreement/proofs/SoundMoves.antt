@@ -15,7 +15,6 @@ use Rattle.words.proofs.Heads.{advancedWord-below}
 use Rattle.classes.specs.Classes.{perRegion}
 use Rattle.plain.specs.Moves.{Decided}
 use Rattle.control.specs.Layout.{layout, Head, TaskHead, TaskPlace, TaskNext, TaskState, CacheCount}
-use Rattle.control.specs.Places.{POP-REGION, PUSH-OFFER}
 use Rattle.control.specs.declared.moves.Pop.{Pop}
 use Rattle.control.specs.declared.moves.Pop.the-variants.{Partial, Spare, Region}
 use Rattle.control.specs.declared.moves.Push.{Push}
@@ -23,9 +22,10 @@ use Rattle.control.specs.declared.moves.Push.the-variants.{Retire, Back, Releas
 use Rattle.stepped.specs.Outcome.{Outcome, refuse, bad}
 use Rattle.stepped.specs.Ranges.{oneTo}
 use Rattle.stepped.specs.Lists as Lists
-use Rattle.stepped.specs.Lists.{popPlace, popList, popItems, popNextField, pushPlace, pushList, pushItems}
-use Rattle.stepped.specs.Lists.{pushNextField, itemField}
+use Rattle.stepped.specs.Lists.{Items, descriptor-items, region-items, howMany, nextField, handField, popList, popItems}
+use Rattle.stepped.specs.Lists.{pushList, pushItems}
 use Rattle.stepped.proofs.Conjunction.{left-true, right-true}
+use Rattle.agreement.proofs.ListMoves.{pop-first, push-later, popped-list, pushed-list, below-lists, most-items}
 use Rattle.agreement.proofs.Both.{Fitting}
 use Rattle.agreement.proofs.Ways.{branch}
 
@@ -60,6 +60,16 @@ test {t} b h = branch (Fit t) b h (λ e. none)
 
 module _ (v : View) (fits : Fitting v) {regions t c : ℕ} (few : regions ≤ REGIONS) (task : t < TASKS)
     (class : c < CLASSES) where
+  -- a move's list is one of the lists, and no list has more items than there are descriptors
+  pop-below : (p : Pop) → popList p c < LISTS
+  pop-below p = below-lists (popped-list p c class)
+
+  push-below : (p : Push) → pushList p c < LISTS
+  push-below p = below-lists (pushed-list p c class)
+
+  most : (items : Items) → howMany items regions ≤ DESCRIPTORS
+  most items = most-items items few
+
   -- ---- the end of a free's return
 
   pub f6 : (e : Decided) (ws : List Write) → Written t ws → Fit t (Lists.f6 v regions t c e ws)
@@ -78,21 +88,6 @@ module _ (v : View) (fits : Fitting v) {regions t c : ℕ} (few : regions ≤ RE
 
   -- ---- pops
 
-  pop-place : (p : Pop) → popPlace p ≤ POP-REGION
-  pop-place Partial = omega arith
-  pop-place Spare = omega arith
-  pop-place Region = omega arith
-
-  pop-list : (p : Pop) → popList p c < LISTS
-  pop-list Partial = omega (arith, class)
-  pop-list Spare = omega arith
-  pop-list Region = omega arith
-
-  pop-items : (p : Pop) → popItems p regions ≤ DESCRIPTORS
-  pop-items Partial = omega arith
-  pop-items Spare = omega arith
-  pop-items Region = omega (arith, few)
-
   when-empty : (p : Pop) (e : Decided) → Fit t (Lists.whenEmpty v regions t c p e)
   when-empty Partial e = record { sound = omega (arith, task); own = omega arith }
   when-empty Spare e = record { sound = omega (arith, task); own = omega arith }
@@ -103,9 +98,9 @@ module _ (v : View) (fits : Fitting v) {regions t c : ℕ} (few : regions ≤ RE
   pop-read p =
       let word = v (Head (popList p c)) in
       branch (Fit t) (eqb (itemOf word) 0) (λ e. when-empty p _)
-      (λ e. test (leb (itemOf word) (popItems p regions)) (λ h.
+      (λ e. test (leb (itemOf word) (howMany (popItems p) regions)) (λ h.
       record {
-        sound = omega (arith, task, pop-place p, fits (Head (popList p c)) (omega (arith, pop-list p)));
+        sound = omega (arith, task, pop-first p, fits (Head (popList p c)) (omega (arith, pop-below p)));
         own =
             omega arith;
       }))
@@ -114,10 +109,10 @@ module _ (v : View) (fits : Fitting v) {regions t c : ℕ} (few : regions ≤ RE
   unfolding Lists.popNext Lists.popNextOf
   pop-next p =
       let item = itemOf (v (TaskHead t)) in
-      let next = v (popNextField p (item - 1)) in
-      let items = popItems p regions in
+      let next = v (nextField (popItems p) (item - 1)) in
+      let items = howMany (popItems p) regions in
       test (oneTo items item) (λ h. test (leb next items) (λ i.
-      record { sound = omega (arith, task, pop-place p, pop-items p, leb-true next items i); own = omega arith }))
+      record { sound = omega (arith, task, pop-first p, most (popItems p), leb-true next items i); own = omega arith }))
 
   when-popped : (p : Pop) (x : ℕ) (e : Decided) (ws : List Write) → x < 256 → Written t ws
       → Fit t (Lists.whenPopped v regions t c p x e ws)
@@ -132,7 +127,7 @@ module _ (v : View) (fits : Fitting v) {regions t c : ℕ} (few : regions ≤ RE
   unfolding Lists.popExchange
   pop-exchange p =
       let ℓ = popList p c in
-      let items = popItems p regions in
+      let items = howMany (popItems p) regions in
       let word = v (TaskHead t) in
       let next = v (TaskNext t) in
       let item = oneTo items (itemOf word) in
@@ -144,46 +139,27 @@ module _ (v : View) (fits : Fitting v) {regions t c : ℕ} (few : regions ≤ RE
       (left-true item noted (left-true (item && noted) found h)) in
       let few-next = leb-true next items (right-true item noted (left-true (item && noted) found h)) in
       branch (Fit t) (eqb (v (Head ℓ)) word)
-      (λ e. when-popped p _ _ _ (omega (arith, pop-items p, leb-true (itemOf word) items one))
+      (λ e. when-popped p _ _ _ (omega (arith, most (popItems p), leb-true (itemOf word) items one))
       (record {
-        sound = omega (arith, pop-list p, advancedWord-below word next (omega (arith, pop-items p, few-next)));
+        sound = omega (arith, pop-below p, advancedWord-below word next (omega (arith, most (popItems p), few-next)));
         own = omega arith;
       }))
-      (λ e. record { sound = omega (arith, task, pop-place p); own = omega arith }))
+      (λ e. record { sound = omega (arith, task, pop-first p); own = omega arith }))
 
   -- ---- pushes
 
-  push-place : (p : Push) → pushPlace p ≤ PUSH-OFFER
-  push-place Retire = omega arith
-  push-place Back = omega arith
-  push-place Release = omega arith
-  push-place Offer = omega arith
-
-  push-list : (p : Push) → pushList p c < LISTS
-  push-list Retire = omega arith
-  push-list Back = omega arith
-  push-list Release = omega arith
-  push-list Offer = omega (arith, class)
-
-  push-items : (p : Push) → pushItems p regions ≤ DESCRIPTORS
-  push-items Retire = omega arith
-  push-items Back = omega arith
-  push-items Release = omega (arith, few)
-  push-items Offer = omega arith
-
   -- an item's next
-  item-next : (p : Push) (x : ℕ) → x < pushItems p regions → (y : ℕ) → y < 256 → Written t (pushNextField p x := y ∷ [])
-  item-next Retire x h y l = record { sound = omega (arith, h, l); own = omega arith }
-  item-next Back x h y l = record { sound = omega (arith, h, l); own = omega arith }
-  item-next Release x h y l = record { sound = omega (arith, few, h, l); own = omega arith }
-  item-next Offer x h y l = record { sound = omega (arith, h, l); own = omega arith }
+  item-next : (items : Items) (x : ℕ) → x < howMany items regions → (y : ℕ) → y < 256
+      → Written t (nextField items x := y ∷ [])
+  item-next descriptor-items x h y l = record { sound = omega (arith, h, l); own = omega arith }
+  item-next region-items x h y l = record { sound = omega (arith, few, h, l); own = omega arith }
 
   pub push-read : (p : Push) → Fit t (Lists.pushRead v regions t c p)
   unfolding Lists.pushRead
   push-read p =
-      test (leb (itemOf (v (Head (pushList p c)))) (pushItems p regions)) (λ h.
+      test (leb (itemOf (v (Head (pushList p c)))) (howMany (pushItems p) regions)) (λ h.
       record {
-        sound = omega (arith, task, push-place p, fits (Head (pushList p c)) (omega (arith, push-list p)));
+        sound = omega (arith, task, push-later p, fits (Head (pushList p c)) (omega (arith, push-below p)));
         own =
             omega arith;
       })
@@ -191,15 +167,15 @@ module _ (v : View) (fits : Fitting v) {regions t c : ℕ} (few : regions ≤ RE
   pub push-next : (p : Push) → Fit t (Lists.pushNext v regions t c p)
   unfolding Lists.pushNext
   push-next p =
-      let x = v (itemField p t) in
+      let x = v (handField (pushItems p) t) in
       let below = itemOf (v (TaskHead t)) in
-      let items = pushItems p regions in
+      let items = howMany (pushItems p) regions in
       test (ltb x items && leb below items) (λ h.
       let y = leb-true below items (right-true (ltb x items) (leb below items) h) in
       let w =
-      item-next p x (ltb-true x items (left-true (ltb x items) (leb below items) h)) below
-      (omega (arith, y, push-items p)) in
-      record { sound = (omega (arith, task, push-place p), w .sound); own = (refl, w .own) })
+      item-next (pushItems p) x (ltb-true x items (left-true (ltb x items) (leb below items) h)) below
+      (omega (arith, y, most (pushItems p))) in
+      record { sound = (omega (arith, task, push-later p), w .sound); own = (refl, w .own) })
 
   when-pushed : (p : Push) (e : Decided) (ws : List Write) → Written t ws
       → Fit t (Lists.whenPushed v regions t c p e ws)
@@ -212,9 +188,9 @@ module _ (v : View) (fits : Fitting v) {regions t c : ℕ} (few : regions ≤ RE
   unfolding Lists.pushExchange
   push-exchange p =
       let ℓ = pushList p c in
-      let items = pushItems p regions in
+      let items = howMany (pushItems p) regions in
       let word = v (TaskHead t) in
-      let x = v (itemField p t) in
+      let x = v (handField (pushItems p) t) in
       let item = ltb x items in
       let noted = leb (itemOf word) items in
       let found = leb (itemOf (v (Head ℓ))) items in
@@ -223,7 +199,7 @@ module _ (v : View) (fits : Fitting v) {regions t c : ℕ} (few : regions ≤ RE
       branch (Fit t) (eqb (v (Head ℓ)) word)
       (λ e. when-pushed p _ _
       (record {
-        sound = omega (arith, push-list p, advancedWord-below word (x + 1) (omega (arith, push-items p, low)));
+        sound = omega (arith, push-below p, advancedWord-below word (x + 1) (omega (arith, most (pushItems p), low)));
         own = omega arith;
       }))
-      (λ e. record { sound = omega (arith, task, push-place p); own = omega arith }))
+      (λ e. record { sound = omega (arith, task, push-later p); own = omega arith }))

@@ -8,20 +8,17 @@ use lib.Dec.{ltb}
 use Rattle.limits.specs.Limits.{REGIONS, TASKS, CLASSES}
 use Rattle.fields.specs.Columns.{View}
 use Rattle.links.specs.Link.{link}
-use Rattle.plain.specs.State.{EMPTY, Place, Mem, Work, working}
+use Rattle.plain.specs.State.{Place, Mem, Work, working}
 use Rattle.plain.specs.Steps as Steps
 use Rattle.plain.specs.Invariant.{Invariant}
 use Rattle.plain.specs.Noted.{notedAt, noted}
 use Rattle.control.specs.Layout.{TaskPlace, TaskClass}
 use Rattle.control.specs.Places.{IDLE}
-use Rattle.control.specs.declared.moves.Pop.the-variants.{Partial, Spare, Region}
-use Rattle.control.specs.declared.moves.Push.the-variants.{Retire, Back, Release, Offer}
 use Rattle.stepped.specs.Steps as Stepped
 use Rattle.agreement.specs.Contents.{slotOf, contentsOf}
-use Rattle.agreement.specs.Relation.{PlaceRelated, r-idle, r-a1, r-partial, r-spare, r-region, r-retire, r-back}
-use Rattle.agreement.specs.Relation.{r-release, r-offer, r-a3-read, r-a3-exchange, r-a4, r-a7, r-a8, r-f1, r-f2}
-use Rattle.agreement.specs.Relation.{r-f2-more, r-f3-read, r-f3-link, r-f3-exchange, r-f4-clear, Related}
-use Rattle.agreement.specs.Relation.{WorkRelated, r-working}
+use Rattle.agreement.specs.Relation.{WorkRelated, r-a1, r-popping, r-pushing, r-a3-read, r-a3-exchange, r-a4}
+use Rattle.agreement.specs.Relation.{r-a7, r-a8, r-f1, r-f2, r-f2-more, r-f3-read, r-f3-link, r-f3-exchange}
+use Rattle.agreement.specs.Relation.{r-f4-clear, PlaceRelated, r-idle, r-working, Related}
 use Rattle.agreement.specs.Events
 use Rattle.agreement.proofs.Both.{Both, Fitting, pass, choose}
 use Rattle.agreement.proofs.Turns.{At}
@@ -47,13 +44,8 @@ module _ {regions : ℕ} {v : View} {area : List ℕ} {m : Mem} {t : ℕ} {k : �
       (Steps.stepAt t k p m)
   unfolding Stepped.stepAt
   work-both w (r-a1 e) n = rw e (a1-both w)
-  work-both w (r-partial h) n = pop-both (link area) Partial w h n
-  work-both w (r-spare h) n = pop-both (link area) Spare w h n
-  work-both w (r-region h) n = pop-both (link area) Region w h n
-  work-both w (r-retire h) n = push-both (link area) Retire EMPTY w tt h n
-  work-both w (r-back h) n = push-both (link area) Back EMPTY w tt h n
-  work-both w (r-release {w = z} e h) n = push-both (link area) Release z w e h n
-  work-both w (r-offer h) n = push-both (link area) Offer EMPTY w tt h n
+  work-both w (r-popping P h) n = pop-both (link area) P w h n
+  work-both w (r-pushing P z f h) n = push-both (link area) P z w f h n
   work-both w (r-a3-read e) n = rw e (a3-read-both w)
   work-both w (r-a3-exchange e N i j l o) n = rw e (a3-exchange-both w N i j l o)
   work-both w (r-a4 e l i h) n = rw e (a4-both w e l i h)

@@ -30,7 +30,8 @@ use Rattle.stepped.specs.Ranges
 use Rattle.stepped.specs.Ranges.{isTop}
 use Rattle.stepped.specs.Allocate as Allocate
 use Rattle.agreement.specs.Contents.{Contents, slotOf, contentsOf}
-use Rattle.agreement.specs.Relation.{PopRelated, Related, r-idle, r-partial, r-working}
+use Rattle.control.specs.declared.moves.Pop.the-variants.{Partial}
+use Rattle.agreement.specs.Relation.{at-read, r-popping, r-idle, r-working, Related}
 use Rattle.agreement.proofs.Slots.{toPlace, toCache}
 use Rattle.agreement.proofs.Sets.{setMark}
 use Rattle.agreement.proofs.Bridge.{mark-set-written}
@@ -119,7 +120,7 @@ module _ {regions : ℕ} {v : View} {area : List ℕ} {m : Mem} {t : ℕ} {k : �
             goes w (TaskPlace t := POP-PARTIAL ∷ []) (toPlace POP-PARTIAL (slotOf v t))
             (working (popping (partial c) read)) refl
             (rw (eq-eqb t t refl)) (λ j d. rw (ne-eqb t j d)) refl refl
-            (r-working (r-partial (PopRelated.at-read refl)));
+            (r-working (r-popping Partial (at-read refl)));
         sound = omega (arith, w .pair .turn .fits);
         apart = tt;
       })

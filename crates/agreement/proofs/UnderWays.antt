@@ -18,12 +18,13 @@ use Rattle.plain.proofs.Places.{placeHolds}
 use Rattle.control.specs.Places.{IDLE, A1, A3-READ, A3-EXCHANGE, A4, A7, A8, F1, F2, F3-READ, F3-LINK, F3-EXCHANGE}
 use Rattle.control.specs.Places.{F4-CLEAR}
 use Rattle.control.specs.Places.{TO-NEXT, TO-EXCHANGE}
+use Rattle.control.specs.declared.moves.Pop.the-variants.{Partial, Spare, Region}
+use Rattle.control.specs.declared.moves.Push.the-variants.{Retire, Back, Release, Offer}
 use Rattle.agreement.specs.Contents.{Contents}
-use Rattle.agreement.specs.Relation.{PopRelated, PushRelated, GroupRelated, PlaceRelated, r-idle, r-a1, r-partial}
-use Rattle.agreement.specs.Relation.{r-spare, r-region, r-retire, r-back, r-release, r-offer, r-a3-read}
-use Rattle.agreement.specs.Relation.{r-a3-exchange, r-a4, r-a7, r-a8, r-f1, r-f2, r-f2-more, r-f3-read, r-f3-link}
-use Rattle.agreement.specs.Relation.{r-f3-exchange, r-f4-clear, WorkRelated}
-use Rattle.agreement.specs.Relation.{r-working}
+use Rattle.agreement.specs.Relation.{MoveRelated, at-read, at-next, at-exchange, GroupRelated, WorkRelated, r-a1}
+use Rattle.agreement.specs.Relation.{r-popping, r-pushing, r-a3-read, r-a3-exchange, r-a4, r-a7, r-a8, r-f1, r-f2}
+use Rattle.agreement.specs.Relation.{r-f2-more, r-f3-read, r-f3-link, r-f3-exchange, r-f4-clear, PlaceRelated}
+use Rattle.agreement.specs.Relation.{r-idle, r-working}
 use Rattle.agreement.specs.Observe.{underWays, blocksAt}
 use Rattle.agreement.proofs.Couple.{Pair}
 use Rattle.agreement.proofs.Groups.{of-region}
@@ -55,32 +56,25 @@ module _ {regions : ℕ} {a : Contents} {m : Mem} {t : ℕ} {k : ℕ → List �
   at-place w n q e h = ap (λ (z : ℕ). blocksAt (underWays (a .slot t) a) z) e ∙ h
 
   -- so it is at the three places of a list move
-  in-pop : {p : Place} {b ℓ items : ℕ} {φ : Phase} (w : Pair regions a m t p k)
-      → (blocksAt (underWays (a .slot t) a) b ≡ []) × (blocksAt (underWays (a .slot t) a) (b + TO-NEXT) ≡ [])
-      × (blocksAt (underWays (a .slot t) a) (b + TO-EXCHANGE) ≡ [])
-      → PopRelated m (a .slot t) b ℓ items φ → blocksAt (underWays (a .slot t) a) (a .slot t .place) ≡ []
-  in-pop {b = b} w h (PopRelated.at-read e) = at-place w b [] e (h .0)
-  in-pop {b = b} w h (PopRelated.at-next e N i l) = at-place w (b + TO-NEXT) [] e (h .1)
-  in-pop {b = b} w h (PopRelated.at-exchange e N i l x f) = at-place w (b + TO-EXCHANGE) [] e (h .2)
-
-  in-push : {p : Place} {b ℓ items z : ℕ} {nx : ℕ → ℕ} {φ : Phase} (w : Pair regions a m t p k) (q : List ℕ)
+  in-move : {p : Place} {b ℓ items least : ℕ} {Ready : ℕ → Type 0} {φ : Phase} (w : Pair regions a m t p k) (q : List ℕ)
       → (blocksAt (underWays (a .slot t) a) b ≡ q) × (blocksAt (underWays (a .slot t) a) (b + TO-NEXT) ≡ q)
       × (blocksAt (underWays (a .slot t) a) (b + TO-EXCHANGE) ≡ q)
-      → PushRelated m (a .slot t) b ℓ items z nx φ → blocksAt (underWays (a .slot t) a) (a .slot t .place) ≡ q
-  in-push {b = b} w q h (PushRelated.at-read e) = at-place w b q e (h .0)
-  in-push {b = b} w q h (PushRelated.at-next e N l) = at-place w (b + TO-NEXT) q e (h .1)
-  in-push {b = b} w q h (PushRelated.at-exchange e N l f) = at-place w (b + TO-EXCHANGE) q e (h .2)
+      → MoveRelated m (a .slot t) b ℓ items least Ready φ
+      → blocksAt (underWays (a .slot t) a) (a .slot t .place) ≡ q
+  in-move {b = b} w q h (at-read e) = at-place w b q e (h .0)
+  in-move {b = b} w q h (at-next e N i l) = at-place w (b + TO-NEXT) q e (h .1)
+  in-move {b = b} w q h (at-exchange e N i l r) = at-place w (b + TO-EXCHANGE) q e (h .2)
 
   at-work : {p : Work} (w : Pair regions a m t (working p) k) → WorkRelated regions a m (a .slot t) p
       → blocksAt (underWays (a .slot t) a) (a .slot t .place) ≡ underWay (working p)
   at-work w (r-a1 e) = at-place w A1 [] e refl
-  at-work w (r-partial h) = in-pop w (refl, refl, refl) h
-  at-work w (r-spare h) = in-pop w (refl, refl, refl) h
-  at-work w (r-region h) = in-pop w (refl, refl, refl) h
-  at-work w (r-retire h) = in-push w [] (refl, refl, refl) h
-  at-work w (r-back h) = in-push w [] (refl, refl, refl) h
-  at-work w (r-release i h) = in-push w (a .slot t .unit ∷ []) (refl, refl, refl) h
-  at-work w (r-offer h) = in-push w (a .slot t .unit ∷ []) (refl, refl, refl) h
+  at-work w (r-popping Partial h) = in-move w [] (refl, refl, refl) h
+  at-work w (r-popping Spare h) = in-move w [] (refl, refl, refl) h
+  at-work w (r-popping Region h) = in-move w [] (refl, refl, refl) h
+  at-work w (r-pushing Retire z f h) = in-move w [] (refl, refl, refl) h
+  at-work w (r-pushing Back z f h) = in-move w [] (refl, refl, refl) h
+  at-work w (r-pushing Release z f h) = in-move w (a .slot t .unit ∷ []) (refl, refl, refl) h
+  at-work w (r-pushing Offer z f h) = in-move w (a .slot t .unit ∷ []) (refl, refl, refl) h
   at-work w (r-a3-read e) = at-place w A3-READ [] e refl
   at-work w (r-a3-exchange e N i j l o) = at-place w A3-EXCHANGE [] e refl
   at-work w (r-a4 {x = x} {q = q} e l n f) =

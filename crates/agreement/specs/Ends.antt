@@ -19,7 +19,7 @@ use Rattle.control.specs.declared.answer.Answer.the-variants.{Refused}
 use Rattle.control.specs.declared.moves.Pop.{Pop}
 use Rattle.control.specs.declared.moves.Push.{Push}
 use Rattle.stepped.specs.Outcome.{Outcome, Memories, Effect}
-use Rattle.stepped.specs.Lists.{popPlace, popList, pushPlace, pushList, pushItems, itemField}
+use Rattle.stepped.specs.Lists.{howMany, handField, popPlace, popList, pushPlace, pushList, pushItems}
 
 -- ---- refusals
 
@@ -101,8 +101,8 @@ pub record FindsEmpty (p : Pop) (v : View) (t : ℕ) : Type 0 where
 pub record WinsPush (p : Push) (v : View) (t : ℕ) : Type 0 where
   pub place : v (TaskPlace t) ≡ pushPlace p + TO-EXCHANGE
   pub class : v (TaskClass t) < CLASSES
-  pub item : v (itemField p t) < pushItems p (v Regions)
-  pub noted : itemOf (v (TaskHead t)) ≤ pushItems p (v Regions)
+  pub item : v (handField (pushItems p) t) < howMany (pushItems p) (v Regions)
+  pub noted : itemOf (v (TaskHead t)) ≤ howMany (pushItems p) (v Regions)
   pub same : v (Head (pushList p (v (TaskClass t)))) ≡ v (TaskHead t)
 
 -- one of the three places of the push p

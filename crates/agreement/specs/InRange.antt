@@ -20,7 +20,7 @@ use Rattle.control.specs.Places.{TO-NEXT, TO-EXCHANGE}
 use Rattle.control.specs.declared.moves.Pop.{Pop}
 use Rattle.control.specs.declared.moves.Push.{Push}
 use Rattle.stepped.specs.Ranges.{isBlock, isTop}
-use Rattle.stepped.specs.Lists.{popPlace, popItems, pushPlace, pushItems}
+use Rattle.stepped.specs.Lists.{howMany, popPlace, popItems, pushPlace, pushItems}
 use Rattle.stepped.specs.Outcome.{Memories}
 use Rattle.plain.specs.Calls.{Pool}
 use Rattle.agreement.specs.Events.{Event, stepped}
@@ -40,11 +40,11 @@ AtPlaces v t a b X = a ≤ v (TaskPlace t) → v (TaskPlace t) ≤ b → X
 -- the noted head's item, where a pop has one, and the noted next: a number plus one, or 0
 pub record ListsInRange (regions : ℕ) (v : View) (t : ℕ) : Type 0 where
   pub pop-head : (p : Pop) → AtPlaces v t (popPlace p + TO-NEXT) (popPlace p + TO-EXCHANGE)
-      (OneTo (popItems p regions) (itemOf (v (TaskHead t))))
+      (OneTo (howMany (popItems p) regions) (itemOf (v (TaskHead t))))
   pub pop-next : (p : Pop) → AtPlaces v t (popPlace p + TO-EXCHANGE) (popPlace p + TO-EXCHANGE)
-      (v (TaskNext t) ≤ popItems p regions)
+      (v (TaskNext t) ≤ howMany (popItems p) regions)
   pub push-head : (p : Push) → AtPlaces v t (pushPlace p + TO-NEXT) (pushPlace p + TO-EXCHANGE)
-      (itemOf (v (TaskHead t)) ≤ pushItems p regions)
+      (itemOf (v (TaskHead t)) ≤ howMany (pushItems p) regions)
 
 -- its place, and what it has in hand beside blocks
 pub record HandInRange (regions : ℕ) (v : View) (t : ℕ) : Type 0 where

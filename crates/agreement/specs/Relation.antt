@@ -3,8 +3,8 @@ use mathlib.Core.Path.{_≡_}
 use mathlib.Core.List.{List, [], _∷_, _++_}
 use Prim.Native.Nat.{ℕ, zero, suc, _+_, _*_, _%_, _≤_, _<_}
 use lib.ListN.{length}
-use Rattle.limits.specs.Limits.{REGION-BYTES, UNITS, TASKS, CLASSES, DESCRIPTORS, MOST-BLOCKS, TAGS, SPARE-DESCRIPTORS}
-use Rattle.limits.specs.Limits.{SPARE-REGIONS, DESCRIPTOR-LISTS, LISTS}
+use Rattle.limits.specs.Limits.{REGION-BYTES, UNITS, TASKS, CLASSES, DESCRIPTORS, MOST-BLOCKS, TAGS, SPARE-REGIONS}
+use Rattle.limits.specs.Limits.{DESCRIPTOR-LISTS, LISTS}
 use Rattle.rows.specs.Counting.{count}
 use Rattle.rows.specs.Linked.{Linked}
 use Rattle.classes.specs.Classes.{perRegion}
@@ -13,18 +13,22 @@ use Rattle.words.specs.Anchor.{PARTIAL}
 use Rattle.words.specs.declared.head.Head.{Head}
 use Rattle.words.specs.declared.anchor.Anchor.{Anchor}
 use Rattle.links.specs.Link.{link}
-use Rattle.plain.specs.State.{State, stateNumber, Descriptor, Note, Phase, read, next, exchange, Pop, partial, spare}
-use Rattle.plain.specs.State.{region, retire, back, release, offer, Place, idle, a1, popping, pushing, a3-read}
-use Rattle.plain.specs.State.{a3-exchange, a4, a7, a8, f1, f2, f3-read, f3-link, f3-exchange, f4-clear, Task, Mem, Work}
-use Rattle.plain.specs.State.{working}
+use Rattle.plain.specs.State.{State, stateNumber, Descriptor, Note, Phase, read, next, exchange, Place, idle, a1}
+use Rattle.plain.specs.State.{popping, pushing, a3-read, a3-exchange, a4, a7, a8, f1, f2, f3-read, f3-link, f3-exchange}
+use Rattle.plain.specs.State.{f4-clear, Task, Mem, Work, working}
+use Rattle.plain.specs.State as Plain
 use Rattle.plain.specs.Steps.{top}
 use Rattle.plain.specs.States.{IfOpen}
 use Rattle.plain.specs.Blocks.{countBlock}
-use Rattle.control.specs.Places.{IDLE, A1, POP-PARTIAL, POP-SPARE, POP-REGION, PUSH-RETIRE, PUSH-BACK, PUSH-RELEASE}
-use Rattle.control.specs.Places.{PUSH-OFFER, A3-READ, A3-EXCHANGE, A4, A7, A8, F1, F2, F3-READ, F3-LINK, F3-EXCHANGE}
-use Rattle.control.specs.Places.{F4-CLEAR}
-use Rattle.control.specs.Places.{TO-NEXT, TO-EXCHANGE}
-use Rattle.agreement.specs.Contents.{TaskCaches, Slot, Lists, Descriptors, Entries, Contents}
+use Rattle.control.specs.Places.{IDLE, A1, A3-READ, A3-EXCHANGE, A4, A7, A8, F1, F2, F3-READ, F3-LINK, F3-EXCHANGE}
+use Rattle.control.specs.Places.{F4-CLEAR, TO-NEXT, TO-EXCHANGE}
+use Rattle.control.specs.declared.moves.Pop.{Pop}
+use Rattle.control.specs.declared.moves.Pop.the-variants.{Partial, Spare, Region}
+use Rattle.control.specs.declared.moves.Push.{Push}
+use Rattle.control.specs.declared.moves.Push.the-variants.{Retire, Back, Release, Offer}
+use Rattle.stepped.specs.Lists.{Items, descriptor-items, region-items, howMany, popPlace, popList, popItems, pushPlace}
+use Rattle.stepped.specs.Lists.{pushList, pushItems}
+use Rattle.agreement.specs.Contents.{TaskHand, TaskCaches, Slot, Lists, Descriptors, Entries, Contents}
 
 -- the tag of a number of won exchanges
 abbrev pub wrap : ℕ → ℕ
@@ -43,26 +47,70 @@ pub record HeadNoted (m : Mem) (ℓ : ℕ) (h : Head) (n : ℕ) : Type 0 where
   pub tags : h .tag ≡ wrap n
   pub same : n ≡ m .won ℓ → h .item ≡ top (m .row ℓ)
 
--- A pop whose first place is b, of the list ℓ with items below `items`. While the noted number stands, the noted next
--- is what stands below the row's top: nothing is said of the links, so that the steps of others leave it.
-pub data PopRelated (m : Mem) (s : Slot) (b ℓ items : ℕ) : Phase → Type 0 where
-  at-read : s .place ≡ b → PopRelated m s b ℓ items read
-  at-next : {n : ℕ} → s .place ≡ b + TO-NEXT → HeadNoted m ℓ (s .noted .head) n → 1 ≤ s .noted .head .item
+-- A move of the list ℓ, a pop or a push, whose first place is b; its list's items are below `items`. From its head read
+-- on it has noted a head, whose item is `least` or more; before its exchange it is `Ready`, for the noted number.
+pub data MoveRelated (m : Mem) (s : Slot) (b ℓ items least : ℕ) (Ready : ℕ → Type 0) : Phase → Type 0 where
+  at-read : s .place ≡ b → MoveRelated m s b ℓ items least Ready read
+  at-next : {n : ℕ} → s .place ≡ b + TO-NEXT → HeadNoted m ℓ (s .noted .head) n → least ≤ s .noted .head .item
       → s .noted .head .item ≤ items
-      → PopRelated m s b ℓ items (next n)
-  at-exchange : {n : ℕ} → s .place ≡ b + TO-EXCHANGE → HeadNoted m ℓ (s .noted .head) n → 1 ≤ s .noted .head .item
-      → s .noted .head .item ≤ items
-      → s .noted .next ≤ items → (n ≡ m .won ℓ → s .noted .next ≡ top (tail (m .row ℓ)))
-      → PopRelated m s b ℓ items (exchange n)
+      → MoveRelated m s b ℓ items least Ready (next n)
+  at-exchange : {n : ℕ} → s .place ≡ b + TO-EXCHANGE → HeadNoted m ℓ (s .noted .head) n → least ≤ s .noted .head .item
+      → s .noted .head .item ≤ items → Ready n
+      → MoveRelated m s b ℓ items least Ready (exchange n)
 
--- A push of the item x, whose next, which its owner alone writes, is the noted head's item.
-pub data PushRelated (m : Mem) (s : Slot) (b ℓ items x : ℕ) (nx : ℕ → ℕ) : Phase → Type 0 where
-  at-read : s .place ≡ b → PushRelated m s b ℓ items x nx read
-  at-next : {n : ℕ} → s .place ≡ b + TO-NEXT → HeadNoted m ℓ (s .noted .head) n → s .noted .head .item ≤ items
-      → PushRelated m s b ℓ items x nx (next n)
-  at-exchange : {n : ℕ} → s .place ≡ b + TO-EXCHANGE → HeadNoted m ℓ (s .noted .head) n → s .noted .head .item ≤ items
-      → nx x ≡ s .noted .head .item
-      → PushRelated m s b ℓ items x nx (exchange n)
+-- A pop is ready with the next that it read. While the noted number n stands, that is what stands below the row's top:
+-- nothing is said of the links, so that the steps of others leave it.
+pub record PopReady (m : Mem) (s : Slot) (ℓ items n : ℕ) : Type 0 where
+  pub most : s .noted .next ≤ items
+  pub below : n ≡ m .won ℓ → s .noted .next ≡ top (tail (m .row ℓ))
+
+-- A push is ready where the next of its item x, which its owner alone writes, is the noted head's item.
+pub record PushReady (s : Slot) (x : ℕ) (nx : ℕ → ℕ) : Type 0 where
+  pub written : nx x ≡ s .noted .head .item
+
+-- the column of the nexts of such items
+abbrev pub nexts : Items → Contents → ℕ → ℕ
+nexts descriptor-items a = a .lists .descriptorNext
+nexts region-items a = a .lists .regionNext
+
+-- the item in hand
+abbrev pub inHand : Items → TaskHand → ℕ
+inHand descriptor-items h = h .descriptor
+inHand region-items h = h .region
+
+-- a pop, by its reason: no empty list is noted
+abbrev pub PopRelated : ℕ → Mem → Slot → Pop → Phase → Type 0
+PopRelated regions m s P =
+    let ℓ = popList P (s .class) in
+    let items = howMany (popItems P) regions in
+    MoveRelated m s (popPlace P) ℓ items 1 (PopReady m s ℓ items)
+
+-- a push, by its reason
+abbrev pub PushRelated : ℕ → Contents → Mem → Slot → Push → Phase → Type 0
+PushRelated regions a m s P =
+    let items = pushItems P in
+    MoveRelated m s (pushPlace P) (pushList P (s .class)) (howMany items regions) 0
+    (λ n. PushReady s (inHand items (s .hand)) (nexts items a))
+
+-- the plain pool's pop for a request of the class c
+abbrev pub plainPop : Pop → ℕ → TaskHand → Plain.Pop
+plainPop Partial c h = Plain.partial c
+plainPop Spare c h = Plain.spare c
+plainPop Region c h = Plain.Pop.region c (h .descriptor)
+
+-- the plain pool's push for a request of the class c; u is the block that is freed, z the state that a release found
+abbrev pub plainPush : Push → ℕ → ℕ → TaskHand → State → Plain.Push
+plainPush Retire c u h z = Plain.retire c (h .descriptor)
+plainPush Back c u h z = Plain.back c (h .descriptor)
+plainPush Release c u h z = Plain.release c u (h .descriptor) z (h .region)
+plainPush Offer c u h z = Plain.offer c u (h .descriptor)
+
+-- a release has noted the state that it found, for the step after it
+abbrev pub FoundState : Push → ℕ → State → Type 0
+FoundState Retire was z = Unit {0}
+FoundState Back was z = Unit {0}
+FoundState Release was z = was ≡ stateNumber z
+FoundState Offer was z = Unit {0}
 
 -- the index by which an anchor names a chain's first block, which is given plus one, or 0 for none: n for none
 abbrev pub firstIndex : ℕ → ℕ → ℕ
@@ -97,24 +145,10 @@ pub record GroupRelated (a : Contents) (s : Slot) (y : ℕ) (g : List ℕ) : Typ
 -- A place of a task at work, with what is under way; the plain place is built from the task's fields.
 pub data WorkRelated (regions : ℕ) (a : Contents) (m : Mem) (s : Slot) : Work → Type 0 where
   r-a1 : s .place ≡ A1 → WorkRelated regions a m s (a1 (s .class))
-  r-partial : {φ : Phase} → PopRelated m s POP-PARTIAL (s .class) DESCRIPTORS φ
-      → WorkRelated regions a m s (popping (partial (s .class)) φ)
-  r-spare : {φ : Phase} → PopRelated m s POP-SPARE SPARE-DESCRIPTORS DESCRIPTORS φ
-      → WorkRelated regions a m s (popping (spare (s .class)) φ)
-  r-region : {φ : Phase} → PopRelated m s POP-REGION SPARE-REGIONS regions φ
-      → WorkRelated regions a m s (popping (Pop.region (s .class) (s .hand .descriptor)) φ)
-  r-retire : {φ : Phase} → PushRelated m s PUSH-RETIRE SPARE-DESCRIPTORS DESCRIPTORS (s .hand .descriptor)
-      (a .lists .descriptorNext) φ
-      → WorkRelated regions a m s (pushing (retire (s .class) (s .hand .descriptor)) φ)
-  r-back : {φ : Phase} → PushRelated m s PUSH-BACK SPARE-DESCRIPTORS DESCRIPTORS (s .hand .descriptor)
-      (a .lists .descriptorNext) φ
-      → WorkRelated regions a m s (pushing (back (s .class) (s .hand .descriptor)) φ)
-  r-release : {w : State} {φ : Phase} → s .hand .state ≡ stateNumber w
-      → PushRelated m s PUSH-RELEASE SPARE-REGIONS regions (s .hand .region) (a .lists .regionNext) φ
-      → WorkRelated regions a m s (pushing (release (s .class) (s .unit) (s .hand .descriptor) w (s .hand .region)) φ)
-  r-offer : {φ : Phase} → PushRelated m s PUSH-OFFER (s .class) DESCRIPTORS (s .hand .descriptor)
-      (a .lists .descriptorNext) φ
-      → WorkRelated regions a m s (pushing (offer (s .class) (s .unit) (s .hand .descriptor)) φ)
+  r-popping : (P : Pop) {φ : Phase} → PopRelated regions m s P φ
+      → WorkRelated regions a m s (popping (plainPop P (s .class) (s .hand)) φ)
+  r-pushing : (P : Push) (z : State) {φ : Phase} → FoundState P (s .hand .state) z → PushRelated regions a m s P φ
+      → WorkRelated regions a m s (pushing (plainPush P (s .class) (s .unit) (s .hand) z) φ)
   r-a3-read : s .place ≡ A3-READ → WorkRelated regions a m s (a3-read (s .class) (s .hand .descriptor))
   -- the noted anchor is PARTIAL, names a block, and counts 1 to n
   r-a3-exchange : {n : Note} → s .place ≡ A3-EXCHANGE

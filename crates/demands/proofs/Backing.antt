@@ -13,7 +13,7 @@ use Rattle.control.specs.Places.{TO-NEXT, TO-EXCHANGE}
 use Rattle.fields.specs.Columns.{View, Write, _:=_, assigned}
 use Rattle.words.specs.Head.{itemOf}
 use Rattle.plain.specs.Calls.{Lengths}
-use Rattle.control.specs.Layout.{Head, TaskHead, TaskPlace, TaskClass, Regions}
+use Rattle.control.specs.Layout.{Head, TaskHead, TaskPlace, TaskClass, TaskDescriptor, Regions, DescriptorNext}
 use Rattle.control.specs.declared.answer.Answer.the-variants.{NoRegion}
 use Rattle.control.specs.declared.moves.Push.the-variants.{Back}
 use Rattle.stepped.specs.Outcome.{Outcome}
@@ -47,9 +47,9 @@ module _ (v : View) (t : ℕ) where
     at-next : Stays (Lists.pushNext v regions t c Back)
     unfolding Lists.pushNext
     at-next =
-        branch Stays (ltb (v (Lists.itemField Back t)) DESCRIPTORS && leb (itemOf (v (TaskHead t))) DESCRIPTORS)
+        branch Stays (ltb (v (TaskDescriptor t)) DESCRIPTORS && leb (itemOf (v (TaskHead t))) DESCRIPTORS)
         (λ e. inr
-        (to (PUSH-BACK + TO-EXCHANGE) (Lists.pushNextField Back (v (Lists.itemField Back t)) :=
+        (to (PUSH-BACK + TO-EXCHANGE) (DescriptorNext (v (TaskDescriptor t)) :=
         itemOf (v (TaskHead t)) ∷ [])
         (omega arith) (omega arith) (λ u. refl))) (λ e. inr here)
 
@@ -57,7 +57,7 @@ module _ (v : View) (t : ℕ) where
     unfolding Lists.pushExchange
     at-exchange =
         branch Stays
-        (ltb (v (Lists.itemField Back t)) DESCRIPTORS && leb (itemOf (v (TaskHead t))) DESCRIPTORS && leb
+        (ltb (v (TaskDescriptor t)) DESCRIPTORS && leb (itemOf (v (TaskHead t))) DESCRIPTORS && leb
         (itemOf (v (Head (Lists.pushList Back c)))) DESCRIPTORS)
         (λ e. branch Stays (eqb (v (Head (Lists.pushList Back c))) (v (TaskHead t))) (λ f. inl refl)
         (λ f. inr (to PUSH-BACK [] (omega arith) (omega arith) (λ u. refl))))

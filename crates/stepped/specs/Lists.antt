@@ -39,25 +39,40 @@ pushPlace Back = PUSH-BACK
 pushPlace Release = PUSH-RELEASE
 pushPlace Offer = PUSH-OFFER
 
--- ---- the list of a move, for a request of the class c; how many items there are; and where an item's next stands
+-- ---- the items of the lists: descriptors, or regions
 
--- the list of a pop, for a request of the class c
+-- what the items of a list are
+pub data Items : Type 0 where
+  descriptor-items region-items : Items
+
+-- how many there are, in an area of so many regions
+abbrev pub howMany : Items → ℕ → ℕ
+howMany descriptor-items regions = DESCRIPTORS
+howMany region-items regions = regions
+
+-- where the next of an item stands: "Each item's next is in control memory"
+abbrev pub nextField : Items → ℕ → Field
+nextField descriptor-items = DescriptorNext
+nextField region-items = RegionNext
+
+-- where the item stands that the task t has in hand
+abbrev pub handField : Items → ℕ → Field
+handField descriptor-items = TaskDescriptor
+handField region-items = TaskRegion
+
+-- ---- the list of a move, for a request of the class c, and what its items are
+
+-- the list of a pop
 abbrev pub popList : Pop → ℕ → ℕ
 popList Partial c = c
 popList Spare c = SPARE-DESCRIPTORS
 popList Region c = SPARE-REGIONS
 
--- how many items there are, in an area of so many regions
-abbrev pub popItems : Pop → ℕ → ℕ
-popItems Partial regions = DESCRIPTORS
-popItems Spare regions = DESCRIPTORS
-popItems Region regions = regions
-
--- where the next of an item stands
-abbrev pub popNextField : Pop → ℕ → Field
-popNextField Partial = DescriptorNext
-popNextField Spare = DescriptorNext
-popNextField Region = RegionNext
+-- its items
+abbrev pub popItems : Pop → Items
+popItems Partial = descriptor-items
+popItems Spare = descriptor-items
+popItems Region = region-items
 
 -- the list of a push
 abbrev pub pushList : Push → ℕ → ℕ
@@ -66,26 +81,12 @@ pushList Back c = SPARE-DESCRIPTORS
 pushList Release c = SPARE-REGIONS
 pushList Offer c = c
 
--- how many items there are
-abbrev pub pushItems : Push → ℕ → ℕ
-pushItems Retire regions = DESCRIPTORS
-pushItems Back regions = DESCRIPTORS
-pushItems Release regions = regions
-pushItems Offer regions = DESCRIPTORS
-
--- where the next of an item stands
-abbrev pub pushNextField : Push → ℕ → Field
-pushNextField Retire = DescriptorNext
-pushNextField Back = DescriptorNext
-pushNextField Release = RegionNext
-pushNextField Offer = DescriptorNext
-
--- the item that is pushed: what the task t has in hand
-abbrev pub itemField : Push → ℕ → Field
-itemField Retire = TaskDescriptor
-itemField Back = TaskDescriptor
-itemField Release = TaskRegion
-itemField Offer = TaskDescriptor
+-- its items; the task has the one in hand that it pushes
+abbrev pub pushItems : Push → Items
+pushItems Retire = descriptor-items
+pushItems Back = descriptor-items
+pushItems Release = region-items
+pushItems Offer = descriptor-items
 
 -- v: what stands in the fields; regions: the started number of them; t: the task, whose request is of the class c
 module _ (v : View) (regions t c : ℕ) where
@@ -117,15 +118,15 @@ module _ (v : View) (regions t c : ℕ) where
       let word = v (Head (popList p c)) in
       cond (eqb (itemOf word) 0)
       (whenEmpty p (found-empty (popList p c)))
-      (cond (leb (itemOf word) (popItems p regions))
+      (cond (leb (itemOf word) (howMany (popItems p) regions))
       (accept nothing (TaskPlace t := (popPlace p + TO-NEXT) ∷ TaskHead t := word ∷ []) [])
       bad)
 
   -- "read the item's next", that of the item x
   unfoldable pub popNextOf : Pop → ℕ → Outcome
   popNextOf p x =
-      let next = v (popNextField p x) in
-      cond (leb next (popItems p regions))
+      let next = v (nextField (popItems p) x) in
+      cond (leb next (howMany (popItems p) regions))
       (accept nothing (TaskPlace t := (popPlace p + TO-EXCHANGE) ∷ TaskNext t := next ∷ []) [])
       bad
 
@@ -133,7 +134,7 @@ module _ (v : View) (regions t c : ℕ) where
   unfoldable pub popNext : Pop → Outcome
   popNext p =
       let item = itemOf (v (TaskHead t)) in
-      cond (oneTo (popItems p regions) item) (popNextOf p (item - 1)) bad
+      cond (oneTo (howMany (popItems p) regions) item) (popNextOf p (item - 1)) bad
 
   -- where a won pop of the item x leads: step 2 to 3, step 5 to 6, step 6 to 7; ws is the exchange
   abbrev pub whenPopped : Pop → ℕ → Decided → List Write → Outcome
@@ -145,7 +146,7 @@ module _ (v : View) (regions t c : ℕ) where
   unfoldable pub popExchange : Pop → Outcome
   popExchange p =
       let ℓ = popList p c in
-      let items = popItems p regions in
+      let items = howMany (popItems p) regions in
       let word = v (TaskHead t) in
       let next = v (TaskNext t) in
       let x = itemOf word - 1 in
@@ -161,17 +162,17 @@ module _ (v : View) (regions t c : ℕ) where
   unfoldable pub pushRead : Push → Outcome
   pushRead p =
       let word = v (Head (pushList p c)) in
-      cond (leb (itemOf word) (pushItems p regions))
+      cond (leb (itemOf word) (howMany (pushItems p) regions))
       (accept nothing (TaskPlace t := (pushPlace p + TO-NEXT) ∷ TaskHead t := word ∷ []) [])
       bad
 
   -- "write the item's next": what is below the item will be what is on top now, the noted head's item
   unfoldable pub pushNext : Push → Outcome
   pushNext p =
-      let x = v (itemField p t) in
+      let x = v (handField (pushItems p) t) in
       let below = itemOf (v (TaskHead t)) in
-      cond (ltb x (pushItems p regions) && leb below (pushItems p regions))
-      (accept nothing (TaskPlace t := (pushPlace p + TO-EXCHANGE) ∷ pushNextField p x := below ∷ []) [])
+      cond (ltb x (howMany (pushItems p) regions) && leb below (howMany (pushItems p) regions))
+      (accept nothing (TaskPlace t := (pushPlace p + TO-EXCHANGE) ∷ nextField (pushItems p) x := below ∷ []) [])
       bad
 
   -- where a won push leads: step 3 "then 2", step 6 "the request ends with 13 at that won exchange", free's 4 and 5
@@ -185,9 +186,9 @@ module _ (v : View) (regions t c : ℕ) where
   unfoldable pub pushExchange : Push → Outcome
   pushExchange p =
       let ℓ = pushList p c in
-      let items = pushItems p regions in
+      let items = howMany (pushItems p) regions in
       let word = v (TaskHead t) in
-      let x = v (itemField p t) in
+      let x = v (handField (pushItems p) t) in
       cond (ltb x items && leb (itemOf word) items && leb (itemOf (v (Head ℓ))) items)
       (cond (eqb (v (Head ℓ)) word)
       (whenPushed p (pushed ℓ x) (Head ℓ := advancedWord word (x + 1) ∷ []))

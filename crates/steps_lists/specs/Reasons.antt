@@ -1,15 +1,15 @@
 -- Where a pop leads, by its reason.
 use Prim.Native.Nat.{ℕ}
 use mathlib.Core.List.{List, [], _∷_}
-use Rattle.fields.specs.Columns.{Field, Write, _:=_}
-use Rattle.control.specs.Layout.{Head, TaskPlace, TaskDescriptor, TaskRegion}
+use Rattle.fields.specs.Columns.{Write, _:=_}
+use Rattle.control.specs.Layout.{Head, TaskPlace}
 use Rattle.control.specs.declared.answer.Answer.{Answer}
 use Rattle.control.specs.declared.answer.Answer.the-variants.{Accepted, NoDescriptor}
 use Rattle.control.specs.declared.moves.Pop.{Pop}
 use Rattle.control.specs.declared.moves.Pop.the-variants.{Partial, Spare, Region}
 use Rattle.control.specs.declared.moves.Push.the-variants.{Back}
 use Rattle.control.specs.Places.{IDLE, A3-READ, A7}
-use Rattle.stepped.specs.Lists.{popPlace, popList, pushPlace}
+use Rattle.stepped.specs.Lists.{popPlace, popList, popItems, pushPlace, handField}
 
 -- allocate, step 2 "Empty: go to 5", step 5 "Empty: end with 12", step 6 "Empty: push the descriptor back"
 abbrev pub emptyPlace : Pop → ℕ
@@ -29,13 +29,7 @@ poppedPlace Partial = A3-READ
 poppedPlace Spare = popPlace Region
 poppedPlace Region = A7
 
--- where the popped item is noted: what the task t has in hand
-abbrev pub heldField : Pop → ℕ → Field
-heldField Partial = TaskDescriptor
-heldField Spare = TaskDescriptor
-heldField Region = TaskRegion
-
 -- the writes of a won pop, which leaves the task t with the item x in hand and the list with the head `word`
 abbrev pub taken : ℕ → ℕ → Pop → ℕ → ℕ → List Write
 taken t c p x word =
-    TaskPlace t := poppedPlace p ∷ heldField p t := x ∷ Head (popList p c) := word ∷ []
+    TaskPlace t := poppedPlace p ∷ handField (popItems p) t := x ∷ Head (popList p c) := word ∷ []

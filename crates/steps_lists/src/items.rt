@@ -10,13 +10,12 @@ ghost use Prim.Native.Nat.{_<_};
 ghost use Rattle.limits.specs.Limits.{TASKS, REGIONS};
 ghost use Rattle.fields.specs.Columns.{_:=_};
 ghost use Rattle.control.specs.Layout.{Control, seen, changed};
-ghost use Rattle.stepped.specs.Lists.{popItems, popNextField, pushItems, pushNextField, itemField};
-ghost use Rattle.steps_lists.specs.Reasons.{heldField};
+ghost use Rattle.stepped.specs.Lists.{howMany, nextField, handField, popItems, pushItems};
 
 // The next of an item that is to be popped.
 pub fn next(control: &[u8], pop: Pop, item: usize) -> u8
-    requires { ⌜ Control (now control) × (item < popItems pop REGIONS) ⌝ }
-    ensures { λ r. ⌜ r ≡ seen (now (control .entry)) (popNextField pop item) ⌝ }
+    requires { ⌜ Control (now control) × (item < howMany (popItems pop) REGIONS) ⌝ }
+    ensures { λ r. ⌜ r ≡ seen (now (control .entry)) (nextField (popItems pop) item) ⌝ }
 {
     match pop {
         Pop::Partial => lists::descriptor_next(control, item),
@@ -28,7 +27,8 @@ pub fn next(control: &[u8], pop: Pop, item: usize) -> u8
 // A popped item is noted in the task's hand.
 pub fn hold(control: &mut [u8], task: usize, pop: Pop, item: u8)
     requires { ⌜ Control (now control) × (task < TASKS) ⌝ }
-    ensures { λ r. ⌜ now (control .exit) ≡ changed (heldField pop task := item ∷ []) (now (control .entry)) ⌝ }
+    ensures { λ r. ⌜ now (control .exit)
+        ≡ changed (handField (popItems pop) task := item ∷ []) (now (control .entry)) ⌝ }
 {
     match pop {
         Pop::Partial => tasks::set_task_descriptor(control, task, item),
@@ -40,7 +40,7 @@ pub fn hold(control: &mut [u8], task: usize, pop: Pop, item: u8)
 // The item that is to be pushed.
 pub fn held(control: &[u8], task: usize, push: Push) -> u8
     requires { ⌜ Control (now control) × (task < TASKS) ⌝ }
-    ensures { λ r. ⌜ r ≡ seen (now (control .entry)) (itemField push task) ⌝ }
+    ensures { λ r. ⌜ r ≡ seen (now (control .entry)) (handField (pushItems push) task) ⌝ }
 {
     match push {
         Push::Retire => tasks::task_descriptor(control, task),
@@ -52,8 +52,9 @@ pub fn held(control: &[u8], task: usize, push: Push) -> u8
 
 // The next of an item that is to be pushed.
 pub fn set_next(control: &mut [u8], push: Push, item: usize, next: u8)
-    requires { ⌜ Control (now control) × (item < pushItems push REGIONS) ⌝ }
-    ensures { λ r. ⌜ now (control .exit) ≡ changed (pushNextField push item := next ∷ []) (now (control .entry)) ⌝ }
+    requires { ⌜ Control (now control) × (item < howMany (pushItems push) REGIONS) ⌝ }
+    ensures { λ r. ⌜ now (control .exit)
+        ≡ changed (nextField (pushItems push) item := next ∷ []) (now (control .entry)) ⌝ }
 {
     match push {
         Push::Retire => lists::set_descriptor_next(control, item, next),

@@ -8,7 +8,7 @@ ghost use mathlib.Core.Path.{_≡_};
 ghost use Prim.Native.Nat.{_<_, _≤_};
 ghost use Rattle.limits.specs.Limits.{REGIONS, CLASSES, DESCRIPTORS, LISTS};
 ghost use Rattle.control.specs.Places.{POP-REGION, PUSH-OFFER};
-ghost use Rattle.stepped.specs.Lists.{popList, popItems, popPlace, pushList, pushItems, pushPlace};
+ghost use Rattle.stepped.specs.Lists.{howMany, popList, popItems, popPlace, pushList, pushItems, pushPlace};
 ghost use Rattle.steps_lists.specs.Reasons.{emptyPlace, emptyAnswer, poppedPlace};
 
 // The list that is popped.
@@ -26,7 +26,8 @@ pub fn pop_list(pop: Pop, class: usize) -> usize
 // How many items there are; no more than with the most regions.
 pub fn pop_items(pop: Pop, regions: usize) -> usize
     requires { ⌜ regions ≤ REGIONS ⌝ }
-    ensures { λ r. ⌜ (r ≡ popItems pop regions) × (r ≤ popItems pop REGIONS) × (r ≤ DESCRIPTORS) ⌝ }
+    ensures { λ r. ⌜ (r ≡ howMany (popItems pop) regions) × (r ≤ howMany (popItems pop) REGIONS)
+        × (r ≤ DESCRIPTORS) ⌝ }
 {
     match pop {
         Pop::Partial => limits::DESCRIPTORS,
@@ -96,7 +97,8 @@ pub fn push_list(push: Push, class: usize) -> usize
 // How many items there are; no more than with the most regions.
 pub fn push_items(push: Push, regions: usize) -> usize
     requires { ⌜ regions ≤ REGIONS ⌝ }
-    ensures { λ r. ⌜ (r ≡ pushItems push regions) × (r ≤ pushItems push REGIONS) × (r ≤ DESCRIPTORS) ⌝ }
+    ensures { λ r. ⌜ (r ≡ howMany (pushItems push) regions) × (r ≤ howMany (pushItems push) REGIONS)
+        × (r ≤ DESCRIPTORS) ⌝ }
 {
     match push {
         Push::Retire => limits::DESCRIPTORS,

@@ -14,11 +14,11 @@ use Rattle.control.specs.declared.moves.Pop.{Pop}
 use Rattle.control.specs.declared.moves.Pop.the-variants.{Partial, Spare, Region}
 use Rattle.control.specs.Places.{TO-NEXT, TO-EXCHANGE}
 use Rattle.stepped.specs.Outcome.{bad, accept, over}
-use Rattle.stepped.specs.Lists.{popPlace, popList, popItems, popNextField, whenEmpty, whenPopped, popRead, popNextOf}
-use Rattle.stepped.specs.Lists.{popNext, popExchange}
+use Rattle.stepped.specs.Lists.{howMany, nextField, handField, popPlace, popList, popItems, whenEmpty, whenPopped}
+use Rattle.stepped.specs.Lists.{popRead, popNextOf, popNext, popExchange}
 use Rattle.stepped.specs.Done.{Done}
 use Rattle.stepped.proofs.Doing.{done, does}
-use Rattle.steps_lists.specs.Reasons.{emptyPlace, emptyAnswer, poppedPlace, heldField, taken}
+use Rattle.steps_lists.specs.Reasons.{emptyPlace, emptyAnswer, poppedPlace, taken}
 
 module _ (v : View) (regions t c : ℕ) where
   -- ---- where the reason leads
@@ -30,82 +30,95 @@ module _ (v : View) (regions t c : ℕ) where
   empty-by Region e = refl
 
   popped-by : (p : Pop) (x : ℕ) (e : Decided) (ws : List Write)
-      → whenPopped v regions t c p x e ws ≡ accept e (TaskPlace t := poppedPlace p ∷ heldField p t := x ∷ ws) []
+      → whenPopped v regions t c p x e ws
+      ≡ accept e (TaskPlace t := poppedPlace p ∷ handField (popItems p) t := x ∷ ws) []
   popped-by Partial x e ws = refl
   popped-by Spare x e ws = refl
   popped-by Region x e ws = refl
 
   module _ (p : Pop) where
+    -- how many items there are
+    abbrev most : ℕ
+    most = howMany (popItems p) regions
+
+    -- the item on top of the list
+    abbrev top : ℕ
+    top = itemOf (v (Head (popList p c)))
+
+    -- the item of the noted head
+    abbrev noted : ℕ
+    noted = itemOf (v (TaskHead t))
+
     -- ---- the head read
 
     -- a is the place that the code goes on to
-    pub read-empty : {a : ℕ} → a ≡ emptyPlace p → itemOf (v (Head (popList p c))) ≡ 0 → popRead v regions t c p
+    pub read-empty : {a : ℕ} → a ≡ emptyPlace p → top ≡ 0 → popRead v regions t c p
         ≡ over (emptyAnswer p) (found-empty (popList p c)) (TaskPlace t := a ∷ []) []
     unfolding popRead
     read-empty d h = rw (d, eq-eqb _ _ h) (empty-by p _)
 
-    pub read-bad : itemOf (v (Head (popList p c))) ≢ 0 → popItems p regions < itemOf (v (Head (popList p c)))
+    pub read-bad : top ≢ 0 → most < top
         → popRead v regions t c p ≡ bad
     unfolding popRead
     read-bad h k = rw (ne-eqb _ _ h, lt-leb _ _ k)
 
     -- a is the place of the head read, w the head that is read
-    pub read-noted : {a w : ℕ} → a ≡ popPlace p → w ≡ v (Head (popList p c)) → itemOf (v (Head (popList p c))) ≢ 0
-        → itemOf (v (Head (popList p c))) ≤ popItems p regions
+    pub read-noted : {a w : ℕ} → a ≡ popPlace p → w ≡ v (Head (popList p c)) → top ≢ 0
+        → top ≤ most
         → popRead v regions t c p ≡ accept nothing (TaskPlace t := (a + TO-NEXT) ∷ TaskHead t := w ∷ []) []
     unfolding popRead
     read-noted d e h k = rw (d, e, ne-eqb _ _ h, le-leb _ _ k)
 
     -- ---- the next read
 
-    pub next-bad : (x : ℕ) → popItems p regions < v (popNextField p x) → popNextOf v regions t c p x ≡ bad
+    pub next-bad : (x : ℕ) → most < v (nextField (popItems p) x) → popNextOf v regions t c p x ≡ bad
     unfolding popNextOf
     next-bad x h = rw (lt-leb _ _ h)
 
     -- a is the place of the head read, y the next that is read
-    pub next-noted : (x : ℕ) {a y : ℕ} → a ≡ popPlace p → y ≡ v (popNextField p x)
-        → v (popNextField p x) ≤ popItems p regions
+    pub next-noted : (x : ℕ) {a y : ℕ} → a ≡ popPlace p → y ≡ v (nextField (popItems p) x)
+        → v (nextField (popItems p) x) ≤ most
         → popNextOf v regions t c p x ≡ accept nothing (TaskPlace t := (a + TO-EXCHANGE) ∷ TaskNext t := y ∷ []) []
     unfolding popNextOf
     next-noted x d e h = rw (d, e, le-leb _ _ h)
 
-    pub item-none : itemOf (v (TaskHead t)) < 1 → popNext v regions t c p ≡ bad
+    pub item-none : noted < 1 → popNext v regions t c p ≡ bad
     unfolding popNext
     item-none h = rw (lt-leb _ _ h)
 
-    pub item-large : 1 ≤ itemOf (v (TaskHead t)) → popItems p regions < itemOf (v (TaskHead t))
+    pub item-large : 1 ≤ noted → most < noted
         → popNext v regions t c p ≡ bad
     unfolding popNext
     item-large h k = rw (le-leb _ _ h, lt-leb _ _ k)
 
     pub item-in : (x : ℕ) {before after : List ℕ} {r : Answer} → Done (popNextOf v regions t c p x) before after r
-        → x ≡ itemOf (v (TaskHead t)) - 1 → 1 ≤ itemOf (v (TaskHead t)) → itemOf (v (TaskHead t)) ≤ popItems p regions
+        → x ≡ noted - 1 → 1 ≤ noted → noted ≤ most
         → Done (popNext v regions t c p) before after r
     unfolding popNext
     item-in x d e h k = does (rw (le-leb _ _ h, le-leb _ _ k, e)) d
 
     -- ---- the exchange
 
-    pub noted-none : itemOf (v (TaskHead t)) < 1 → popExchange v regions t c p ≡ bad
+    pub noted-none : noted < 1 → popExchange v regions t c p ≡ bad
     unfolding popExchange
     noted-none h = rw (lt-leb _ _ h)
 
-    module _ (h : 1 ≤ itemOf (v (TaskHead t))) where
-      pub noted-large : popItems p regions < itemOf (v (TaskHead t)) → popExchange v regions t c p ≡ bad
+    module _ (h : 1 ≤ noted) where
+      pub noted-large : most < noted → popExchange v regions t c p ≡ bad
       unfolding popExchange
       noted-large k = rw (le-leb _ _ h, lt-leb _ _ k)
 
-      module _ (k : itemOf (v (TaskHead t)) ≤ popItems p regions) where
-        pub after-large : popItems p regions < v (TaskNext t) → popExchange v regions t c p ≡ bad
+      module _ (k : noted ≤ most) where
+        pub after-large : most < v (TaskNext t) → popExchange v regions t c p ≡ bad
         unfolding popExchange
         after-large l = rw (le-leb _ _ h, le-leb _ _ k, lt-leb _ _ l)
 
-        module _ (l : v (TaskNext t) ≤ popItems p regions) where
-          pub head-large : popItems p regions < itemOf (v (Head (popList p c))) → popExchange v regions t c p ≡ bad
+        module _ (l : v (TaskNext t) ≤ most) where
+          pub head-large : most < top → popExchange v regions t c p ≡ bad
           unfolding popExchange
           head-large m = rw (le-leb _ _ h, le-leb _ _ k, le-leb _ _ l, lt-leb _ _ m)
 
-          module _ (m : itemOf (v (Head (popList p c))) ≤ popItems p regions) where
+          module _ (m : top ≤ most) where
             -- a is the place of the head read
             pub exchange-lost : {a : ℕ} → a ≡ popPlace p → v (Head (popList p c)) ≢ v (TaskHead t)
                 → popExchange v regions t c p
@@ -113,7 +126,7 @@ module _ (v : View) (regions t c : ℕ) where
             unfolding popExchange
             exchange-lost d n = rw (d, le-leb _ _ h, le-leb _ _ k, le-leb _ _ l, le-leb _ _ m, ne-eqb _ _ n)
 
-            exchange-takes : (x word : ℕ) → x ≡ itemOf (v (TaskHead t)) - 1
+            exchange-takes : (x word : ℕ) → x ≡ noted - 1
                 → word ≡ advancedWord (v (TaskHead t)) (v (TaskNext t)) → v (Head (popList p c)) ≡ v (TaskHead t)
                 → popExchange v regions t c p ≡ accept (popped (popList p c) x) (taken t c p x word) []
             unfolding popExchange

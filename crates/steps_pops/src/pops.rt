@@ -14,7 +14,7 @@ ghost use Prim.Native.Nat.{ℕ, _<_, _≤_};
 ghost use Rattle.limits.specs.Limits.{TASKS, REGIONS, CLASSES};
 ghost use Rattle.control.specs.Layout.{Control, seen, changed, Head};
 ghost use Rattle.stepped.specs.Done.{Given, Done};
-ghost use Rattle.stepped.specs.Lists.{popList, popItems, popRead, popNextOf, popNext, popExchange};
+ghost use Rattle.stepped.specs.Lists.{howMany, popList, popItems, popRead, popNextOf, popNext, popExchange};
 ghost use Rattle.steps_lists.specs.Reasons.{taken};
 
 // The head word of the list that is popped.
@@ -47,7 +47,8 @@ pub fn read(control: &mut [u8], regions: usize, task: usize, class: usize, pop: 
 
 // Notes the next of the noted head's item.
 fn next_of(control: &mut [u8], regions: usize, task: usize, pop: Pop, item: usize) -> Answer
-    requires { ⌜ Control (now control) × (regions ≤ REGIONS) × (task < TASKS) × (item < popItems pop REGIONS) ⌝ }
+    requires { ⌜ Control (now control) × (regions ≤ REGIONS) × (task < TASKS)
+        × (item < howMany (popItems pop) REGIONS) ⌝ }
     ensures { λ r. ⌜ ((class : ℕ) → Done (popNextOf (seen (now (control .entry))) regions task class pop item)
         (now (control .entry)) (now (control .exit)) r) ⌝ }
 {

@@ -14,7 +14,7 @@ use Rattle.control.specs.declared.moves.Push.{Push}
 use Rattle.control.specs.declared.moves.Push.the-variants.{Release, Offer}
 use Rattle.control.specs.Places.{TO-NEXT, TO-EXCHANGE}
 use Rattle.stepped.specs.Outcome.{bad, accept}
-use Rattle.stepped.specs.Lists.{pushPlace, pushList, pushItems, pushNextField, itemField, whenPushed, pushRead}
+use Rattle.stepped.specs.Lists.{howMany, nextField, handField, pushPlace, pushList, pushItems, whenPushed, pushRead}
 use Rattle.stepped.specs.Lists.{pushNext, pushExchange}
 use Rattle.stepped.specs.Done.{Done}
 use Rattle.stepped.proofs.Doing.{does}
@@ -39,54 +39,71 @@ module _ (v : View) (regions t c : ℕ) (e : Decided) (ws : List Write) where
   offered r d k = does (f6-at v regions t c e ws r k) d
 
 module _ (v : View) (regions t c : ℕ) (p : Push) where
+  -- how many items there are
+  abbrev most : ℕ
+  most = howMany (pushItems p) regions
+
+  -- the item on top of the list
+  abbrev top : ℕ
+  top = itemOf (v (Head (pushList p c)))
+
+  -- the item of the noted head
+  abbrev noted : ℕ
+  noted = itemOf (v (TaskHead t))
+
+  -- the item that is pushed
+  abbrev item : ℕ
+  item = v (handField (pushItems p) t)
+
   -- ---- the head read
 
-  pub read-bad : pushItems p regions < itemOf (v (Head (pushList p c))) → pushRead v regions t c p ≡ bad
+  pub read-bad : most < top → pushRead v regions t c p ≡ bad
   unfolding pushRead
   read-bad h = rw (lt-leb _ _ h)
 
   -- a is the place of the head read, w the head that is read
   pub read-noted : {a w : ℕ} → a ≡ pushPlace p → w ≡ v (Head (pushList p c))
-      → itemOf (v (Head (pushList p c))) ≤ pushItems p regions
+      → top ≤ most
       → pushRead v regions t c p ≡ accept nothing (TaskPlace t := (a + TO-NEXT) ∷ TaskHead t := w ∷ []) []
   unfolding pushRead
   read-noted d e h = rw (d, e, le-leb _ _ h)
 
   -- ---- the next's write
 
-  pub item-large : pushItems p regions ≤ v (itemField p t) → pushNext v regions t c p ≡ bad
+  pub item-large : most ≤ item → pushNext v regions t c p ≡ bad
   unfolding pushNext
   item-large h = rw (le-ltb _ _ h)
 
-  module _ (h : v (itemField p t) < pushItems p regions) where
-    pub below-large : pushItems p regions < itemOf (v (TaskHead t)) → pushNext v regions t c p ≡ bad
+  module _ (h : item < most) where
+    pub below-large : most < noted → pushNext v regions t c p ≡ bad
     unfolding pushNext
     below-large k = rw (lt-ltb _ _ h, lt-leb _ _ k)
 
     -- a is the place of the head read, x the item and w the noted head, on which b is on top
-    pub next-written : {a x w b : ℕ} → a ≡ pushPlace p → x ≡ v (itemField p t) → w ≡ v (TaskHead t) → b ≡ itemOf w
-        → itemOf (v (TaskHead t)) ≤ pushItems p regions
-        → pushNext v regions t c p ≡ accept nothing (TaskPlace t := (a + TO-EXCHANGE) ∷ pushNextField p x := b ∷ []) []
+    pub next-written : {a x w b : ℕ} → a ≡ pushPlace p → x ≡ item → w ≡ v (TaskHead t) → b ≡ itemOf w
+        → noted ≤ most
+        → pushNext v regions t c p
+        ≡ accept nothing (TaskPlace t := (a + TO-EXCHANGE) ∷ nextField (pushItems p) x := b ∷ []) []
     unfolding pushNext
     next-written d e f g k = rw (g, d, e, f, lt-ltb _ _ h, le-leb _ _ k)
 
   -- ---- the exchange
 
-  pub pushed-large : pushItems p regions ≤ v (itemField p t) → pushExchange v regions t c p ≡ bad
+  pub pushed-large : most ≤ item → pushExchange v regions t c p ≡ bad
   unfolding pushExchange
   pushed-large h = rw (le-ltb _ _ h)
 
-  module _ (h : v (itemField p t) < pushItems p regions) where
-    pub noted-large : pushItems p regions < itemOf (v (TaskHead t)) → pushExchange v regions t c p ≡ bad
+  module _ (h : item < most) where
+    pub noted-large : most < noted → pushExchange v regions t c p ≡ bad
     unfolding pushExchange
     noted-large k = rw (lt-ltb _ _ h, lt-leb _ _ k)
 
-    module _ (k : itemOf (v (TaskHead t)) ≤ pushItems p regions) where
-      pub head-large : pushItems p regions < itemOf (v (Head (pushList p c))) → pushExchange v regions t c p ≡ bad
+    module _ (k : noted ≤ most) where
+      pub head-large : most < top → pushExchange v regions t c p ≡ bad
       unfolding pushExchange
       head-large m = rw (lt-ltb _ _ h, le-leb _ _ k, lt-leb _ _ m)
 
-      module _ (m : itemOf (v (Head (pushList p c))) ≤ pushItems p regions) where
+      module _ (m : top ≤ most) where
         -- a is the place of the head read
         pub exchange-lost : {a : ℕ} → a ≡ pushPlace p → v (Head (pushList p c)) ≢ v (TaskHead t)
             → pushExchange v regions t c p
@@ -94,16 +111,16 @@ module _ (v : View) (regions t c : ℕ) (p : Push) where
         unfolding pushExchange
         exchange-lost d n = rw (d, lt-ltb _ _ h, le-leb _ _ k, le-leb _ _ m, ne-eqb _ _ n)
 
-        exchange-leads : (ℓ word : ℕ) → ℓ ≡ pushList p c → word ≡ advancedWord (v (TaskHead t)) (v (itemField p t) + 1)
+        exchange-leads : (ℓ word : ℕ) → ℓ ≡ pushList p c → word ≡ advancedWord (v (TaskHead t)) (item + 1)
             → v (Head (pushList p c)) ≡ v (TaskHead t) → pushExchange v regions t c p
-            ≡ whenPushed v regions t c p (pushed (pushList p c) (v (itemField p t))) (Head ℓ := word ∷ [])
+            ≡ whenPushed v regions t c p (pushed (pushList p c) item) (Head ℓ := word ∷ [])
         unfolding pushExchange
         exchange-leads ℓ word d f e = rw (lt-ltb _ _ h, le-leb _ _ k, le-leb _ _ m, eq-eqb _ _ e, d, f)
 
         -- ℓ and `word` are where the code writes and what, w and x the noted head and the item that it reads
         pub exchange-won : (ℓ word : ℕ) {w x : ℕ} {before after : List ℕ} {r : Answer}
-            → Done (whenPushed v regions t c p (pushed (pushList p c) (v (itemField p t))) (Head ℓ := word ∷ [])) before
+            → Done (whenPushed v regions t c p (pushed (pushList p c) item) (Head ℓ := word ∷ [])) before
             after r
-            → ℓ ≡ pushList p c → w ≡ v (TaskHead t) → x ≡ v (itemField p t) → word ≡ advancedWord w (x + 1)
+            → ℓ ≡ pushList p c → w ≡ v (TaskHead t) → x ≡ item → word ≡ advancedWord w (x + 1)
             → v (Head (pushList p c)) ≡ v (TaskHead t) → Done (pushExchange v regions t c p) before after r
         exchange-won ℓ word done d i j f e = does (exchange-leads ℓ word d (rw (← i, ← j) f) e) done
