@@ -21,7 +21,7 @@ use Rattle.classes.specs.Classes.{units, block, perRegion}
 use Rattle.classes.specs.Sizes.{classOf, choice}
 use Rattle.classes.specs.Geometry.{unitOf}
 use Rattle.classes.specs.declared.size.Choice.the-variants.{Class, Refused}
-use Rattle.classes.proofs.Bench.{Served, bytes, number, served, sizes, sizes-hold}
+use Rattle.classes.proofs.BenchSizes.{Served, bytes, number, served, sizes, sizes-hold}
 use Rattle.classes.proofs.Sizes.{is-class}
 use Rattle.classes.proofs.Tables.{perRegion-high}
 use Rattle.plain.specs.State.{a1, working, Mem, setTask}
@@ -30,7 +30,7 @@ use Rattle.plain.specs.Moves.{nothing, going, refused}
 use Rattle.plain.specs.Steps.{Result, stepOf}
 use Rattle.plain.specs.Calls.{Pool, Start, allocate, step, startMem, rising, unstarted}
 use Rattle.plain.specs.Calls as Plain
-use Rattle.plain.proofs.Places.{taskOf}
+use Rattle.plain.proofs.PlaceAlone.{taskOf}
 use Rattle.control.specs.Layout.{TaskPlace, TaskClass}
 use Rattle.control.specs.Places.{A1}
 use Rattle.control.specs.Answers.{codeOf}
@@ -41,7 +41,7 @@ use Rattle.agreement.specs.Events.{Event, call, whole, Taken, Premises}
 use Rattle.agreement.specs.Reached.{starting}
 use Rattle.agreement.proofs.Simulation.{taken-is}
 use Rattle.agreement.proofs.Undisturbed.{brief, finishing, taskAnswers, Finishes, told, opens}
-use Rattle.agreement.proofs.Runs.{steppedAnswers, wholeAnswers, answered-from-start, WritesHeld, short}
+use Rattle.agreement.proofs.AnswersOfRuns.{steppedAnswers, wholeAnswers, answered-from-start, WritesHeld, short}
 
 -- ---- the table
 

@@ -11,7 +11,7 @@ use Rattle.links.specs.Link.{LinkWrite, _⇒_, linked}
 use Rattle.plain.specs.State.{Mem}
 use Rattle.plain.specs.Moves.{Answer}
 use Rattle.plain.specs.Steps.{Result}
-use Rattle.plain.specs.Weights.{insideWeight}
+use Rattle.plain.specs.HolderWeights.{insideWeight}
 use Rattle.control.specs.Layout.{layout, Tasks, Regions}
 use Rattle.control.specs.Answers.{codeOf, valueOf}
 use Rattle.stepped.specs.Outcome.{Outcome, bad}

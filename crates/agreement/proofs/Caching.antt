@@ -21,7 +21,7 @@ use Rattle.plain.specs.Moves.{Decided}
 use Rattle.plain.specs.Steps.{cached}
 use Rattle.plain.specs.Held.{underWay}
 use Rattle.plain.proofs.Owners.{home-of}
-use Rattle.plain.proofs.Places.{taskOf}
+use Rattle.plain.proofs.PlaceAlone.{taskOf}
 use Rattle.control.specs.Answers.{codeOf, valueOf}
 use Rattle.control.specs.declared.answer.Answer.{Answer}
 use Rattle.control.specs.Layout
@@ -35,8 +35,8 @@ use Rattle.agreement.proofs.Slots.{toCache, withCaches}
 use Rattle.agreement.proofs.Sets.{withSlots, setSlot, setLink}
 use Rattle.agreement.proofs.Bridge.{becomes, cache-here, cache-there}
 use Rattle.agreement.proofs.Couple.{Pair, mine, linking}
-use Rattle.agreement.proofs.Blocks.{below-tested, home-below, top-max, mine-under, mine-apart, cache-agrees}
-use Rattle.agreement.proofs.Blocks.{wrote, re-cache}
+use Rattle.agreement.proofs.TaskBlocks.{below-tested, home-below, top-max, mine-under, mine-apart, cache-agrees}
+use Rattle.agreement.proofs.TaskBlocks.{wrote, re-cache}
 use Rattle.agreement.proofs.Both.{Both}
 use Rattle.agreement.proofs.Turns.{At, cache-top, cache-count}
 

@@ -19,15 +19,16 @@ use Rattle.plain.specs.State
 use Rattle.plain.specs.State.{Descriptor, Mem, Place, Task, stateNumber, region, setDescriptor, setHands, setRow}
 use Rattle.plain.specs.State.{setTask}
 use Rattle.plain.specs.Held.{holdsDescriptor, holdsRegion}
-use Rattle.plain.specs.States.{IfOpen}
-use Rattle.plain.specs.Weights.{descriptorWeight, regionWeight, rowWeight}
+use Rattle.plain.specs.ByState.{IfOpen}
+use Rattle.plain.specs.HolderWeights.{descriptorWeight, regionWeight, rowWeight}
 use Rattle.agreement.specs.Contents.{Contents, Lists, Slot}
 use Rattle.agreement.specs.Relation.{ChainRelated, Core, ListsRelated, Related, SlotRelated, wrap}
 use Rattle.agreement.proofs.Couple.{Pair, descriptor-apart, region-apart}
 use Rattle.agreement.proofs.Frames.{KeptLists, after, lists-kept}
-use Rattle.agreement.proofs.Parts.{anchor-related, descriptorNext-related, head-related, map-related}
-use Rattle.agreement.proofs.Parts.{mark-related, regionNext-related, core-lists, core-descriptors, core-entries}
-use Rattle.agreement.proofs.Parts.{plainWith}
+use Rattle.agreement.proofs.RelatedParts.{anchor-related, descriptorNext-related, head-related, map-related}
+use Rattle.agreement.proofs.RelatedParts.{mark-related, regionNext-related, core-lists, core-descriptors}
+use Rattle.agreement.proofs.RelatedParts.{core-entries}
+use Rattle.agreement.proofs.RelatedParts.{plainWith}
 use Rattle.agreement.proofs.Sets.{setAnchor, setDescriptorNext, setHead, setMap, setMark, setRegionNext, setSlot}
 use Rattle.agreement.proofs.Sets.{onLists}
 

@@ -9,7 +9,7 @@ use Rattle.fields.specs.Columns.{View, _:=_, assigned}
 use Rattle.links.specs.Link.{link}
 use Rattle.plain.specs.State.{Mem, State, f4-clear, stateNumber, pushing, read, release, working}
 use Rattle.plain.specs.Steps as Steps
-use Rattle.plain.proofs.Places.{taskOf}
+use Rattle.plain.proofs.PlaceAlone.{taskOf}
 use Rattle.control.specs.Layout.{Map, TaskClass, TaskDescriptor, TaskPlace, TaskRegion, TaskState, TaskUnit}
 use Rattle.control.specs.Places.{PUSH-RELEASE}
 use Rattle.stepped.specs.Free as Free
@@ -18,8 +18,8 @@ use Rattle.control.specs.declared.moves.Push.the-variants.{Release}
 use Rattle.agreement.specs.Relation.{at-read, r-pushing, r-working}
 use Rattle.agreement.proofs.Slots.{toPlace}
 use Rattle.agreement.proofs.Bridge.{map-written}
-use Rattle.agreement.proofs.Tops.{region-in-hand}
-use Rattle.agreement.proofs.Blocks.{re-slot}
+use Rattle.agreement.proofs.ListTops.{region-in-hand}
+use Rattle.agreement.proofs.TaskBlocks.{re-slot}
 use Rattle.agreement.proofs.Both.{Both, pass}
 use Rattle.agreement.proofs.Turns.{At}
 use Rattle.agreement.proofs.Writes.{entry-cleared}

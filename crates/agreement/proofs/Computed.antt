@@ -23,7 +23,7 @@ use Rattle.stepped.specs.Start.{startWrites}
 use Rattle.stepped.specs.Calls
 use Rattle.stepped.specs.Calls.{Lent, lengths}
 use Rattle.agreement.specs.Events.{Event, call, write}
-use Rattle.agreement.proofs.Example.{three, schedule, events, answers, told}
+use Rattle.agreement.proofs.ExampleRun.{three, schedule, events, answers, told}
 
 -- what stands in the fields, and each block's link
 pub record FieldsAndLinks : Type 0 where

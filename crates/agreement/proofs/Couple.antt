@@ -8,7 +8,7 @@ use lib.ListN.{length}
 use Rattle.limits.specs.Limits.{REGIONS, REGION-BYTES, TASKS, DESCRIPTORS}
 use Rattle.rows.specs.Counting.{count}
 use Rattle.rows.specs.Linked.{LinksAgree, links}
-use Rattle.rows.specs.Tests.{other, same, same?}
+use Rattle.rows.specs.Comparisons.{other, same, same?}
 use Rattle.rows.specs.Totals.{total}
 use Rattle.rows.specs.Weights.{one}
 use Rattle.rows.proofs.Totals.{total-found, total-one, total-two}
@@ -22,17 +22,18 @@ use Rattle.plain.specs.State.{Mem, Place, Task, region, setTask}
 use Rattle.plain.specs.Blocks.{countBlock}
 use Rattle.plain.specs.Held.{holdsDescriptor, holdsRegion}
 use Rattle.plain.specs.Invariant.{Invariant}
-use Rattle.plain.specs.States.{IsOpen}
-use Rattle.plain.specs.Weights.{blockWeight, chainWeight, descriptorWeight, insideWeight, openWeight, regionWeight}
+use Rattle.plain.specs.ByState.{IsOpen}
+use Rattle.plain.specs.HolderWeights.{blockWeight, chainWeight, descriptorWeight, insideWeight, openWeight}
+use Rattle.plain.specs.HolderWeights.{regionWeight}
 use Rattle.plain.proofs.Blocks.{counts-block}
 use Rattle.plain.proofs.Homes.{inside-open}
-use Rattle.plain.proofs.Places.{taskOf}
-use Rattle.plain.proofs.States.{open-counts}
+use Rattle.plain.proofs.PlaceAlone.{taskOf}
+use Rattle.plain.proofs.ByState.{open-counts}
 use Rattle.plain.proofs.Turn.{Turn}
 use Rattle.agreement.specs.Contents.{Contents, Slot}
 use Rattle.agreement.specs.Relation.{Core, Related, SlotRelated}
 use Rattle.agreement.proofs.Frames.{after, lists-kept}
-use Rattle.agreement.proofs.Parts.{links-related, core-lists, core-links}
+use Rattle.agreement.proofs.RelatedParts.{links-related, core-lists, core-links}
 use Rattle.agreement.proofs.Sets.{setLink, setSlot}
 
 -- the relation, and the plain pool's own invariant, at the turn of the task t, which is at the place p with the caches

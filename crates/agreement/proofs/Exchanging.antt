@@ -24,10 +24,10 @@ use Rattle.plain.specs.State.{offer, pushing, read, setDescriptor, working}
 use Rattle.plain.specs.Moves.{gave, going}
 use Rattle.plain.specs.Steps.{asNoted?, chained}
 use Rattle.plain.specs.Steps as Steps
-use Rattle.plain.specs.States.{IfOpen}
+use Rattle.plain.specs.ByState.{IfOpen}
 use Rattle.plain.proofs.Owners.{Owner, owner}
-use Rattle.plain.proofs.Places.{placeHolds, taskOf, noteHolds}
-use Rattle.plain.proofs.States.{open-holds}
+use Rattle.plain.proofs.PlaceAlone.{placeHolds, taskOf, noteHolds}
+use Rattle.plain.proofs.ByState.{open-holds}
 use Rattle.control.specs.Layout.{layout, Anchor, GroupCount, GroupFirst, TaskAnchor, TaskClass, TaskDescriptor}
 use Rattle.control.specs.Layout.{TaskPlace, TaskRegion, TaskState, TaskUnit}
 use Rattle.control.specs.Places.{PUSH-OFFER, F1, F2, F3-READ, F4-CLEAR}
@@ -39,16 +39,16 @@ use Rattle.agreement.specs.Relation.{r-f4-clear, PlaceRelated, r-working
 use Rattle.agreement.proofs.Slots.{toGrouped, toPlace, toState}
 use Rattle.agreement.proofs.Sets.{setAnchor, setSlot}
 use Rattle.agreement.proofs.Bridge.{anchor-written}
-use Rattle.agreement.proofs.Blocks.{re-slot}
+use Rattle.agreement.proofs.TaskBlocks.{re-slot}
 use Rattle.stepped.proofs.Conjunction.{both-true}
 use Rattle.agreement.proofs.Both.{Both, decide, meet, miss, pass}
 use Rattle.agreement.proofs.Turns.{At, goes}
-use Rattle.agreement.proofs.Following.{five}
+use Rattle.agreement.proofs.FollowingBoth.{five}
 use Rattle.agreement.proofs.Writes.{OwnWrites, anchor-exchanged}
-use Rattle.agreement.proofs.Notes.{SameAnchor, anchor-word-same, number-max, same-anchor-word, re-note}
-use Rattle.agreement.proofs.Notes.{same-unmoved, unmoved-same}
+use Rattle.agreement.proofs.NotedAnchors.{SameAnchor, anchor-word-same, number-max, same-anchor-word, re-note}
+use Rattle.agreement.proofs.NotedAnchors.{same-unmoved, unmoved-same}
 use Rattle.agreement.proofs.Noting.{note-anchor, note-room}
-use Rattle.agreement.proofs.Groups.{first-below, same-group}
+use Rattle.agreement.proofs.GroupBlocks.{first-below, same-group}
 
 module _ {regions : ℕ} {v : View} {area : List ℕ} {m : Mem} {t : ℕ} {k : ℕ → List ℕ} {y : ℕ} {g : List ℕ} {n : Note}
     (w : At regions v area m t (working (f3-exchange (v (TaskClass t)) (v (TaskUnit t)) y g (v (TaskDescriptor t)) n))

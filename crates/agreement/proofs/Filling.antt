@@ -27,7 +27,7 @@ use Rattle.plain.specs.Blocks.{blocksFrom, countBlock}
 use Rattle.plain.specs.Held.{underWay}
 use Rattle.plain.proofs.Blocks.{counts-block}
 use Rattle.plain.proofs.Owners.{home-of}
-use Rattle.plain.proofs.Places.{placeHolds}
+use Rattle.plain.proofs.PlaceAlone.{placeHolds}
 use Rattle.control.specs.Layout.{TaskPlace, TaskClass, TaskRegion, TaskIndex, TaskLeft, CacheTop, CacheCount}
 use Rattle.control.specs.Places.{A1, A4, A8}
 use Rattle.control.specs.declared.answer.Answer.the-variants.{Accepted}
@@ -36,8 +36,8 @@ use Rattle.stepped.specs.Allocate as Allocate
 use Rattle.agreement.specs.Contents.{slotOf}
 use Rattle.agreement.specs.Relation.{r-a1, r-a4, r-a8, r-working}
 use Rattle.agreement.proofs.Slots.{toPlace, toChain}
-use Rattle.agreement.proofs.Tops.{first-of, rest-of}
-use Rattle.agreement.proofs.Blocks.{home-below, mine-under, row-agrees}
+use Rattle.agreement.proofs.ListTops.{first-of, rest-of}
+use Rattle.agreement.proofs.TaskBlocks.{home-below, mine-under, row-agrees}
 use Rattle.stepped.proofs.Conjunction.{both-true}
 use Rattle.agreement.proofs.Both.{Both, pass, meet, miss}
 use Rattle.agreement.proofs.Turns.{At, cache-count}

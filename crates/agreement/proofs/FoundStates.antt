@@ -24,7 +24,7 @@ use Rattle.stepped.proofs.Conjunction.{right-true}
 use Rattle.agreement.specs.Events.{Event, call, write, stepped}
 use Rattle.agreement.specs.Reached.{starting}
 use Rattle.agreement.proofs.Ways.{branch, tests}
-use Rattle.agreement.proofs.Starts.{at-state}
+use Rattle.agreement.proofs.StartRelated.{at-state}
 use Rattle.agreement.proofs.Starting.{image-view}
 use Rattle.agreement.proofs.SoundMoves.{Own, Owns, Fit}
 use Rattle.agreement.proofs.SoundSteps.{step-fit}

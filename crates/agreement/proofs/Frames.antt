@@ -8,7 +8,7 @@ use Rattle.limits.specs.Limits.{TASKS, CLASSES}
 use Rattle.words.specs.declared.anchor.Anchor.{Anchor}
 use Rattle.words.specs.declared.head.Head.{Head}
 use Rattle.rows.specs.Counting.{count}
-use Rattle.rows.specs.Tests.{same}
+use Rattle.rows.specs.Comparisons.{same}
 use Rattle.rows.specs.Update.{update}
 use Rattle.rows.proofs.Counting.{count-append}
 use Rattle.rows.proofs.Linked.{linked-frame}
@@ -19,7 +19,7 @@ use Rattle.links.specs.Link.{link, linked}
 use Rattle.plain.specs.State.{Mem, Note, Phase, Work, Place, working, Task, region}
 use Rattle.plain.specs.Noted.{Noted, unnoted, pop-noted, push-noted, anchor-noted, entry-noted, noted}
 use Rattle.plain.specs.Held.{holdsDescriptor, holdsRegion, underWay}
-use Rattle.plain.specs.Weights.{blockWeight, rowWeight}
+use Rattle.plain.specs.HolderWeights.{blockWeight, rowWeight}
 use Rattle.stepped.specs.Lists.{Items, descriptor-items, region-items, pushItems}
 use Rattle.agreement.specs.Contents.{Lists, Contents, Slot}
 use Rattle.agreement.specs.Relation.{HeadNoted, MoveRelated, at-read, at-next, at-exchange, PopReady, nexts}

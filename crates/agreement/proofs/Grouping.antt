@@ -20,7 +20,7 @@ use Rattle.classes.proofs.Tables.{perRegion-high}
 use Rattle.plain.specs.State.{Mem, f2, f3-read, working}
 use Rattle.plain.specs.Moves.{going, nothing}
 use Rattle.plain.specs.Steps as Steps
-use Rattle.plain.proofs.Places.{lengths, placeHolds, taskOf}
+use Rattle.plain.proofs.PlaceAlone.{lengths, placeHolds, taskOf}
 use Rattle.control.specs.Layout.{CacheTop, CacheCount, GroupCount, GroupFirst, GroupLast, TaskRegion, TaskClass}
 use Rattle.control.specs.Layout.{TaskPlace, TaskUnit}
 use Rattle.control.specs.Places.{F2, F3-READ}
@@ -29,14 +29,14 @@ use Rattle.agreement.specs.Contents.{slotOf, contentsOf}
 use Rattle.agreement.specs.Relation.{GroupRelated, r-f2-more, r-f3-read, r-working}
 use Rattle.agreement.proofs.Slots.{toPlace, toGroup, toCache}
 use Rattle.agreement.proofs.Couple.{mine}
-use Rattle.agreement.proofs.Blocks.{cache-agrees, mine-apart, mine-under, re-cache, row-agrees, wrote}
+use Rattle.agreement.proofs.TaskBlocks.{cache-agrees, mine-apart, mine-under, re-cache, row-agrees, wrote}
 use Rattle.stepped.proofs.Conjunction.{both-true}
 use Rattle.agreement.proofs.Both.{Both, pass, meet, miss, decide, by-row, has-top}
 use Rattle.agreement.proofs.Turns.{At, goes, cache-count}
-use Rattle.agreement.proofs.Topped.{topped}
+use Rattle.agreement.proofs.CacheTop.{topped}
 use Rattle.agreement.proofs.Writes.{with-cache, own-written, link-written}
-use Rattle.agreement.proofs.Groups.{same-group, last-at, last-below, last-under, front-out, front-sub}
-use Rattle.agreement.proofs.Groups.{region-below}
+use Rattle.agreement.proofs.GroupBlocks.{same-group, last-at, last-below, last-under, front-out, front-sub}
+use Rattle.agreement.proofs.GroupBlocks.{region-below}
 
 module _ {regions : ℕ} {v : View} {area : List ℕ} {m : Mem} {t : ℕ} {k : ℕ → List ℕ} where
   -- the first block of a group

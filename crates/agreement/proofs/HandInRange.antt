@@ -16,10 +16,10 @@ use Rattle.classes.proofs.BlockUnits.{block-at, index-below, region-is}
 use Rattle.plain.specs.State.{State, stateNumber, Place, Note, Mem, region, Work, working}
 use Rattle.plain.specs.Held.{owed, classAt, underWay, holdsDescriptor, holdsRegion}
 use Rattle.plain.specs.Blocks.{blocksFrom}
-use Rattle.plain.specs.Places.{Together}
+use Rattle.plain.specs.TaskHolds.{Together}
 use Rattle.plain.proofs.Blocks.{counts-block}
 use Rattle.plain.proofs.Owners.{home-of, owner}
-use Rattle.plain.proofs.Places.{placeHolds, noteHolds}
+use Rattle.plain.proofs.PlaceAlone.{placeHolds, noteHolds}
 use Rattle.control.specs.Layout.{TaskAnchor, TaskIndex, GroupFirst, GroupLast, GroupCount, TaskPlace, TaskClass}
 use Rattle.control.specs.Layout.{TaskDescriptor, TaskRegion, TaskUnit, TaskState}
 use Rattle.control.specs.Places.{POP-PARTIAL, PUSH-OFFER, A3-READ, F3-LINK, F3-EXCHANGE}
@@ -31,13 +31,13 @@ use Rattle.agreement.specs.Relation.{r-a3-read, r-a3-exchange, r-a4, r-a
 use Rattle.agreement.specs.Relation.{r-f3-link, r-f3-exchange, r-f4-clear, PlaceRelated, r-idle, r-working}
 use Rattle.agreement.specs.InRange.{ListsInRange, HandInRange, ChainsInRange}
 use Rattle.agreement.proofs.WorkPlaces.{span}
-use Rattle.agreement.proofs.Freeing.{Freeing, allocates, fills, frees, owes, owed-one}
+use Rattle.agreement.proofs.FreeUnderWay.{Freeing, allocates, fills, frees, owes, owed-one}
 use Rattle.agreement.proofs.ListsInRange.{none, of-pop, of-push}
-use Rattle.agreement.proofs.Tops.{first-of, descriptor-in-hand, region-in-hand}
+use Rattle.agreement.proofs.ListTops.{first-of, descriptor-in-hand, region-in-hand}
 use Rattle.agreement.proofs.Couple.{Pair}
-use Rattle.agreement.proofs.Blocks.{home-below}
-use Rattle.agreement.proofs.Groups.{first-below, last-below, region-below}
-use Rattle.agreement.proofs.Notes.{first-max, number-max}
+use Rattle.agreement.proofs.TaskBlocks.{home-below}
+use Rattle.agreement.proofs.GroupBlocks.{first-below, last-below, region-below}
+use Rattle.agreement.proofs.NotedAnchors.{first-max, number-max}
 
 -- a noted anchor
 note-in : {m : Mem} {c d : ℕ} {n : Note} {b : Anchor} → NoteRelated m c d n b

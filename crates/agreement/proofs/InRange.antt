@@ -17,12 +17,12 @@ use Rattle.classes.specs.Classes.{perRegion}
 use Rattle.plain.specs.State.{State, EMPTY, PARTIAL, Place, Mem}
 use Rattle.plain.specs.State as Plain
 use Rattle.plain.specs.Held.{classAt, underWay}
-use Rattle.plain.specs.States.{IsOpen}
+use Rattle.plain.specs.ByState.{IsOpen}
 use Rattle.plain.specs.Invariant.{Invariant, ChainLength}
 use Rattle.plain.specs.Steps.{top}
 use Rattle.plain.specs.Calls.{Pool, Start, unstarted}
 use Rattle.plain.specs.Calls as Calls
-use Rattle.plain.proofs.States.{open-holds}
+use Rattle.plain.proofs.ByState.{open-holds}
 use Rattle.plain.proofs.Turn.{taskHolds}
 use Rattle.control.specs.Layout.{Anchor, CacheTop, CacheCount, TaskUnit, TaskPlace, TaskClass, TaskDescriptor}
 use Rattle.control.specs.Layout.{TaskState, DescriptorClass, Regions, seen}
@@ -35,15 +35,15 @@ use Rattle.agreement.specs.Events.{Event, whole, Premises, Unstarted}
 use Rattle.agreement.specs.Reached.{History, Reached, starting, from-unstarted, from-start, by-event, Along}
 use Rattle.agreement.specs.Reached.{Wherever}
 use Rattle.agreement.specs.InRange.{TaskInRange, Ranged, RangedAfter}
-use Rattle.agreement.proofs.Tops.{top-le, listed, listed-region, descriptor-in-hand}
-use Rattle.agreement.proofs.Notes.{note-of, first-max, number-open, number-max}
+use Rattle.agreement.proofs.ListTops.{top-le, listed, listed-region, descriptor-in-hand}
+use Rattle.agreement.proofs.NotedAnchors.{note-of, first-max, number-open, number-max}
 use Rattle.agreement.proofs.Couple.{Pair, mine}
-use Rattle.agreement.proofs.Blocks.{under-unit, below-tested, top-max}
+use Rattle.agreement.proofs.TaskBlocks.{under-unit, below-tested, top-max}
 use Rattle.agreement.specs.Tied.{Tied}
 use Rattle.agreement.proofs.Simulation.{fitting}
 use Rattle.agreement.proofs.FoundStates.{FoundStates}
 use Rattle.agreement.proofs.Reaching.{reached-tied, reached-found, along}
-use Rattle.agreement.proofs.Freeing.{Freeing, allocates, fills, frees, owes}
+use Rattle.agreement.proofs.FreeUnderWay.{Freeing, allocates, fills, frees, owes}
 use Rattle.agreement.proofs.HandInRange.{numbers-at}
 
 -- ---- a task

@@ -16,7 +16,7 @@ use Rattle.classes.proofs.Tables.{perRegion-high}
 use Rattle.plain.specs.State.{Mem, f1, f2, idle, working}
 use Rattle.plain.specs.Moves.{finished}
 use Rattle.plain.specs.Steps as Steps
-use Rattle.plain.proofs.Places.{lengths}
+use Rattle.plain.proofs.PlaceAlone.{lengths}
 use Rattle.control.specs.Layout.{CacheCount, CacheTop, GroupCount, TaskClass, TaskPlace, TaskUnit}
 use Rattle.control.specs.Places.{IDLE, F2}
 use Rattle.stepped.specs.Free as Free
@@ -24,7 +24,7 @@ use Rattle.agreement.specs.Contents.{slotOf}
 use Rattle.agreement.specs.Relation.{r-f2, r-idle, r-working}
 use Rattle.agreement.proofs.Slots.{toGrouped, toPlace}
 use Rattle.agreement.proofs.Couple.{mine}
-use Rattle.agreement.proofs.Blocks.{mine-apart, mine-under, under-unit}
+use Rattle.agreement.proofs.TaskBlocks.{mine-apart, mine-under, under-unit}
 use Rattle.stepped.proofs.Conjunction.{both-true}
 use Rattle.agreement.proofs.Both.{Both, decide, pass}
 use Rattle.agreement.proofs.Turns.{At, cache-count, goes}

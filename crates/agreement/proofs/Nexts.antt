@@ -9,7 +9,7 @@ use Rattle.fields.specs.Columns.{View, _:=_, assigned}
 use Rattle.plain.specs.State.{Place, Mem}
 use Rattle.plain.specs.Moves.{nothing, going}
 use Rattle.plain.specs.Steps.{atPlace}
-use Rattle.plain.proofs.Places.{taskOf}
+use Rattle.plain.proofs.PlaceAlone.{taskOf}
 use Rattle.control.specs.Layout.{DescriptorNext, RegionNext, TaskPlace}
 use Rattle.stepped.specs.Outcome.{accept}
 use Rattle.stepped.specs.Lists.{Items, descriptor-items, region-items, howMany, nextField}
@@ -19,7 +19,7 @@ use Rattle.agreement.proofs.HeldItems.{HoldsItem}
 use Rattle.agreement.proofs.Slots.{toPlace}
 use Rattle.agreement.proofs.Sets.{setSlot, setDescriptorNext, setRegionNext}
 use Rattle.agreement.proofs.Bridge.{descriptorNext-written, regionNext-written}
-use Rattle.agreement.proofs.Tops.{descriptor-in-hand, region-in-hand}
+use Rattle.agreement.proofs.ListTops.{descriptor-in-hand, region-in-hand}
 use Rattle.agreement.proofs.Changes.{dnexting, rnexting}
 use Rattle.agreement.proofs.Both.{Both}
 use Rattle.agreement.proofs.Turns.{At}

@@ -20,23 +20,23 @@ use Rattle.classes.proofs.BlockUnits.{unit-again, unit-below}
 use Rattle.links.specs.Link.{link}
 use Rattle.plain.specs.State.{State, EMPTY, PARTIAL, FULL, stateNumber, Mem}
 use Rattle.plain.specs.Calls.{rising, NotEmpty, Opens, opens?}
-use Rattle.plain.specs.States.{ifOpen, IfOpen}
+use Rattle.plain.specs.ByState.{ifOpen, IfOpen}
 use Rattle.plain.specs.Blocks.{countBlock}
 use Rattle.plain.specs.Held.{held}
-use Rattle.plain.specs.Weights.{rowWeight, insideWeight, chainWeight, blockWeight}
+use Rattle.plain.specs.HolderWeights.{rowWeight, insideWeight, chainWeight, blockWeight}
 use Rattle.plain.specs.Invariant.{Invariant, OpenDescriptor}
 use Rattle.plain.proofs.Blocks.{block-counts, counts-block}
-use Rattle.plain.proofs.States.{open-holds}
+use Rattle.plain.proofs.ByState.{open-holds}
 use Rattle.plain.proofs.Homes.{inside-open}
 use Rattle.plain.proofs.OnePlace.{found}
-use Rattle.plain.proofs.Starts.{rising-count, length-rising}
+use Rattle.plain.proofs.StartInvariant.{rising-count, length-rising}
 use Rattle.agreement.specs.Contents.{Contents}
 use Rattle.agreement.specs.Relation.{DescriptorRelated, Related}
 use Rattle.agreement.specs.Observe.{listFrom, classBy, chainBy, plainClassBy, plainChainBy, plainClass}
 use Rattle.agreement.specs.Observe.{plainChain, inCache, withTask, hands, task, chain}
 use Rattle.agreement.specs.Observe.{holderOf, SameObserved}
 use Rattle.agreement.proofs.Couple.{Pair}
-use Rattle.agreement.proofs.Notes.{number-open}
+use Rattle.agreement.proofs.NotedAnchors.{number-open}
 use Rattle.agreement.proofs.UnderWays.{under-way}
 
 -- ---- lists

@@ -15,7 +15,7 @@ use Rattle.plain.specs.Calls.{Pool, Call, start, allocate, free, step, Lengths}
 use Rattle.plain.specs.Calls as Plain
 use Rattle.plain.specs.Invariant.{Good}
 use Rattle.plain.specs.Held.{held}
-use Rattle.plain.proofs.Starts.{start-inv}
+use Rattle.plain.proofs.StartInvariant.{start-inv}
 use Rattle.plain.proofs.Always.{call-good}
 use Rattle.control.specs.Layout.{seen, Regions}
 use Rattle.stepped.specs.Outcome.{Outcome, Memories}
@@ -30,9 +30,9 @@ use Rattle.agreement.proofs.Turns.{At}
 use Rattle.agreement.specs.Tied.{Tied}
 use Rattle.agreement.proofs.Simulation.{Alike, fitting, tested-alike, taken-is}
 use Rattle.agreement.proofs.Starting.{start-alike}
-use Rattle.agreement.proofs.Begins.{when-idle, allocate-both, free-both}
+use Rattle.agreement.proofs.BeginsBoth.{when-idle, allocate-both, free-both}
 use Rattle.agreement.proofs.Stepping.{step-both}
-use Rattle.agreement.proofs.Writing.{write-related}
+use Rattle.agreement.proofs.UserWrites.{write-related}
 
 module _ {s₁ : Memories} {s : Pool} (S : Tied s₁ s) where
   abbrev v : View

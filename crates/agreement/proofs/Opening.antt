@@ -9,7 +9,7 @@ use borrow.Author.Tests.{eq-eqb, ne-eqb, lt-ltb}
 use lib.Dec.{ltb}
 use Rattle.limits.specs.Limits.{TASKS, CLASSES, DESCRIPTORS, MOST-BLOCKS}
 use Rattle.rows.specs.Linked.{ends}
-use Rattle.rows.specs.Tests.{same, other, same?}
+use Rattle.rows.specs.Comparisons.{same, other, same?}
 use Rattle.rows.specs.Update.{update}
 use Rattle.rows.proofs.Totals.{total-one}
 use Rattle.rows.proofs.Update.{update-same, update-other, update-all}
@@ -25,13 +25,13 @@ use Rattle.plain.specs.State.{State, EMPTY, PARTIAL, FULL, Descriptor, Place, a
 use Rattle.plain.specs.State.{setMap, working}
 use Rattle.plain.specs.Steps as Steps
 use Rattle.plain.specs.Held.{holdsDescriptor, held}
-use Rattle.plain.specs.States.{oneIfEmpty}
-use Rattle.plain.specs.Weights.{spareWeight}
+use Rattle.plain.specs.ByState.{oneIfEmpty}
+use Rattle.plain.specs.HolderWeights.{spareWeight}
 use Rattle.plain.specs.Noted.{Noted, unnoted, pop-noted, push-noted, anchor-noted, entry-noted, noted}
-use Rattle.plain.specs.Places.{NotedHolds}
+use Rattle.plain.specs.TaskHolds.{NotedHolds}
 use Rattle.plain.proofs.Owners.{owner}
-use Rattle.plain.proofs.Places.{taskOf}
-use Rattle.plain.proofs.States.{open-not-empty}
+use Rattle.plain.proofs.PlaceAlone.{taskOf}
+use Rattle.plain.proofs.ByState.{open-not-empty}
 use Rattle.plain.proofs.Turn.{Turn}
 use Rattle.control.specs.Layout
 use Rattle.control.specs.Layout.{TaskPlace, TaskClass, TaskDescriptor, TaskRegion, TaskIndex, TaskLeft}
@@ -43,15 +43,15 @@ use Rattle.agreement.specs.Relation.{DescriptorRelated, SlotRelated, Cor
 use Rattle.agreement.proofs.Slots.{toPlace, toChain}
 use Rattle.agreement.proofs.Sets.{withSlots, setSlot, setOwner}
 use Rattle.agreement.proofs.Bridge.{owner-written}
-use Rattle.agreement.proofs.Tops.{descriptor-in-hand, region-in-hand}
+use Rattle.agreement.proofs.ListTops.{descriptor-in-hand, region-in-hand}
 use Rattle.agreement.proofs.Frames.{Reads, after, lists-kept}
-use Rattle.agreement.proofs.Parts.{map-related, core-descriptors, core-entries}
+use Rattle.agreement.proofs.RelatedParts.{map-related, core-descriptors, core-entries}
 use Rattle.agreement.proofs.Couple.{Pair, mine, descriptor-apart}
 use Rattle.stepped.proofs.Conjunction.{both-true}
 use Rattle.agreement.proofs.Both.{Both, pass}
 use Rattle.agreement.proofs.Turns.{At}
 use Rattle.agreement.proofs.Sharing.{shares}
-use Rattle.agreement.proofs.Anchors.{full-parts, full-read}
+use Rattle.agreement.proofs.AllocateAnchor.{full-parts, full-read}
 
 -- a descriptor that a task noted the anchor of is in its hand, or open
 reads-open : {regions : ℕ} {m : Mem} {j : ℕ} {p : Place} {k : ℕ → List ℕ} (w : Turn regions m j (taskOf p k)) (x : ℕ)

@@ -37,13 +37,13 @@ use Rattle.agreement.specs.Relation.{r-pushing, r-a3-read, r-a7, PlaceRe
 use Rattle.agreement.proofs.Slots.{toPlace, toNext, toDescriptor, toRegion}
 use Rattle.agreement.proofs.Sets.{setSlot, setHead}
 use Rattle.agreement.proofs.Bridge.{head-written}
-use Rattle.agreement.proofs.Tops.{top-of, tail-of, next-of}
+use Rattle.agreement.proofs.ListTops.{top-of, tail-of, next-of}
 use Rattle.agreement.proofs.Couple.{mine}
 use Rattle.stepped.proofs.Conjunction.{both-true}
 use Rattle.agreement.proofs.Both.{Both, pass, by-row, has-top}
 use Rattle.agreement.proofs.Turns.{At, goes}
 use Rattle.agreement.proofs.ListMoves.{pop-first, ListOf, popped-list}
-use Rattle.agreement.proofs.Heads.{list-of, Won, kept, moves, notes, exchanges, wins}
+use Rattle.agreement.proofs.MoveSteps.{list-of, Won, kept, moves, notes, exchanges, wins}
 
 -- the pop that the task t has under way, and its list
 abbrev pub popOf : View → ℕ → Pop → Plain.Pop

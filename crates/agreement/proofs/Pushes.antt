@@ -40,9 +40,9 @@ use Rattle.agreement.proofs.Both.{Both, pass}
 use Rattle.agreement.proofs.Turns.{At}
 use Rattle.agreement.proofs.ListMoves.{push-later, ListOf, pushed-list}
 use Rattle.agreement.proofs.HeldItems.{HoldsItem, push-holds}
-use Rattle.agreement.proofs.Heads.{list-of, Won, kept, moves, notes, exchanges}
+use Rattle.agreement.proofs.MoveSteps.{list-of, Won, kept, moves, notes, exchanges}
 use Rattle.agreement.proofs.Nexts.{next-set, held-below, writes-next}
-use Rattle.agreement.proofs.Putting.{advanced, leads-to, leads-five, leads-six}
+use Rattle.agreement.proofs.PushLeads.{advanced, leads-to, leads-five, leads-six}
 
 -- a state is one of three
 state-max : (was : ℕ) (z : State) → was ≡ stateNumber z → was ≤ 2

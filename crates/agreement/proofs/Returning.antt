@@ -19,9 +19,9 @@ use Rattle.plain.specs.Moves.{going, nothing}
 use Rattle.plain.specs.Steps.{noteOf}
 use Rattle.plain.specs.Steps as Steps
 use Rattle.plain.proofs.Owners.{home-of, owner}
-use Rattle.plain.proofs.Places.{placeHolds, taskOf}
-use Rattle.plain.proofs.Groups as Joined
-use Rattle.plain.proofs.States.{open-holds}
+use Rattle.plain.proofs.PlaceAlone.{placeHolds, taskOf}
+use Rattle.plain.proofs.GroupFits as Joined
+use Rattle.plain.proofs.ByState.{open-holds}
 use Rattle.control.specs.Layout.{Anchor, GroupCount, GroupLast, Map, TaskAnchor, TaskClass, TaskDescriptor, TaskPlace}
 use Rattle.control.specs.Layout.{TaskRegion, TaskUnit}
 use Rattle.control.specs.Places.{F3-LINK, F3-EXCHANGE}
@@ -29,15 +29,15 @@ use Rattle.stepped.specs.Free as Free
 use Rattle.agreement.specs.Contents.{slotOf, contentsOf}
 use Rattle.agreement.specs.Relation.{GroupRelated, NoteRelated, r-f3-exchange, r-f3-link, r-working}
 use Rattle.agreement.proofs.Slots.{toPlace, toAnchor, toDescriptor}
-use Rattle.agreement.proofs.Blocks.{cache-agrees, mine-apart, mine-under, re-link, row-agrees, wrote}
+use Rattle.agreement.proofs.TaskBlocks.{cache-agrees, mine-apart, mine-under, re-link, row-agrees, wrote}
 use Rattle.stepped.proofs.Conjunction.{both-true}
 use Rattle.agreement.proofs.Both.{Both, pass}
 use Rattle.agreement.proofs.Turns.{At, goes}
 use Rattle.agreement.proofs.Writes.{link-written}
-use Rattle.agreement.proofs.Notes.{note-of, re-note}
+use Rattle.agreement.proofs.NotedAnchors.{note-of, re-note}
 use Rattle.agreement.proofs.Noting.{note-anchor, note-first, note-max, note-room}
-use Rattle.agreement.proofs.Groups.{same-group, last-at, last-below, last-under, front-out, front-sub}
-use Rattle.agreement.proofs.Groups.{region-below}
+use Rattle.agreement.proofs.GroupBlocks.{same-group, last-at, last-below, last-under, front-out, front-sub}
+use Rattle.agreement.proofs.GroupBlocks.{region-below}
 
 module _ {regions : ℕ} {v : View} {area : List ℕ} {m : Mem} {t : ℕ} {k : ℕ → List ℕ} {y : ℕ} {g : List ℕ} where
   -- ---- the read

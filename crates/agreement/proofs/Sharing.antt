@@ -6,12 +6,12 @@ use Prim.Native.Nat.{ℕ}
 use Rattle.fields.specs.Columns.{View, Write, assigned}
 use Rattle.plain.specs.State.{Place, Mem}
 use Rattle.plain.specs.Steps.{atPlace}
-use Rattle.plain.proofs.Places.{taskOf}
+use Rattle.plain.proofs.PlaceAlone.{taskOf}
 use Rattle.agreement.specs.Contents.{Slot, Contents, slotOf, contentsOf}
 use Rattle.agreement.specs.Relation.{PlaceRelated, SlotRelated, Related}
 use Rattle.agreement.proofs.Sets.{withSlots, setSlot}
 use Rattle.agreement.proofs.Bridge.{becomes}
-use Rattle.agreement.proofs.Blocks.{re-slot}
+use Rattle.agreement.proofs.TaskBlocks.{re-slot}
 use Rattle.agreement.proofs.Turns.{At}
 
 module _ {regions : ℕ} {v : View} {area : List ℕ} {m : Mem} {t : ℕ} {p : Place} {k : ℕ → List ℕ}

@@ -13,7 +13,7 @@ use Rattle.rows.specs.Branch.{if}
 use Rattle.rows.proofs.Branch.{if-yes, if-no}
 use Rattle.fields.specs.Little.{Bytes}
 use Rattle.fields.specs.Columns.{Field, View, Has, width, firstByte, assigned}
-use Rattle.fields.proofs.Numbers.{getLE-lt}
+use Rattle.fields.proofs.Little.{getLE-lt}
 use Rattle.fields.proofs.Layouts.{length-written, bytes-written}
 use Rattle.links.specs.Link.{linked}
 use Rattle.plain.specs.Moves.{Answer}
@@ -31,7 +31,7 @@ use Rattle.agreement.specs.Tied.{Tied}
 use Rattle.agreement.specs.Agreement.{HandsKept}
 use Rattle.agreement.proofs.Both.{Both, Fitting}
 use Rattle.agreement.proofs.Views.{views-related}
-use Rattle.agreement.proofs.Writing.{byte-kept}
+use Rattle.agreement.proofs.UserWrites.{byte-kept}
 
 -- the same answer, the relation after it, and what else is shown of the memories after it
 pub record Alike (Further : Memories → Type 0) (x : Memories × Answer) (y : Pool × Answer) : Type 0 where

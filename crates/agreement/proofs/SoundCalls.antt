@@ -12,7 +12,7 @@ use lib.ListN.{length}
 use Rattle.limits.specs.Limits.{CONTROL-BYTES, UNITS, TASKS, CLASSES, DESCRIPTORS, LARGEST-SIZE, WORD-MARKS}
 use Rattle.fields.specs.Columns.{Field, View, Write, _:=_, assign, assigned, firstByte, width, Has}
 use Rattle.fields.specs.Little.{Bytes}
-use Rattle.fields.proofs.Numbers.{getLE-lt}
+use Rattle.fields.proofs.Little.{getLE-lt}
 use Rattle.words.specs.Anchor.{EMPTY, anchorOf}
 use Rattle.words.specs.Mark.{isSet}
 use Rattle.words.proofs.Marks.{clear-below}

@@ -17,7 +17,7 @@ use Rattle.plain.specs.Calls.{Pool, Start}
 use Rattle.control.specs.declared.answer.Answer.the-variants.{Accepted}
 use Rattle.plain.specs.Calls as Plain
 use Rattle.plain.specs.Invariant.{Good}
-use Rattle.plain.proofs.Starts.{start-inv}
+use Rattle.plain.proofs.StartInvariant.{start-inv}
 use Rattle.control.specs.Layout.{CACHES, layout, Tasks, Regions, seen, DescriptorNext, RegionNext, TopOfCache}
 use Rattle.control.specs.Layout.{descriptorNexts}
 use Rattle.control.specs.Layout.{regionNexts, cacheTops}
@@ -31,7 +31,8 @@ use Rattle.agreement.specs.Events.{ran, stepped}
 use Rattle.agreement.specs.Reached.{starting}
 use Rattle.fields.proofs.Layouts.{assigned-same}
 use Rattle.agreement.proofs.Images.{getLE-zeros, zeros, fill-sound, append-sound}
-use Rattle.agreement.proofs.Starts.{zeroed, startView, start-view, at-tasks, at-regions, next-max, start-related}
+use Rattle.agreement.proofs.StartRelated.{zeroed, startView, start-view, at-tasks, at-regions, next-max}
+use Rattle.agreement.proofs.StartRelated.{start-related}
 use Rattle.agreement.proofs.Views.{views-related}
 use Rattle.agreement.specs.Tied.{Tied}
 use Rattle.agreement.proofs.Simulation.{Alike, stays}

@@ -22,11 +22,11 @@ use Rattle.agreement.specs.Relation.{r-f4-clear, PlaceRelated, r-idle, r
 use Rattle.agreement.specs.Events
 use Rattle.agreement.proofs.Both.{Both, Fitting, pass, choose}
 use Rattle.agreement.proofs.Turns.{At}
-use Rattle.agreement.proofs.Begins.{refusal}
+use Rattle.agreement.proofs.BeginsBoth.{refusal}
 use Rattle.agreement.proofs.Pops.{pop-both}
 use Rattle.agreement.proofs.Pushes.{push-both}
 use Rattle.agreement.proofs.Taking.{a1-both}
-use Rattle.agreement.proofs.Anchors.{a3-read-both, a3-exchange-both}
+use Rattle.agreement.proofs.AllocateAnchor.{a3-read-both, a3-exchange-both}
 use Rattle.agreement.proofs.Filling.{a4-both, a8-both}
 use Rattle.agreement.proofs.Opening.{a7-both}
 use Rattle.agreement.proofs.Keeping.{f1-both}

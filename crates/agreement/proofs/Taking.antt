@@ -21,7 +21,7 @@ use Rattle.links.specs.Link.{link}
 use Rattle.plain.specs.State.{read, partial, popping, idle, a1, Mem, setHands, working}
 use Rattle.plain.specs.Moves.{nothing}
 use Rattle.plain.specs.Steps as Steps
-use Rattle.plain.proofs.Places.{taskOf, lengths}
+use Rattle.plain.proofs.PlaceAlone.{taskOf, lengths}
 use Rattle.control.specs.Layout.{TaskPlace, TaskClass, CacheTop, CacheCount, Marks}
 use Rattle.control.specs.Places.{IDLE, POP-PARTIAL}
 use Rattle.control.specs.declared.answer.Answer.the-variants.{Allocated}
@@ -35,10 +35,10 @@ use Rattle.agreement.specs.Relation.{at-read, r-popping, r-idle, r-worki
 use Rattle.agreement.proofs.Slots.{toPlace, toCache}
 use Rattle.agreement.proofs.Sets.{setMark}
 use Rattle.agreement.proofs.Bridge.{mark-set-written}
-use Rattle.agreement.proofs.Tops.{first-of, rest-of}
+use Rattle.agreement.proofs.ListTops.{first-of, rest-of}
 use Rattle.agreement.proofs.Couple.{mine}
 use Rattle.agreement.proofs.Changes.{marking}
-use Rattle.agreement.proofs.Blocks.{cached-home, cached-unit, home-below, top-max, re-cache, below-tested}
+use Rattle.agreement.proofs.TaskBlocks.{cached-home, cached-unit, home-below, top-max, re-cache, below-tested}
 use Rattle.stepped.proofs.Conjunction.{both-true}
 use Rattle.agreement.proofs.Both.{Both, pass, by-row}
 use Rattle.agreement.proofs.Turns.{At, goes, cache-top, cache-count}

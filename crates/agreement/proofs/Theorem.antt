@@ -8,7 +8,7 @@ use lib.ListN.{length}
 use Rattle.plain.specs.Moves.{Answer}
 use Rattle.plain.specs.Calls.{Pool, Call, Start, start, allocate, free, step, unstarted}
 use Rattle.plain.specs.Calls as Plain
-use Rattle.plain.proofs.Answers.{never-14}
+use Rattle.plain.proofs.CallAnswers.{never-14}
 use Rattle.stepped.specs.Outcome.{Memories}
 use Rattle.stepped.specs.Calls.{Lent, lengths, effectIn}
 use Rattle.agreement.specs.Events.{Event, call, write, stepped, whole, Premise, Premises, Unstarted}

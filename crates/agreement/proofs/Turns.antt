@@ -10,14 +10,14 @@ use Rattle.rows.proofs.Branch.{if-yes}
 use Rattle.fields.specs.Columns.{View, Write, assigned}
 use Rattle.plain.specs.State.{Place, Mem}
 use Rattle.plain.specs.Steps.{atPlace}
-use Rattle.plain.proofs.Places.{taskOf}
+use Rattle.plain.proofs.PlaceAlone.{taskOf}
 use Rattle.control.specs.Layout.{CacheTop, CacheCount, TaskClass}
 use Rattle.agreement.specs.Contents.{Slot, Contents, slotOf, contentsOf}
 use Rattle.agreement.specs.Relation.{PlaceRelated, Related}
 use Rattle.agreement.proofs.Sets.{withSlots, setSlot}
 use Rattle.agreement.proofs.Bridge.{becomes}
 use Rattle.agreement.proofs.Couple.{Pair, mine, quiet}
-use Rattle.agreement.proofs.Blocks.{re-slot}
+use Rattle.agreement.proofs.TaskBlocks.{re-slot}
 use Rattle.agreement.proofs.Both.{Fitting}
 
 -- the turn of the task t, which is at the place p with the caches k, where the view is v

@@ -12,9 +12,9 @@ use Rattle.classes.proofs.BlockUnits.{unit-again}
 use Rattle.links.specs.Link.{link}
 use Rattle.plain.specs.State.{Phase, Place, Mem, Work, working}
 use Rattle.plain.specs.Held.{underWay, classAt}
-use Rattle.plain.specs.Places.{Together}
+use Rattle.plain.specs.TaskHolds.{Together}
 use Rattle.plain.proofs.Blocks.{counts-block}
-use Rattle.plain.proofs.Places.{placeHolds}
+use Rattle.plain.proofs.PlaceAlone.{placeHolds}
 use Rattle.control.specs.Places.{IDLE, A1, A3-READ, A3-EXCHANGE, A4, A7, A8, F1, F2, F3-READ, F3-LINK, F3-EXCHANGE}
 use Rattle.control.specs.Places.{F4-CLEAR}
 use Rattle.control.specs.Places.{TO-NEXT, TO-EXCHANGE}
@@ -27,7 +27,7 @@ use Rattle.agreement.specs.Relation.{r-f2-more, r-f3-read, r-f3-link, r-
 use Rattle.agreement.specs.Relation.{r-idle, r-working}
 use Rattle.agreement.specs.Observe.{underWays, blocksAt}
 use Rattle.agreement.proofs.Couple.{Pair}
-use Rattle.agreement.proofs.Groups.{of-region}
+use Rattle.agreement.proofs.GroupBlocks.{of-region}
 
 -- the block that is freed, and a group behind it
 freed-with : {u : ℕ} {q r : List ℕ} → q ≡ r → u ∷ q ≡ u ∷ r

@@ -17,7 +17,7 @@ use Rattle.plain.specs.State.{setTask, setRow, setDescriptor, setMap, working}
 use Rattle.plain.specs.Moves.{Decided, nothing, found-empty, popped, Answer, going, finished}
 use Rattle.plain.specs.Steps.{popList, whenPopped, stepOf, whenWorking, atWork, stepAt, popRead, popTake, popLost}
 use Rattle.plain.specs.Steps.{a1Step}
-use Rattle.plain.proofs.Places.{taskOf}
+use Rattle.plain.proofs.PlaceAlone.{taskOf}
 
 -- a code and a value
 abbrev pub brief : Answer → ℕ × ℕ

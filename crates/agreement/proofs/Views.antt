@@ -15,14 +15,14 @@ use Rattle.words.specs.declared.anchor.Anchor.{Anchor}
 use Rattle.links.specs.Link.{link}
 use Rattle.plain.specs.State.{Mem}
 use Rattle.plain.specs.Invariant.{Invariant}
-use Rattle.plain.proofs.Places.{taskOf}
+use Rattle.plain.proofs.PlaceAlone.{taskOf}
 use Rattle.plain.proofs.Turn.{Turn}
 use Rattle.control.specs.Layout
 use Rattle.control.specs.Layout.{layout, TaskUnit, TaskState}
 use Rattle.agreement.specs.Contents.{Slot, byClass, slotOf, contentsOf}
 use Rattle.agreement.specs.Relation.{DescriptorRelated, SlotRelated, Core, Related}
 use Rattle.agreement.proofs.Frames.{Framed, kept-slot}
-use Rattle.agreement.proofs.Tops.{listed, listed-region, descriptor-in-hand, region-in-hand}
+use Rattle.agreement.proofs.ListTops.{listed, listed-region, descriptor-in-hand, region-in-hand}
 
 module _ {v v′ : View} (same : (g : Field) → Has layout g → v′ g ≡ v g) where
   -- a column of the caches: f names a task's field by the class

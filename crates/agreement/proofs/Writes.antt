@@ -10,9 +10,9 @@ use Rattle.links.specs.Link.{link, withLink}
 use Rattle.words.specs.Anchor.{anchorOf}
 use Rattle.plain.specs.State as State
 use Rattle.plain.specs.State.{Descriptor, Mem, Place, Task, stateNumber, setDescriptor, setTask}
-use Rattle.plain.specs.States.{IfOpen}
-use Rattle.plain.specs.Weights.{blockWeight}
-use Rattle.plain.proofs.Places.{taskOf}
+use Rattle.plain.specs.ByState.{IfOpen}
+use Rattle.plain.specs.HolderWeights.{blockWeight}
+use Rattle.plain.proofs.PlaceAlone.{taskOf}
 use Rattle.agreement.specs.Contents.{Slot, Contents, slotOf, contentsOf}
 use Rattle.agreement.specs.Relation.{ChainRelated, Related, SlotRelated}
 use Rattle.agreement.proofs.Slots.{toCache}

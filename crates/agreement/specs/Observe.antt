@@ -18,7 +18,7 @@ use Rattle.links.specs.Link.{link}
 use Rattle.plain.specs.State.{Mem}
 use Rattle.plain.specs.Calls.{opens?}
 use Rattle.plain.specs.Blocks.{blocksFrom}
-use Rattle.plain.specs.Weights.{blockWeight}
+use Rattle.plain.specs.HolderWeights.{blockWeight}
 use Rattle.plain.specs.OnePlace.{OpenBlock}
 use Rattle.control.specs.Places.{A4, A8, F1, F2, F3-EXCHANGE, F4-CLEAR, PUSH-RELEASE, PUSH-OFFER}
 use Rattle.control.specs.Places.{TO-EXCHANGE}

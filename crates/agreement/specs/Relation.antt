@@ -18,7 +18,7 @@ use Rattle.plain.specs.State.{popping, pushing, a3-read, a3-exchange, a4, a7, a
 use Rattle.plain.specs.State.{f4-clear, Task, Mem, Work, working}
 use Rattle.plain.specs.State as Plain
 use Rattle.plain.specs.Steps.{top}
-use Rattle.plain.specs.States.{IfOpen}
+use Rattle.plain.specs.ByState.{IfOpen}
 use Rattle.plain.specs.Blocks.{countBlock}
 use Rattle.control.specs.Places.{IDLE, A1, A3-READ, A3-EXCHANGE, A4, A7, A8, F1, F2, F3-READ, F3-LINK, F3-EXCHANGE}
 use Rattle.control.specs.Places.{F4-CLEAR, TO-NEXT, TO-EXCHANGE}

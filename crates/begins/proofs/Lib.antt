@@ -1,4 +1,4 @@
 -- The laws of the tests and of the beginnings.
 pub mod Testing
 pub mod Beginning
-pub mod Freeing
+pub mod FreeBegins

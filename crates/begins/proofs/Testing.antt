@@ -9,7 +9,7 @@ use Rattle.fields.specs.Columns.{View}
 use Rattle.plain.specs.Calls.{Lengths}
 use Rattle.control.specs.Layout.{Tasks, Regions}
 use Rattle.stepped.specs.Calls.{tested}
-use Rattle.begins.specs.Tests.{TestsAre}
+use Rattle.begins.specs.TestNumber.{TestsAre}
 
 module _ (lent : Lengths) (v : View) (t : ℕ) where
   pub wrong-control : lent .control ≢ CONTROL-BYTES → TestsAre lent v t 1

@@ -1,2 +1,2 @@
 -- What the tests of a call tell.
-pub mod Tests
+pub mod TestNumber

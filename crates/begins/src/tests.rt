@@ -2,7 +2,7 @@
 use control::started;
 ghost use lib.ListN.{length};
 ghost use Rattle.control.specs.Layout.{seen};
-ghost use Rattle.begins.specs.Tests.{TestsAre};
+ghost use Rattle.begins.specs.TestNumber.{TestsAre};
 
 // The tests 1, 4, 2, 5, in this order: the number of the first that fails, 14 where a stored number is out of its
 // range, and 0 where all pass. The callers are the exported calls.

@@ -2,6 +2,6 @@ pub mod Below
 pub mod Tables
 pub mod Series
 pub mod Sizes
-pub mod Bench
+pub mod BenchSizes
 pub mod BlockUnits
 pub mod Factors

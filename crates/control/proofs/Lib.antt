@@ -1,3 +1,3 @@
 -- Laws of the layout and of the answers.
 pub mod Fields
-pub mod Numbers
+pub mod AnswerNumber

@@ -23,10 +23,10 @@ use Rattle.agreement.proofs.Ways.{tests}
 use Rattle.agreement.proofs.Ends.{start-ends}
 use Rattle.agreement.proofs.Lent.{other-control, other-area, start-elsewhere}
 use Rattle.pool.specs.Call.{EffectIs}
-use Rattle.demands.specs.Runs.{Act, on-own, on-other, write, Contract, OtherLength, Happens, afterAct, eventOfAct}
-use Rattle.demands.specs.Runs.{Number}
-use Rattle.demands.specs.Runs.{Answered}
-use Rattle.demands.proofs.Numbers.{code-small, told-as}
+use Rattle.demands.specs.Acts.{Act, on-own, on-other, write, Contract, OtherLength, Happens, afterAct, eventOfAct}
+use Rattle.demands.specs.Acts.{Number}
+use Rattle.demands.specs.Acts.{Answered}
+use Rattle.demands.proofs.NumberTells.{code-small, told-as}
 
 -- the stepped run at the event of an act: the memories and the number are the act's
 pub record Shows (a : Act) (s : Memories) : Type 0 where

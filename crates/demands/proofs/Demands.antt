@@ -37,16 +37,16 @@ use Rattle.agreement.proofs.Ends.{no-region, put-back}
 use Rattle.agreement.proofs.SoundCalls.{step-place, step-others, allocate-others, free-others}
 use Rattle.agreement.specs.Reached.{happened, Reached, from-unstarted, from-start}
 use Rattle.agreement.proofs.Theorem.{reached-agrees, agreement-from-start}
-use Rattle.demands.specs.Answers.{Refusal, Ended, OfAnother, Begun}
+use Rattle.demands.specs.AnswerKinds.{Refusal, Ended, OfAnother, Begun}
 use Rattle.demands.specs.Tests.{firstFailed, Passes, startTests, callTests, requestTests, allocateTests}
 use Rattle.demands.specs.Tests.{freeTests, stepTests}
-use Rattle.demands.specs.Runs.{Act, on-own, on-other, write, Contract, Happens, Run, eventOfCall, eventOfAct}
-use Rattle.demands.specs.Runs.{eventsOfActs, Answered}
-use Rattle.demands.specs.Runs.{OtherLeft, Tells, Told, WhereverActs}
-use Rattle.demands.proofs.Numbers.{refused, accepted, ends-told, end-told}
+use Rattle.demands.specs.Acts.{Act, on-own, on-other, write, Contract, Happens, Run, eventOfCall, eventOfAct}
+use Rattle.demands.specs.Acts.{eventsOfActs, Answered}
+use Rattle.demands.specs.Acts.{OtherLeft, Tells, Told, WhereverActs}
+use Rattle.demands.proofs.NumberTells.{refused, accepted, ends-told, end-told}
 use Rattle.demands.proofs.Failing.{start-first, allocate-first, free-first, step-first, none-failed, later}
 use Rattle.demands.proofs.Acting.{shows}
-use Rattle.demands.proofs.Reaching.{along-acts}
+use Rattle.demands.proofs.ReachingByActs.{along-acts}
 use Rattle.demands.proofs.Backing.{stays-back}
 
 -- ---- demand 1

@@ -1,7 +1,7 @@
 -- The three demands of the exported functions.
-pub mod Numbers
+pub mod NumberTells
 pub mod Failing
 pub mod Acting
-pub mod Reaching
+pub mod ReachingByActs
 pub mod Backing
 pub mod Demands

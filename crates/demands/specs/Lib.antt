@@ -1,4 +1,4 @@
 -- What the demands speak of: the tests in their order, answers, and runs of the calls.
 pub mod Tests
-pub mod Answers
-pub mod Runs
+pub mod AnswerKinds
+pub mod Acts

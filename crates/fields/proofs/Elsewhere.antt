@@ -7,7 +7,7 @@ use native.Mathlib.Omega.{arith}
 use lib.ListN.{getD, set}
 use lib.Seq.{getD-set-other}
 use Rattle.fields.specs.Little.{getLE, setLE}
-use Rattle.fields.proofs.Numbers.{getD-before}
+use Rattle.fields.proofs.Little.{getD-before}
 
 -- a write leaves each byte past it
 pub getD-past : (s : List ℕ) (at w v i : ℕ) → at + w ≤ i → getD (setLE s at w v) i 0 ≡ getD s i 0

@@ -13,7 +13,7 @@ use lib.Dec.{leb}
 use Rattle.fields.specs.Little.{Bytes}
 use Rattle.fields.specs.Columns.{Column, times, pastOf, inOrder, Field, View, Write, _:=_, assign, assigned}
 use Rattle.fields.specs.Columns.{columnOf, firstByte, width, Has, view, write, written, Sound}
-use Rattle.fields.proofs.Numbers.{getLE-same, length-setLE, bytes-setLE}
+use Rattle.fields.proofs.Little.{getLE-same, length-setLE, bytes-setLE}
 use Rattle.fields.proofs.Elsewhere.{getLE-other}
 
 -- `times` is the product

@@ -1,5 +1,5 @@
 -- Laws of numbers in bytes and of layouts.
-pub mod Numbers
+pub mod Little
 pub mod Elsewhere
-pub mod Parts
+pub mod LentPart
 pub mod Layouts

@@ -7,9 +7,9 @@ use native.Mathlib.Omega.{arith}
 use lib.ListN.{length, getD, set}
 use Rattle.limits.specs.Limits.{UNIT-BYTES, REGION-BYTES, REGION-UNITS}
 use Rattle.fields.specs.Little.{Bytes}
-use Rattle.fields.proofs.Numbers.{getLE-same, getLE-lt, length-setLE, bytes-setLE}
+use Rattle.fields.proofs.Little.{getLE-same, getLE-lt, length-setLE, bytes-setLE}
 use borrow.Rule.Slice.PartMut.{midOf, putMid}
-use Rattle.fields.proofs.Parts.{setLE-part}
+use Rattle.fields.proofs.LentPart.{setLE-part}
 use Rattle.fields.proofs.Elsewhere.{getLE-other, getLE-set-other, getD-other}
 use Rattle.links.specs.Link.{LINK-BYTES, link, withLink, LinkWrite, _⇒_, linked}
 

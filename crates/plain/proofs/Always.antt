@@ -13,9 +13,9 @@ use Rattle.plain.specs.Calls.{Pool, Call, start, allocate, free, startAr
 use Rattle.plain.specs.Calls.{beginFree}
 use Rattle.plain.specs.Calls.{whenIdle, tested, plainCall, Lengths, step}
 use Rattle.plain.specs.Invariant.{Invariant, Good, run}
-use Rattle.plain.proofs.Tests.{either, KeepsInvariant}
+use Rattle.plain.proofs.Either.{either, KeepsInvariant}
 use Rattle.plain.proofs.Steps.{step-inv}
-use Rattle.plain.proofs.Starts.{start-inv}
+use Rattle.plain.proofs.StartInvariant.{start-inv}
 use Rattle.plain.proofs.Begins.{allocate-inv, free-by-inv}
 
 -- ---- a request's beginning

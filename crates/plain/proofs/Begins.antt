@@ -5,7 +5,7 @@ use Prim.Native.Nat.{ℕ, zero, suc, _+_, _≤_, _<_}
 use native.Mathlib.Omega.{arith}
 use native.Mathlib.Decide.{ℕ-discrete, decLt}
 use Rattle.limits.specs.Limits.{TASKS, CLASSES, DESCRIPTORS, LARGEST-SIZE}
-use Rattle.rows.specs.Tests.{Equality, same, other, same?}
+use Rattle.rows.specs.Comparisons.{Equality, same, other, same?}
 use Rattle.rows.specs.Branch.{both}
 use Rattle.rows.specs.Weights.{when, one}
 use Rattle.rows.specs.Counting.{count}
@@ -17,18 +17,18 @@ use Rattle.classes.proofs.Sizes.{is-class}
 use Rattle.plain.specs.State.{idle, f1, Task, Mem, working}
 use Rattle.plain.specs.Calls.{beginAllocate, Opens, opens?, First, first?, freeIn, freeEntry}
 use Rattle.plain.specs.Blocks.{countBlock}
-use Rattle.plain.specs.States.{IsOpen}
+use Rattle.plain.specs.ByState.{IsOpen}
 use Rattle.plain.specs.Held.{classAt, underWay}
-use Rattle.plain.specs.Weights.{rowWeight, insideClassWeight, chainWeight, chainClassWeight, blockWeight}
-use Rattle.plain.specs.Weights.{blockClassWeight}
+use Rattle.plain.specs.HolderWeights.{rowWeight, insideClassWeight, chainWeight, chainClassWeight, blockWeight}
+use Rattle.plain.specs.HolderWeights.{blockClassWeight}
 use Rattle.plain.specs.Invariant.{OpenDescriptor, Invariant}
-use Rattle.plain.proofs.Tests.{either, KeepsInvariant}
+use Rattle.plain.proofs.Either.{either, KeepsInvariant}
 use Rattle.plain.proofs.Blocks.{block-counts, first-is-block}
-use Rattle.plain.proofs.States.{open-le, open-is, open-holds}
+use Rattle.plain.proofs.ByState.{open-le, open-is, open-holds}
 use Rattle.plain.proofs.Homes.{inside-open}
-use Rattle.plain.proofs.Notes.{as-before}
+use Rattle.plain.proofs.NotesKept.{as-before}
 use Rattle.plain.proofs.Turn.{Turn, fewer, as-mapped, turn-inv}
-use Rattle.plain.proofs.Places.{taskOf, turnAt, placed-empty}
+use Rattle.plain.proofs.PlaceAlone.{taskOf, turnAt, placed-empty}
 
 -- What a task has for a class, it has.
 class-block : (c v : ℕ) (T : Task) → c < CLASSES → blockClassWeight c v 0 T ≤ blockWeight v 0 T

@@ -6,7 +6,7 @@ use native.Mathlib.Omega.{arith}
 use native.Mathlib.Nat.{div-add-mod, mul-le-mul-left}
 use lib.ListN.{length}
 use Rattle.limits.specs.Limits.{REGION-UNITS}
-use Rattle.rows.specs.Tests.{same, other, same?, before, after, order?}
+use Rattle.rows.specs.Comparisons.{same, other, same?, before, after, order?}
 use Rattle.rows.specs.Weights.{one}
 use Rattle.rows.specs.Counting.{count}
 use Rattle.rows.proofs.Weights.{when-same, when-other}

@@ -6,7 +6,7 @@ use native.Mathlib.Omega.{arith}
 use native.Mathlib.Decide.{ℕ-discrete, decLt}
 use lib.ListN.{length, length-append}
 use Rattle.limits.specs.Limits.{TASKS, CLASSES}
-use Rattle.rows.specs.Tests.{same, other, same?}
+use Rattle.rows.specs.Comparisons.{same, other, same?}
 use Rattle.rows.specs.Branch.{if}
 use Rattle.rows.specs.Update.{update}
 use Rattle.rows.specs.Weights.{when, one}
@@ -24,14 +24,14 @@ use Rattle.plain.specs.Steps.{cached, a1Step, a8Step, f1Step, f2Step, st
 use Rattle.plain.specs.Blocks.{blocksFrom}
 use Rattle.plain.specs.Held.{hold, held, blockIn, classBlockIn, descriptorIn, spareIn, listedIn, regionIn}
 use Rattle.plain.specs.Held.{unmappedIn, underWay}
-use Rattle.plain.specs.Weights.{rowWeight, blockWeight}
-use Rattle.plain.specs.Places.{Together, NoteHolds, PlaceHolds}
+use Rattle.plain.specs.HolderWeights.{rowWeight, blockWeight}
+use Rattle.plain.specs.TaskHolds.{Together, NoteHolds, PlaceHolds}
 use Rattle.plain.specs.Invariant.{Invariant}
-use Rattle.plain.proofs.Tests.{either, KeepsInvariant}
+use Rattle.plain.proofs.Either.{either, KeepsInvariant}
 use Rattle.plain.proofs.Homes.{inside-open}
-use Rattle.plain.proofs.Notes.{as-before}
+use Rattle.plain.proofs.NotesKept.{as-before}
 use Rattle.plain.proofs.Turn.{Turn, fewer, as-mapped, turn-inv, within}
-use Rattle.plain.proofs.Places.{taskOf, placeHolds, lengths, placed}
+use Rattle.plain.proofs.PlaceAlone.{taskOf, placeHolds, lengths, placed}
 
 -- the place p has the blocks b under way, of the class c, and nothing else
 abbrev pub HoldsBlocks : ℕ → List ℕ → Place → Type 0

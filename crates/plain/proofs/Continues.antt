@@ -9,7 +9,7 @@ use Rattle.classes.specs.Classes.{perRegion}
 use Rattle.plain.specs.State.{State, EMPTY, PARTIAL, FULL, working}
 use Rattle.plain.specs.Steps.{f6, f5}
 use Rattle.plain.specs.Held.{hold, owed, heldAt}
-use Rattle.plain.specs.Places.{HoldsAt, NoteHolds}
+use Rattle.plain.specs.TaskHolds.{HoldsAt, NoteHolds}
 
 -- ---- what it has under way
 

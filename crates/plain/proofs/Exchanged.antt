@@ -14,12 +14,12 @@ use Rattle.plain.specs.State.{Place, Mem, setRow}
 use Rattle.plain.specs.Steps.{atPlace}
 use Rattle.plain.specs.Held.{Held, held, blockIn, classBlockIn, descriptorIn, spareIn, listedIn, regionIn}
 use Rattle.plain.specs.Held.{unmappedIn}
-use Rattle.plain.specs.Weights.{rowWeight}
-use Rattle.plain.specs.Places.{NoteHolds, PlaceHolds}
+use Rattle.plain.specs.HolderWeights.{rowWeight}
+use Rattle.plain.specs.TaskHolds.{NoteHolds, PlaceHolds}
 use Rattle.plain.specs.Invariant.{Invariant}
-use Rattle.plain.proofs.Notes.{Exchanges, as-before, one-more}
+use Rattle.plain.proofs.NotesKept.{Exchanges, as-before, one-more}
 use Rattle.plain.proofs.Turn.{Turn, fewer, as-mapped, turn-inv}
-use Rattle.plain.proofs.Places.{taskOf, lengths}
+use Rattle.plain.proofs.PlaceAlone.{taskOf, lengths}
 
 -- A won exchange is one more of its list, and of no other.
 exchanged : (m : Mem) (ℓ : ℕ) (q : List ℕ) (j : ℕ)

@@ -12,12 +12,12 @@ use Rattle.classes.specs.Geometry.{regionOf, Block}
 use Rattle.classes.proofs.BlockUnits.{region-is}
 use Rattle.plain.specs.State.{Mem}
 use Rattle.plain.specs.Blocks.{countBlock}
-use Rattle.plain.specs.States.{IsOpen}
+use Rattle.plain.specs.ByState.{IsOpen}
 use Rattle.plain.specs.Held.{classAt, underWay}
-use Rattle.plain.specs.Weights.{insideWeight, insideClassWeight, openWeight, blockClassWeight}
+use Rattle.plain.specs.HolderWeights.{insideWeight, insideClassWeight, openWeight, blockClassWeight}
 use Rattle.plain.specs.Invariant.{Invariant}
 use Rattle.plain.proofs.Blocks.{counts-block, isBlock-region}
-use Rattle.plain.proofs.States.{open-le, open-counts, open-holds}
+use Rattle.plain.proofs.ByState.{open-le, open-counts, open-holds}
 
 -- a block v of the class c, and the descriptor d that opens its region; the map names d
 pub record Home (m : Mem) (c v : ℕ) : Type 0 where

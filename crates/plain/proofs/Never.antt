@@ -9,15 +9,15 @@ use Rattle.rows.proofs.Weights.{when-same}
 use Rattle.plain.specs.State.{State, EMPTY, PARTIAL, FULL, stateNumber, Note, a3-exchange, f3-read, f3-link}
 use Rattle.plain.specs.State.{f3-exchange, Mem, working}
 use Rattle.plain.specs.Steps.{popList, AsNoted}
-use Rattle.plain.specs.States.{oneIfFull}
+use Rattle.plain.specs.ByState.{oneIfFull}
 use Rattle.plain.specs.Invariant.{Invariant}
 use Rattle.plain.specs.Never.{TopItem, GroupFits, GroupNamed, NeverHappens}
-use Rattle.plain.proofs.States.{is-open}
-use Rattle.plain.proofs.Places.{turnAt, placeHolds, noteHolds}
+use Rattle.plain.proofs.ByState.{is-open}
+use Rattle.plain.proofs.PlaceAlone.{turnAt, placeHolds, noteHolds}
 use Rattle.plain.proofs.Owners.{home-of}
-use Rattle.plain.proofs.Anchors.{in-hand}
+use Rattle.plain.proofs.AnchorExchange.{in-hand}
 use Rattle.plain.proofs.Takes.{taken}
-use Rattle.plain.proofs.Groups.{Grouped, group-fits}
+use Rattle.plain.proofs.GroupFits.{Grouped, group-fits}
 
 -- A row with an item has a top item.
 pub top-item : (q : List ℕ) → 1 ≤ length q → TopItem q

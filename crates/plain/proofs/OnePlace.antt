@@ -4,7 +4,7 @@ use mathlib.Core.Logic.{_≢_}
 use Prim.Native.Nat.{ℕ, _+_, _≤_, _<_}
 use native.Mathlib.Omega.{arith}
 use Rattle.limits.specs.Limits.{TASKS, DESCRIPTORS, SPARE-REGIONS}
-use Rattle.rows.specs.Tests.{same, other, same?, before, after, order?}
+use Rattle.rows.specs.Comparisons.{same, other, same?, before, after, order?}
 use Rattle.rows.specs.Weights.{when, one}
 use Rattle.rows.specs.Counting.{count}
 use Rattle.rows.specs.Totals.{total}
@@ -14,14 +14,15 @@ use Rattle.classes.specs.Geometry.{regionOf, Block}
 use Rattle.classes.proofs.BlockUnits.{region-is}
 use Rattle.plain.specs.State.{Mem}
 use Rattle.plain.specs.Blocks.{countBlock}
-use Rattle.plain.specs.States.{IsOpen}
-use Rattle.plain.specs.Weights.{rowWeight, insideWeight, insideClassWeight, chainWeight, openWeight, blockWeight}
-use Rattle.plain.specs.Weights.{blockClassWeight}
+use Rattle.plain.specs.ByState.{IsOpen}
+use Rattle.plain.specs.HolderWeights.{rowWeight, insideWeight, insideClassWeight, chainWeight, openWeight}
+use Rattle.plain.specs.HolderWeights.{blockWeight}
+use Rattle.plain.specs.HolderWeights.{blockClassWeight}
 use Rattle.plain.specs.Invariant.{Invariant}
 use Rattle.plain.specs.OnePlace.{OpenBlock, OnePlace, OnceListed}
 use Rattle.plain.proofs.Blocks.{block-counts, counts-block, isBlock-region, first-is-block, block-is-first}
-use Rattle.plain.proofs.States.{open-le, open-max, open-le-asked, open-is, is-open, open-counts, open-holds}
-use Rattle.plain.proofs.States.{open-map}
+use Rattle.plain.proofs.ByState.{open-le, open-max, open-le-asked, open-is, is-open, open-counts, open-holds}
+use Rattle.plain.proofs.ByState.{open-map}
 use Rattle.plain.proofs.Homes.{inside-open}
 
 module _ {area : ℕ} {m : Mem} (I : Invariant area m) where

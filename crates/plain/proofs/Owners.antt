@@ -9,12 +9,12 @@ use Rattle.rows.proofs.Weights.{when-same}
 use Rattle.rows.proofs.Totals.{total-one}
 use Rattle.classes.specs.Geometry.{regionOf}
 use Rattle.plain.specs.State.{Place, Mem}
-use Rattle.plain.specs.States.{IsOpen}
+use Rattle.plain.specs.ByState.{IsOpen}
 use Rattle.plain.specs.Held.{classAt, underWay}
-use Rattle.plain.specs.Weights.{blockClassWeight}
+use Rattle.plain.specs.HolderWeights.{blockClassWeight}
 use Rattle.plain.proofs.Homes.{Home, home}
 use Rattle.plain.proofs.Turn.{Turn}
-use Rattle.plain.proofs.Places.{taskOf}
+use Rattle.plain.proofs.PlaceAlone.{taskOf}
 
 module _ {area : ℕ} {m : Mem} {t : ℕ} {p : Place} {k : ℕ → List ℕ} (w : Turn area m t (taskOf p k)) where
   -- What a place has under way is of its class, so it has a home.

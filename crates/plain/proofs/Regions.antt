@@ -6,7 +6,7 @@ use Prim.Native.Nat.{ℕ, suc, _+_, _-_, _≤_, _<_}
 use native.Mathlib.Omega.{arith}
 use native.Mathlib.Nat.{sub-zero}
 use Rattle.limits.specs.Limits.{TASKS, DESCRIPTORS}
-use Rattle.rows.specs.Tests.{same, other, same?}
+use Rattle.rows.specs.Comparisons.{same, other, same?}
 use Rattle.rows.specs.Update.{update}
 use Rattle.rows.specs.Weights.{when, one}
 use Rattle.rows.specs.Counting.{count}
@@ -20,17 +20,17 @@ use Rattle.plain.specs.State.{State, EMPTY, FULL, Descriptor, read, rele
 use Rattle.plain.specs.State.{working}
 use Rattle.plain.specs.Steps.{a7Step, stepAt}
 use Rattle.plain.specs.Blocks.{blocksFrom, countBlock}
-use Rattle.plain.specs.States.{ifOpen, IsOpen, IfOpen, IfEmpty, oneIfFull, oneIfEmpty}
-use Rattle.plain.specs.Weights.{insideWeight, insideClassWeight, chainWeight, chainClassWeight, openWeight}
-use Rattle.plain.specs.Weights.{fullWeight, descriptorClassWeight, regionWeight}
+use Rattle.plain.specs.ByState.{ifOpen, IsOpen, IfOpen, IfEmpty, oneIfFull, oneIfEmpty}
+use Rattle.plain.specs.HolderWeights.{insideWeight, insideClassWeight, chainWeight, chainClassWeight, openWeight}
+use Rattle.plain.specs.HolderWeights.{fullWeight, descriptorClassWeight, regionWeight}
 use Rattle.plain.specs.Invariant.{OpenDescriptor, ClosedDescriptor, Invariant}
-use Rattle.plain.proofs.Tests.{KeepsInvariant}
+use Rattle.plain.proofs.Either.{KeepsInvariant}
 use Rattle.plain.proofs.Blocks.{isBlock-row}
-use Rattle.plain.proofs.States.{open-map}
-use Rattle.plain.proofs.Notes.{as-before}
+use Rattle.plain.proofs.ByState.{open-map}
+use Rattle.plain.proofs.NotesKept.{as-before}
 use Rattle.plain.proofs.Turn.{Turn, Asked, fewer, enough, as-mapped, no-entry, opens, turn-inv}
-use Rattle.plain.proofs.Places.{taskOf, placeHolds, lengths}
-use Rattle.plain.proofs.Anchors.{in-hand, spare-empty}
+use Rattle.plain.proofs.PlaceAlone.{taskOf, placeHolds, lengths}
+use Rattle.plain.proofs.AnchorExchange.{in-hand, spare-empty}
 
 -- ---- a region that a task holds
 

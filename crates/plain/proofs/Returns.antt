@@ -13,16 +13,16 @@ use Rattle.plain.specs.State.{State, EMPTY, PARTIAL, FULL, stateNumber, 
 use Rattle.plain.specs.State.{working}
 use Rattle.plain.specs.Steps.{AsNoted, asNoted?, f3Won, f3Exchange}
 use Rattle.plain.specs.Blocks.{countBlock}
-use Rattle.plain.specs.States.{oneIfFull}
+use Rattle.plain.specs.ByState.{oneIfFull}
 use Rattle.plain.specs.Held.{owed}
 use Rattle.plain.specs.Invariant.{all-returned}
-use Rattle.plain.proofs.Tests.{either, KeepsInvariant}
+use Rattle.plain.proofs.Either.{either, KeepsInvariant}
 use Rattle.plain.proofs.Turn.{Turn}
-use Rattle.plain.proofs.Places.{taskOf, placeHolds, placed, noteHolds}
+use Rattle.plain.proofs.PlaceAlone.{taskOf, placeHolds, placed, noteHolds}
 use Rattle.plain.proofs.Owners.{Owner}
 use Rattle.plain.proofs.Continues.{f5-held, f5-holds, f5-note}
-use Rattle.plain.proofs.Anchors.{anchored}
-use Rattle.plain.proofs.Groups.{Grouped, group-owner, group-opened, group-joined, group-fits, group-whole}
+use Rattle.plain.proofs.AnchorExchange.{anchored}
+use Rattle.plain.proofs.GroupFits.{Grouped, group-owner, group-opened, group-joined, group-fits, group-whole}
 
 -- ---- what a free owes
 

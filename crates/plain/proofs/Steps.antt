@@ -12,14 +12,14 @@ use Rattle.plain.specs.State.{f3-read, f3-link, f3-exchange, f4-clear, M
 use Rattle.plain.specs.Steps.{f3Read, stepAt, stepOf, whenWorking}
 use Rattle.plain.specs.Invariant.{Invariant}
 use Rattle.plain.specs.Codes.{StepFacts}
-use Rattle.plain.proofs.Tests.{KeepsInvariant}
+use Rattle.plain.proofs.Either.{KeepsInvariant}
 use Rattle.plain.proofs.Turn.{Turn}
-use Rattle.plain.proofs.Places.{taskOf, turnAt, placeHolds, placed, noteHolds}
+use Rattle.plain.proofs.PlaceAlone.{taskOf, turnAt, placeHolds, placed, noteHolds}
 use Rattle.plain.proofs.Caches.{a1-inv, a4-inv, a8-inv, f1-inv, f2-inv}
-use Rattle.plain.proofs.Lists.{pop-inv, push-inv}
+use Rattle.plain.proofs.ListSteps.{pop-inv, push-inv}
 use Rattle.plain.proofs.Takes.{a3-read-inv, a3-exchange-inv}
 use Rattle.plain.proofs.Regions.{clear-inv, open-inv}
-use Rattle.plain.proofs.Groups.{Grouped, group-fits}
+use Rattle.plain.proofs.GroupFits.{Grouped, group-fits}
 use Rattle.plain.proofs.Returns.{f3-exchange-inv}
 use Rattle.plain.proofs.Codes.{facts-a1, facts-pop, facts-push, facts-a3, facts-a3-exchange, facts-a4, facts-a7}
 use Rattle.plain.proofs.Codes.{facts-a8, facts-f1, facts-f2, facts-f3, facts-f3-link, facts-f3-exchange}

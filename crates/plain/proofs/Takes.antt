@@ -5,7 +5,7 @@ use Prim.Native.Nat.{ℕ, _+_, _≤_, _<_}
 use native.Mathlib.Omega.{arith}
 use lib.ListN.{length}
 use Rattle.limits.specs.Limits.{DESCRIPTORS}
-use Rattle.rows.specs.Tests.{same, other, same?}
+use Rattle.rows.specs.Comparisons.{same, other, same?}
 use Rattle.rows.specs.Weights.{when, one}
 use Rattle.rows.specs.Counting.{count}
 use Rattle.rows.proofs.Weights.{when-same, when-other, when-zero}
@@ -14,14 +14,14 @@ use Rattle.plain.specs.State.{State, EMPTY, PARTIAL, FULL, stateNumber, 
 use Rattle.plain.specs.State.{a3-exchange, Mem, setDescriptor, working}
 use Rattle.plain.specs.Steps.{moving, AsNoted, asNoted?, chained, a3Read, a3Exchange, atWork}
 use Rattle.plain.specs.Blocks.{countBlock}
-use Rattle.plain.specs.States.{ifOpen, IsOpen, oneIfFull, oneIfEmpty}
+use Rattle.plain.specs.ByState.{ifOpen, IsOpen, oneIfFull, oneIfEmpty}
 use Rattle.plain.specs.Invariant.{ChainLength, OpenDescriptor, Invariant}
-use Rattle.plain.proofs.Tests.{either, KeepsInvariant}
-use Rattle.plain.proofs.States.{open-holds, IsState, is-empty, is-partial, is-full, state?}
-use Rattle.plain.proofs.Notes.{as-before}
+use Rattle.plain.proofs.Either.{either, KeepsInvariant}
+use Rattle.plain.proofs.ByState.{open-holds, IsState, is-empty, is-partial, is-full, state?}
+use Rattle.plain.proofs.NotesKept.{as-before}
 use Rattle.plain.proofs.Turn.{Turn, fewer, enough, as-mapped, turn-inv}
-use Rattle.plain.proofs.Places.{taskOf, placeHolds, lengths, placed}
-use Rattle.plain.proofs.Anchors.{in-hand, class-of, anchored}
+use Rattle.plain.proofs.PlaceAlone.{taskOf, placeHolds, lengths, placed}
+use Rattle.plain.proofs.AnchorExchange.{in-hand, class-of, anchored}
 
 -- the descriptor whose chain is taken: it was noted as not EMPTY, and as it is held it is not FULL
 pub record TakenChain (m : Mem) (c d : ℕ) : Type 0 where

@@ -13,17 +13,17 @@ use Rattle.rows.proofs.Weights.{below-max}
 use Rattle.rows.proofs.Totals.{total-le, total-one, total-update}
 use Rattle.classes.specs.Geometry.{regionOf}
 use Rattle.plain.specs.State.{Task, Mem, setTask}
-use Rattle.plain.specs.States.{IfOpen, IfEmpty, oneIfEmpty}
+use Rattle.plain.specs.ByState.{IfOpen, IfEmpty, oneIfEmpty}
 use Rattle.plain.specs.Held.{classAt, underWay, held}
-use Rattle.plain.specs.Weights.{rowWeight, insideWeight, insideClassWeight, chainWeight, chainClassWeight}
-use Rattle.plain.specs.Weights.{openWeight, fullWeight, blockWeight, blockClassWeight, descriptorWeight}
-use Rattle.plain.specs.Weights.{descriptorClassWeight, spareWeight, regionWeight, unmappedWeight}
-use Rattle.plain.specs.Places.{TaskHolds}
+use Rattle.plain.specs.HolderWeights.{rowWeight, insideWeight, insideClassWeight, chainWeight, chainClassWeight}
+use Rattle.plain.specs.HolderWeights.{openWeight, fullWeight, blockWeight, blockClassWeight, descriptorWeight}
+use Rattle.plain.specs.HolderWeights.{descriptorClassWeight, spareWeight, regionWeight, unmappedWeight}
+use Rattle.plain.specs.TaskHolds.{TaskHolds}
 use Rattle.plain.specs.Invariant.{OpenDescriptor, ClosedDescriptor, Invariant}
 use Rattle.plain.specs.Noted.{noted}
 use Rattle.plain.proofs.Held.{spare-held, class-held, unmapped-held}
 use Rattle.plain.proofs.Homes.{inside-open, class-inside, underWay-class}
-use Rattle.plain.proofs.Notes.{Exchanges, as-before, note-kept}
+use Rattle.plain.proofs.NotesKept.{Exchanges, as-before, note-kept}
 
 -- the task t, which is T, is about to take a step in a memory that has the invariant
 pub record Turn (area : ℕ) (m : Mem) (t : ℕ) (T : Task) : Type 0 where

@@ -12,11 +12,11 @@ use Rattle.classes.specs.Classes.{perRegion}
 use Rattle.plain.specs.State.{State, EMPTY, PARTIAL, FULL, Descriptor, Mem}
 use Rattle.plain.specs.Calls.{Pool, Call, plainCall, Lengths}
 use Rattle.plain.specs.Blocks.{countBlock}
-use Rattle.plain.specs.States.{IfOpen, IfEmpty, oneIfEmpty}
-use Rattle.plain.specs.Weights.{rowWeight, insideWeight, insideClassWeight, chainWeight, chainClassWeight}
-use Rattle.plain.specs.Weights.{openWeight, fullWeight, blockWeight, blockClassWeight, descriptorWeight}
-use Rattle.plain.specs.Weights.{descriptorClassWeight, spareWeight, regionWeight, unmappedWeight}
-use Rattle.plain.specs.Places.{TaskHolds}
+use Rattle.plain.specs.ByState.{IfOpen, IfEmpty, oneIfEmpty}
+use Rattle.plain.specs.HolderWeights.{rowWeight, insideWeight, insideClassWeight, chainWeight, chainClassWeight}
+use Rattle.plain.specs.HolderWeights.{openWeight, fullWeight, blockWeight, blockClassWeight, descriptorWeight}
+use Rattle.plain.specs.HolderWeights.{descriptorClassWeight, spareWeight, regionWeight, unmappedWeight}
+use Rattle.plain.specs.TaskHolds.{TaskHolds}
 
 -- how many blocks a chain has in each state, where a region has n
 abbrev pub ChainLength : State → ℕ → ℕ → Type 0

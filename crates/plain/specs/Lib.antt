@@ -4,11 +4,11 @@ pub mod Moves
 pub mod Steps
 pub mod Calls
 pub mod Blocks
-pub mod States
+pub mod ByState
 pub mod Held
 pub mod Noted
-pub mod Weights
-pub mod Places
+pub mod HolderWeights
+pub mod TaskHolds
 pub mod Invariant
 pub mod Codes
 pub mod Never

@@ -8,7 +8,7 @@ use Rattle.rows.specs.Totals.{total}
 use Rattle.classes.specs.Geometry.{regionOf}
 use Rattle.plain.specs.State.{Mem}
 use Rattle.plain.specs.Calls.{Opens, First}
-use Rattle.plain.specs.Weights.{rowWeight, chainWeight, blockWeight, blockClassWeight}
+use Rattle.plain.specs.HolderWeights.{rowWeight, chainWeight, blockWeight, blockClassWeight}
 
 -- v is a block of an open region, whose descriptor is d: "the first unit of a block of an open region", as test 10
 -- of a free finds it

@@ -19,7 +19,7 @@ use Rattle.stepped.specs.Steps as Steps
 use Rattle.stepped.specs.Calls.{tested, whenIdle, beginAllocate, beginFree, allocateOutcome, freeOutcome, stepOutcome}
 use Rattle.stepped.specs.Done.{Done, NumberIn}
 use Rattle.stepped.proofs.Doing.{lends, numbers}
-use Rattle.begins.specs.Tests.{TestsAre}
+use Rattle.begins.specs.TestNumber.{TestsAre}
 use Rattle.pool.specs.Call.{EffectIs, Ensures}
 
 -- a call that the number r refuses

@@ -1,3 +1,3 @@
 -- Laws of the tests of values that are read.
-pub mod Ranges
+pub mod RangeTests
 pub mod Passed

@@ -12,7 +12,7 @@ use Rattle.words.specs.Anchor.{PARTIAL, FULL, isState, anchorOf}
 use Rattle.classes.specs.Geometry.{regionOf, isFirst}
 use Rattle.stepped.specs.Ranges.{oneTo, isBlock, isTop, isAnchor, hasChain, hasFirst, hasRoom}
 use Rattle.stepped.proofs.Conjunction.{both}
-use Rattle.ranges.proofs.Ranges.{top-of-none, top-of-some}
+use Rattle.ranges.proofs.RangeTests.{top-of-none, top-of-some}
 
 -- ---- a function's answer b, tested as `!b`
 

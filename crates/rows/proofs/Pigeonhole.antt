@@ -4,7 +4,7 @@ use mathlib.Core.List.{List, [], _∷_, _++_}
 use Prim.Native.Nat.{ℕ, _≤_, _<_}
 use native.Mathlib.Omega.{arith}
 use lib.ListN.{length}
-use Rattle.rows.specs.Tests.{Equality, same, other, same?, before, after, order?}
+use Rattle.rows.specs.Comparisons.{Equality, same, other, same?, before, after, order?}
 use Rattle.rows.specs.Counting.{count, Split}
 use Rattle.rows.proofs.Weights.{when-same, when-other}
 use Rattle.rows.proofs.Counting.{count-first, count-split, count-remove, length-remove}

@@ -3,7 +3,7 @@ use mathlib.Core.Path.{_≡_, refl, ap}
 use mathlib.Core.Logic.{_≢_}
 use Prim.Native.Nat.{ℕ, zero, suc, _+_, _≤_, _<_}
 use native.Mathlib.Omega.{arith}
-use Rattle.rows.specs.Tests.{same, other, same?, before, after, order?}
+use Rattle.rows.specs.Comparisons.{same, other, same?, before, after, order?}
 use Rattle.rows.specs.Update.{update}
 use Rattle.rows.specs.Totals.{total, Found}
 use Rattle.rows.proofs.Update.{update-same, update-other}

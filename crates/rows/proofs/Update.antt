@@ -3,7 +3,7 @@ use mathlib.Core.Path.{_≡_, refl}
 use mathlib.Core.Logic.{_≢_}
 use Prim.Native.Nat.{ℕ}
 use native.Mathlib.Decide.{ℕ-discrete}
-use Rattle.rows.specs.Tests.{same, other, same?}
+use Rattle.rows.specs.Comparisons.{same, other, same?}
 use Rattle.rows.specs.Update.{update}
 use Rattle.rows.proofs.Branch.{if-yes, if-no}
 

@@ -4,7 +4,7 @@ use mathlib.Core.Logic.{_≢_}
 use Prim.Native.Nat.{ℕ, _+_, _≤_, _<_}
 use native.Mathlib.Omega.{arith}
 use native.Mathlib.Decide.{ℕ-discrete, decLt}
-use Rattle.rows.specs.Tests.{same, other, same?, before, after, order?}
+use Rattle.rows.specs.Comparisons.{same, other, same?, before, after, order?}
 use Rattle.rows.specs.Branch.{if}
 use Rattle.rows.specs.Update.{update}
 use Rattle.rows.specs.Weights.{when, below}

@@ -1,4 +1,4 @@
-pub mod Tests
+pub mod Comparisons
 pub mod Branch
 pub mod Update
 pub mod Weights

@@ -1,8 +1,8 @@
 -- Laws of the stand.
-pub mod Reading
+pub mod RecordReading
 pub mod Lending
 pub mod Running
 pub mod Showing
 pub mod Values
-pub mod Counting
+pub mod Tallying
 pub mod Example

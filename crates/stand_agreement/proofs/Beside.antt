@@ -16,7 +16,7 @@ use Rattle.plain.specs.Moves.{Answer}
 use Rattle.plain.specs.Codes.{AtMost}
 use Rattle.plain.specs.Calls.{Pool, Call, allocate, free, step, Lengths}
 use Rattle.plain.specs.Calls as Calls
-use Rattle.plain.proofs.Answers.{most}
+use Rattle.plain.proofs.CallAnswers.{most}
 use Rattle.control.specs.Layout.{Tasks, seen}
 use Rattle.control.specs.Answers.{numberOf}
 use Rattle.stepped.specs.Outcome.{Effect, Memories}
@@ -24,17 +24,17 @@ use Rattle.stepped.specs.Calls.{effectOf, lending, lengths}
 use Rattle.stepped.specs.Calls as Stepped
 use Rattle.agreement.specs.Events.{stepped, whole, Premise}
 use Rattle.agreement.specs.Tied.{Tied}
-use Rattle.agreement.proofs.Runs.{short}
+use Rattle.agreement.proofs.AnswersOfRuns.{short}
 use Rattle.agreement.specs.Reached.{History, happened, Reached, by-event}
 use Rattle.agreement.proofs.Reaching.{reached-tied}
 use Rattle.agreement.proofs.Theorem.{reached-agrees}
-use Rattle.demands.specs.Runs.{on-own, eventOfCall, Number}
+use Rattle.demands.specs.Acts.{on-own, eventOfCall, Number}
 use Rattle.demands.proofs.Acting.{shows}
 use Rattle.schedule.specs.Stand.{STAND-REGIONS, STAND-AREA}
 use Rattle.schedule.specs.Stand.{as-started}
 use Rattle.schedule.specs.Bytes.{lentRegions, onPart, onBytes}
 use Rattle.schedule.specs.Plain.{numberIn, feeding, regionsFed, onPlain}
-use Rattle.stand_agreement.proofs.Parts.{part-length, part-back, back-length}
+use Rattle.stand_agreement.proofs.LentArea.{part-length, part-back, back-length}
 use Rattle.stand_agreement.proofs.Fed.{SameStart, allocate-keeps, free-keeps, step-keeps, same-regions}
 
 -- the memories that a call is lent with n regions

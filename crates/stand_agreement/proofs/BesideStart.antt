@@ -14,7 +14,7 @@ use Rattle.limits.specs.Limits.{CONTROL-BYTES, REGION-BYTES}
 use Rattle.plain.specs.Moves.{Answer}
 use Rattle.plain.specs.Calls.{Pool, Start, start, Lengths}
 use Rattle.plain.specs.Calls as Calls
-use Rattle.plain.proofs.Answers.{most}
+use Rattle.plain.proofs.CallAnswers.{most}
 use Rattle.control.specs.Answers.{codeOf, numberOf}
 use Rattle.control.specs.declared.answer.Answer.the-variants.{Accepted, Allocated, Freed, NoDescriptor, NoRegion}
 use Rattle.control.specs.declared.answer.Answer.the-variants.{Refused}
@@ -27,13 +27,13 @@ use Rattle.agreement.proofs.Ends.{start-ends}
 use Rattle.agreement.proofs.Lent.{start-leaves}
 use Rattle.agreement.specs.Reached.{History, happened, Reached, by-event}
 use Rattle.agreement.proofs.Theorem.{reached-agrees}
-use Rattle.demands.specs.Runs.{on-other, eventOfCall}
+use Rattle.demands.specs.Acts.{on-other, eventOfCall}
 use Rattle.demands.proofs.Acting.{shows}
 use Rattle.schedule.specs.Stand.{STAND-REGIONS}
 use Rattle.schedule.specs.Stand.{named}
 use Rattle.schedule.specs.Bytes.{onPart, onBytes}
 use Rattle.schedule.specs.Plain.{numberIn, feeding, regionsFed, onPlain}
-use Rattle.stand_agreement.proofs.Parts.{part-length, part-back, back-length}
+use Rattle.stand_agreement.proofs.LentArea.{part-length, part-back, back-length}
 use Rattle.stand_agreement.proofs.Fed.{StartIs, accepted, refused, start-is}
 use Rattle.stand_agreement.proofs.Beside.{partOf, Beside, tied, later, sum, SameAnswer}
 

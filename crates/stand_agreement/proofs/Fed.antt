@@ -9,7 +9,7 @@ use Rattle.plain.specs.Moves.{Answer}
 use Rattle.plain.specs.Steps.{Result}
 use Rattle.plain.specs.Calls.{Pool, Start, Lengths}
 use Rattle.plain.specs.Calls as Calls
-use Rattle.plain.proofs.Tests.{either}
+use Rattle.plain.proofs.Either.{either}
 use Rattle.schedule.specs.Plain.{numberIn, regionsFed}
 
 -- the same number of tasks and of regions

@@ -1,5 +1,5 @@
 -- The stand's table is the plain pool's.
-pub mod Parts
+pub mod LentArea
 pub mod Fed
 pub mod Beside
 pub mod BesideStart

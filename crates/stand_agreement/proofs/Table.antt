@@ -9,7 +9,7 @@ use lib.Dec.{eqb, leb}
 use lib.ListN.{length, getD, length-replicate}
 use Rattle.limits.specs.Limits.{CONTROL-BYTES, TAGS}
 use Rattle.fields.specs.Little.{Bytes, getLE}
-use Rattle.fields.proofs.Numbers.{getLE-lt}
+use Rattle.fields.proofs.Little.{getLE-lt}
 use Rattle.plain.specs.Calls.{Pool, step, unstarted}
 use Rattle.fields.specs.Columns.{firstByte, width}
 use Rattle.control.specs.Layout.{layout, Tasks}

@@ -1,2 +1,2 @@
 -- The laws of the start's image.
-pub mod Columns
+pub mod StartImage

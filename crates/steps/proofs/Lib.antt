@@ -1,2 +1,2 @@
 -- Laws of the step list by place.
-pub mod Places
+pub mod StepAt

@@ -19,7 +19,7 @@ use Rattle.stepped.specs.Done.{Done, DoneIn}
 use Rattle.stepped.proofs.Doing.{does, does-in}
 use Rattle.stepped.specs.Outcome.{Outcome, bad, accept, over}
 use Rattle.stepped.specs.Ranges.{isTop, isBlock, isAnchor, hasChain}
-use Rattle.steps_allocate.specs.Anchors.{isEmpty, fullWord}
+use Rattle.steps_allocate.specs.AnchorWords.{isEmpty, fullWord}
 use Rattle.stepped.specs.Allocate.{a1, a1Take, a3Read, a3ReadOf, a3Exchange, a3ExchangeOf}
 
 -- another function did what the outcome says

@@ -1,2 +1,2 @@
 -- Definitions of the steps of an allocation that take.
-pub mod Anchors
+pub mod AnchorWords

@@ -19,7 +19,7 @@ ghost use Rattle.plain.specs.Moves.{took};
 ghost use Rattle.control.specs.Layout.{Control, seen, Anchor as AnchorField, TaskIndex, TaskLeft, TaskPlace};
 ghost use Rattle.control.specs.Layout.{TaskRegion};
 ghost use Rattle.control.specs.Places.{A4};
-ghost use Rattle.steps_allocate.specs.Anchors.{isEmpty, fullWord};
+ghost use Rattle.steps_allocate.specs.AnchorWords.{isEmpty, fullWord};
 ghost use Rattle.stepped.specs.Ranges.{isAnchor};
 ghost use Rattle.stepped.specs.Outcome.{accept};
 ghost use Rattle.stepped.specs.Done.{Given, Done};

@@ -1,3 +1,3 @@
 -- Laws of the steps of an allocation that fill the cache.
-pub mod Bounds
-pub mod Filling
+pub mod FilledBlocks
+pub mod FillingWays

@@ -1,4 +1,4 @@
 -- The steps' ways out.
-pub mod Putting
-pub mod Grouping
+pub mod PutBlock
+pub mod GroupingWays
 pub mod Fitting

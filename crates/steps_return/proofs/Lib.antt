@@ -1,3 +1,3 @@
 -- The steps' ways out.
-pub mod Returning
-pub mod Clearing
+pub mod ReturningWays
+pub mod ClearingWays

@@ -16,7 +16,7 @@ use Rattle.schedule.specs.Records.{INPUT-BYTES, recordAt, entryAt, endOf}
 use Rattle.schedule.specs.Tally.{noneCounted, counted}
 use Rattle.schedule.specs.Stand.{shown, table}
 use Rattle.schedule.specs.Bytes.{onBytes, Does}
-use Rattle.text.specs.Numbers.{Appended}
+use Rattle.text.specs.Texts.{Appended}
 use Rattle.text.specs.Lines.{columnsText, lineText, totalText}
 use Rattle.text.proofs.Digits.{short-line}
 use Rattle.table.specs.Output.{TABLE-BYTES, rowsText, tableText, output}

@@ -10,7 +10,7 @@ use Rattle.schedule.specs.Tally.{noneCounted}
 use Rattle.schedule.specs.Stand.{table}
 use Rattle.schedule.specs.Bytes.{zeros, onBytes}
 use Rattle.schedule.specs.Plain.{onPlain}
-use Rattle.text.specs.Numbers.{Appended}
+use Rattle.text.specs.Texts.{Appended}
 use Rattle.text.specs.Lines.{columnsText, lineText, totalText}
 
 -- room for the longest table: 65,536 lines of at most 35 bytes, the first line and the last

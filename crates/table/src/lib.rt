@@ -6,7 +6,7 @@ ghost use Prim.Native.Nat.{_≤_};
 ghost use lib.ListN.{length};
 ghost use Rattle.schedule.specs.Records.{INPUT-BYTES};
 ghost use Rattle.schedule.specs.Bytes.{StandMemories};
-ghost use Rattle.text.specs.Numbers.{Appended};
+ghost use Rattle.text.specs.Texts.{Appended};
 ghost use Rattle.table.specs.Output.{TABLE-BYTES, output};
 
 // Room for the longest table. A line has at most 35 bytes and its record at least one, so that the lines of 65,536

@@ -7,7 +7,7 @@ use native.Mathlib.Nat.{pow-succ'}
 use native.Mathlib.Decide.{decLt}
 use borrow.Author.Tests.{lt-ltb, le-ltb}
 use lib.ListN.{length, length-append}
-use Rattle.text.specs.Numbers.{digits, decimal}
+use Rattle.text.specs.Texts.{digits, decimal}
 use Rattle.text.specs.Lines.{lineText}
 
 -- more places than a number needs change nothing

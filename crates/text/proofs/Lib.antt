@@ -1,4 +1,4 @@
 -- Laws of the stand's text.
 pub mod Digits
-pub mod Reading
-pub mod Writing
+pub mod DecimalReading
+pub mod TextWriting

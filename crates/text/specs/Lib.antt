@@ -1,3 +1,3 @@
 -- Definitions of the stand's text.
-pub mod Numbers
+pub mod Texts
 pub mod Lines

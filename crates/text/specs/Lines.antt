@@ -1,7 +1,7 @@
 -- The lines of the stand's table. The character 32 is a space, 10 the end of a line.
 use Prim.Native.Nat.{ℕ}
 use mathlib.Core.List.{List, [], _∷_, _++_}
-use Rattle.text.specs.Numbers.{decimal}
+use Rattle.text.specs.Texts.{decimal}
 
 -- a number and the character behind it
 abbrev pub field : ℕ → ℕ → List ℕ

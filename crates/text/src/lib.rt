@@ -2,7 +2,7 @@
 // or from the first, and answers where its text ends.
 ghost use Prim.Native.Nat.{_+_, _≤_};
 ghost use lib.ListN.{length};
-ghost use Rattle.text.specs.Numbers.{decimal as decimalText, Appended};
+ghost use Rattle.text.specs.Texts.{decimal as decimalText, Appended};
 ghost use Rattle.text.specs.Lines.{field as fieldText, columnsText, lineText, totalText};
 
 // Callers: `field`, and itself with all digits but the last.

@@ -2,7 +2,7 @@
 use borrow.Author.Needs.{needs}
 use native.Mathlib.Omega.{arith}
 use denote.Ref.{now}
-use Rattle.fields.proofs.Numbers.{getLE-join}
+use Rattle.fields.proofs.Little.{getLE-join}
 use Rattle.fields.proofs.load32.Statement.{statement}
 use Rattle.fields.proofs.load32.Tie as tie
 

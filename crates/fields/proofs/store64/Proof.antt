@@ -1,7 +1,7 @@
 -- The number is written by its low half and its high half.
 use borrow.Author.Needs.{needs}
 use denote.Ref.{now}
-use Rattle.fields.proofs.Numbers.{setLE-join}
+use Rattle.fields.proofs.Little.{setLE-join}
 use Rattle.fields.proofs.store64.Statement.{statement}
 use Rattle.fields.proofs.store64.Tie as tie
 

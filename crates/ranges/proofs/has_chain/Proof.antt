@@ -1,7 +1,7 @@
 -- Each test is one comparison of the anchor that the word holds.
 use borrow.Author.Needs.{needs}
 use native.Mathlib.Omega.{arith}
-use Rattle.ranges.proofs.Ranges.{parts, chain-state, chain-none, chain-long, chain-first}
+use Rattle.ranges.proofs.RangeTests.{parts, chain-state, chain-none, chain-long, chain-first}
 use Rattle.ranges.proofs.has_chain.Statement.{statement}
 use Rattle.ranges.proofs.has_chain.Tie as tie
 

@@ -1,7 +1,7 @@
 -- The code's test tells whether the chain has a block.
 use borrow.Author.Needs.{needs}
 use native.Mathlib.Omega.{arith}
-use Rattle.ranges.proofs.Ranges.{parts, first-of-none, first-of-some}
+use Rattle.ranges.proofs.RangeTests.{parts, first-of-none, first-of-some}
 use Rattle.ranges.proofs.has_first.Statement.{statement}
 use Rattle.ranges.proofs.has_first.Tie as tie
 

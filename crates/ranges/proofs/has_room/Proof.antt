@@ -2,7 +2,7 @@
 use borrow.Author.Needs.{needs}
 use native.Mathlib.Omega.{arith}
 use Rattle.ranges.proofs.Passed.{failed, passed}
-use Rattle.ranges.proofs.Ranges.{parts, room-first, room-none, room-some}
+use Rattle.ranges.proofs.RangeTests.{parts, room-first, room-none, room-some}
 use Rattle.ranges.proofs.has_room.Statement.{statement}
 use Rattle.ranges.proofs.has_room.Tie as tie
 

@@ -1,7 +1,7 @@
 -- Each test is one comparison of the anchor that the word holds.
 use borrow.Author.Needs.{needs}
 use native.Mathlib.Omega.{arith}
-use Rattle.ranges.proofs.Ranges.{parts, anchor-state, anchor-avail, anchor-count}
+use Rattle.ranges.proofs.RangeTests.{parts, anchor-state, anchor-avail, anchor-count}
 use Rattle.ranges.proofs.is_anchor.Statement.{statement}
 use Rattle.ranges.proofs.is_anchor.Tie as tie
 

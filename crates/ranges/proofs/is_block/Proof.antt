@@ -2,7 +2,7 @@
 use borrow.Author.Needs.{needs}
 use native.Mathlib.Omega.{arith}
 use mathlib.Core.Path.{_∙_}
-use Rattle.ranges.proofs.Ranges.{block-outside, block-inside}
+use Rattle.ranges.proofs.RangeTests.{block-outside, block-inside}
 use Rattle.ranges.proofs.is_block.Statement.{statement}
 use Rattle.ranges.proofs.is_block.Tie as tie
 

@@ -2,7 +2,7 @@
 use borrow.Author.Needs.{needs}
 use native.Mathlib.Omega.{arith}
 use mathlib.Core.Path.{_∙_}
-use Rattle.ranges.proofs.Ranges.{top-of-none, top-of-some}
+use Rattle.ranges.proofs.RangeTests.{top-of-none, top-of-some}
 use Rattle.ranges.proofs.is_top.Statement.{statement}
 use Rattle.ranges.proofs.is_top.Tie as tie
 

@@ -5,7 +5,7 @@ use borrow.Author.Needs.{needs}
 use Rattle.limits.specs.Limits.{DESCRIPTORS}
 use Rattle.control.specs.Layout.{DescriptorNext}
 use Rattle.stepped.specs.Start.{nextUp}
-use Rattle.start.proofs.Columns.{Filling, filling-begins, filling-goes, filling-ends}
+use Rattle.start.proofs.StartImage.{Filling, filling-begins, filling-goes, filling-ends}
 use Rattle.start.proofs.chain_descriptors.Statement.{statement}
 use Rattle.start.proofs.chain_descriptors.Tie as tie
 

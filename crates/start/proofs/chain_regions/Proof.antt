@@ -4,7 +4,7 @@ use native.Mathlib.Omega.{arith}
 use borrow.Author.Needs.{needs}
 use Rattle.control.specs.Layout.{RegionNext}
 use Rattle.stepped.specs.Start.{nextUp}
-use Rattle.start.proofs.Columns.{Filling, filling-begins, filling-goes, filling-ends}
+use Rattle.start.proofs.StartImage.{Filling, filling-begins, filling-goes, filling-ends}
 use Rattle.start.proofs.chain_regions.Statement.{statement}
 use Rattle.start.proofs.chain_regions.Tie as tie
 

@@ -6,7 +6,7 @@ use native.Mathlib.Nat.{le-antisymm}
 use native.Mathlib.Omega.{arith}
 use lib.ListN.{length, set, drop, replicate, length-set}
 use borrow.Author.Fill.{fill-more}
-use Rattle.start.proofs.Columns.{filled-all}
+use Rattle.start.proofs.StartImage.{filled-all}
 use Rattle.start.proofs.clear.Statement.{statement}
 use Rattle.start.proofs.clear.Tie as tie
 

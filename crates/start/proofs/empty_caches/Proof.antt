@@ -5,7 +5,7 @@ use native.Mathlib.Omega.{arith}
 use borrow.Author.Needs.{needs}
 use Rattle.limits.specs.Limits.{UNITS}
 use Rattle.control.specs.Layout.{CACHES, TopOfCache}
-use Rattle.start.proofs.Columns.{Filling, filling-begins, filling-goes, filling-ends}
+use Rattle.start.proofs.StartImage.{Filling, filling-begins, filling-goes, filling-ends}
 use Rattle.start.proofs.empty_caches.Statement.{statement}
 use Rattle.start.proofs.empty_caches.Tie as tie
 

@@ -2,7 +2,7 @@
 use borrow.Author.Needs.{needs}
 use Rattle.limits.specs.Limits.{SPARE-DESCRIPTORS, SPARE-REGIONS}
 use Rattle.control.specs.Layout.{Head}
-use Rattle.start.proofs.Columns.{with-value, image-is}
+use Rattle.start.proofs.StartImage.{with-value, image-is}
 use Rattle.start.proofs.image.Statement.{statement}
 use Rattle.start.proofs.image.Tie as tie
 

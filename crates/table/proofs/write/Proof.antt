@@ -5,7 +5,7 @@ use native.Mathlib.Omega.{arith}
 use lib.ListN.{length}
 use borrow.Author.Needs.{needs}
 use borrow.Rule.Slice.PartMut.{mid-len}
-use Rattle.text.proofs.Writing.{at-part}
+use Rattle.text.proofs.TextWriting.{at-part}
 use Rattle.table.proofs.Playing.{TableAhead, within, begins, short, goes-on, ends, further}
 use Rattle.table.proofs.write.Statement.{statement}
 use Rattle.table.proofs.write.Tie as tie

@@ -5,7 +5,7 @@ use native.Mathlib.Omega.{arith}
 use lib.ListN.{length}
 use borrow.Author.Needs.{needs}
 use Rattle.text.proofs.Digits.{one-digit, last-digit, one-longer}
-use Rattle.text.proofs.Writing.{none, one-more}
+use Rattle.text.proofs.TextWriting.{none, one-more}
 use borrow.Fn.Kinds.{In}
 use borrow.Fn.PlainCycle.{Measures, is, falls, and}
 use Rattle.text.proofs.decimal.Reads as decimal

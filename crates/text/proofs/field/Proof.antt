@@ -2,7 +2,7 @@
 use native.Mathlib.Omega.{arith}
 use borrow.Author.Needs.{needs}
 use Rattle.text.proofs.Digits.{twenty}
-use Rattle.text.proofs.Writing.{one-more}
+use Rattle.text.proofs.TextWriting.{one-more}
 use Rattle.text.proofs.field.Statement.{statement}
 use Rattle.text.proofs.field.Tie as tie
 

@@ -1,7 +1,7 @@
 -- The four numbers one behind the other.
 use borrow.Author.Needs.{needs}
 use Rattle.text.specs.Lines.{lineText}
-use Rattle.text.proofs.Writing.{both}
+use Rattle.text.proofs.TextWriting.{both}
 use Rattle.text.proofs.line.Statement.{statement}
 use Rattle.text.proofs.line.Tie as tie
 

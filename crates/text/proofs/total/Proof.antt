@@ -1,7 +1,7 @@
 -- The word and the three numbers one behind the other.
 use borrow.Author.Needs.{needs}
 use Rattle.text.specs.Lines.{totalText}
-use Rattle.text.proofs.Writing.{both}
+use Rattle.text.proofs.TextWriting.{both}
 use Rattle.text.proofs.total.Statement.{statement}
 use Rattle.text.proofs.total.Tie as tie
 

@@ -4,8 +4,8 @@ use native.Mathlib.Omega.{arith}
 use native.Mathlib.Nat.{add-zero}
 use lib.ListN.{length, take}
 use lib.Seq.{take-all}
-use Rattle.text.specs.Numbers.{Appended}
-use Rattle.text.proofs.Writing.{none, next}
+use Rattle.text.specs.Texts.{Appended}
+use Rattle.text.proofs.TextWriting.{none, next}
 use Rattle.text.proofs.word.Statement.{statement}
 use Rattle.text.proofs.word.Tie as tie
 

@@ -3,7 +3,7 @@ use mathlib.Core.Path.{refl}
 use native.Mathlib.Omega.{arith}
 use Rattle.stepped.proofs.Doing.{done, does}
 use Rattle.begins.proofs.Beginning.{no-place, in-hand}
-use Rattle.begins.proofs.Freeing.{no-unit, in-area}
+use Rattle.begins.proofs.FreeBegins.{no-unit, in-area}
 use borrow.Author.Needs.{needs}
 use Rattle.begins.proofs.free.begin.Statement.{statement}
 use Rattle.begins.proofs.free.begin.Tie as tie

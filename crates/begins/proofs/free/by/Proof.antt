@@ -2,9 +2,9 @@
 use mathlib.Core.Path.{refl}
 use native.Mathlib.Omega.{arith}
 use Rattle.ranges.proofs.Passed.{failed, passed}
-use Rattle.ranges.proofs.Ranges.{parts}
+use Rattle.ranges.proofs.RangeTests.{parts}
 use Rattle.stepped.proofs.Doing.{done, does}
-use Rattle.begins.proofs.Freeing.{outside, other-region, no-anchor, is-empty, is-open}
+use Rattle.begins.proofs.FreeBegins.{outside, other-region, no-anchor, is-empty, is-open}
 use borrow.Author.Needs.{needs}
 use Rattle.begins.proofs.free.by.Statement.{statement}
 use Rattle.begins.proofs.free.by.Tie as tie

@@ -2,7 +2,7 @@
 use mathlib.Core.Path.{refl}
 use native.Mathlib.Omega.{arith}
 use Rattle.stepped.proofs.Doing.{done, does}
-use Rattle.begins.proofs.Freeing.{no-entry, bad-entry, by-entry}
+use Rattle.begins.proofs.FreeBegins.{no-entry, bad-entry, by-entry}
 use borrow.Author.Needs.{needs}
 use Rattle.begins.proofs.free.entry.Statement.{statement}
 use Rattle.begins.proofs.free.entry.Tie as tie

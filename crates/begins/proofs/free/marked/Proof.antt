@@ -2,7 +2,7 @@
 use mathlib.Core.Path.{refl}
 use Rattle.ranges.proofs.Passed.{failed, passed}
 use Rattle.stepped.proofs.Doing.{done}
-use Rattle.begins.proofs.Freeing.{mark-clear, stored}
+use Rattle.begins.proofs.FreeBegins.{mark-clear, stored}
 use borrow.Author.Needs.{needs}
 use Rattle.begins.proofs.free.marked.Statement.{statement}
 use Rattle.begins.proofs.free.marked.Tie as tie

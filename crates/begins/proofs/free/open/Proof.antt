@@ -3,7 +3,7 @@ use mathlib.Core.Path.{refl}
 use native.Mathlib.Omega.{arith}
 use Rattle.ranges.proofs.Passed.{failed, passed}
 use Rattle.stepped.proofs.Doing.{done, does}
-use Rattle.begins.proofs.Freeing.{no-class, no-first, is-first}
+use Rattle.begins.proofs.FreeBegins.{no-class, no-first, is-first}
 use borrow.Author.Needs.{needs}
 use Rattle.begins.proofs.free.open.Statement.{statement}
 use Rattle.begins.proofs.free.open.Tie as tie

@@ -1,8 +1,9 @@
 -- One law for each way out.
 use mathlib.Core.Path.{_∙_}
 use native.Mathlib.Omega.{arith}
-use Rattle.schedule.proofs.Reading.{no-kind, unknown, step-cut, step-whole, start-cut, start-whole, wide-cut}
-use Rattle.schedule.proofs.Reading.{wide-whole}
+use Rattle.schedule.proofs.RecordReading.{no-kind, unknown, step-cut, step-whole, start-cut, start-whole}
+use Rattle.schedule.proofs.RecordReading.{wide-cut}
+use Rattle.schedule.proofs.RecordReading.{wide-whole}
 use borrow.Author.Needs.{needs}
 use Rattle.schedule.proofs.record.read.Statement.{statement}
 use Rattle.schedule.proofs.record.read.Tie as tie

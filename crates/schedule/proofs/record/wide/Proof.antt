@@ -1,6 +1,6 @@
 -- One law for each kind.
 use native.Mathlib.Omega.{arith}
-use Rattle.schedule.proofs.Reading.{is-allocate, is-free, is-run}
+use Rattle.schedule.proofs.RecordReading.{is-allocate, is-free, is-run}
 use borrow.Author.Needs.{needs}
 use Rattle.schedule.proofs.record.wide.Statement.{statement}
 use Rattle.schedule.proofs.record.wide.Tie as tie

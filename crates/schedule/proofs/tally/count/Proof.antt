@@ -1,6 +1,6 @@
 -- One law for each code.
 use native.Mathlib.Omega.{arith}
-use Rattle.schedule.proofs.Counting.{finished, accepted, others}
+use Rattle.schedule.proofs.Tallying.{finished, accepted, others}
 use borrow.Author.Needs.{needs}
 use Rattle.schedule.proofs.tally.count.Statement.{statement}
 use Rattle.schedule.proofs.tally.count.Tie as tie

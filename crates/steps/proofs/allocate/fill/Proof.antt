@@ -3,7 +3,7 @@ use mathlib.Core.Path.{refl}
 use native.Mathlib.Omega.{arith}
 use Rattle.control.specs.Places.{A3-READ, A3-EXCHANGE, A4, A7, A8}
 use Rattle.stepped.proofs.Doing.{does-in, lends}
-use Rattle.steps.proofs.Places.{at}
+use Rattle.steps.proofs.StepAt.{at}
 use borrow.Author.Needs.{needs}
 use Rattle.steps.proofs.allocate.fill.Statement.{statement}
 use Rattle.steps.proofs.allocate.fill.Tie as tie

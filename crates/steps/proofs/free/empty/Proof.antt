@@ -3,7 +3,7 @@ use mathlib.Core.Path.{refl}
 use native.Mathlib.Omega.{arith}
 use Rattle.control.specs.Places.{F2, F3-READ, F3-LINK, F3-EXCHANGE, F4-CLEAR}
 use Rattle.stepped.proofs.Doing.{done-in, does-in, lends}
-use Rattle.steps.proofs.Places.{at, past-places}
+use Rattle.steps.proofs.StepAt.{at, past-places}
 use borrow.Author.Needs.{needs}
 use Rattle.steps.proofs.free.empty.Statement.{statement}
 use Rattle.steps.proofs.free.empty.Tie as tie

@@ -1,7 +1,7 @@
 -- The place is one of the three of the move.
 use native.Mathlib.Omega.{arith}
 use Rattle.stepped.proofs.Doing.{does}
-use Rattle.steps.proofs.Places.{same}
+use Rattle.steps.proofs.StepAt.{same}
 use borrow.Author.Needs.{needs}
 use Rattle.steps.proofs.moves.push.Statement.{statement}
 use Rattle.steps.proofs.moves.push.Tie as tie

@@ -3,7 +3,7 @@ use mathlib.Core.Path.{refl}
 use native.Mathlib.Omega.{arith}
 use Rattle.control.specs.Places.{A1, F1}
 use Rattle.stepped.proofs.Doing.{does-in, lends, numbers}
-use Rattle.steps.proofs.Places.{at}
+use Rattle.steps.proofs.StepAt.{at}
 use borrow.Author.Needs.{needs}
 use Rattle.steps.proofs.step.at.Statement.{statement}
 use Rattle.steps.proofs.step.at.Tie as tie

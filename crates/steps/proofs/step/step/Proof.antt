@@ -2,7 +2,7 @@
 use mathlib.Core.Path.{refl}
 use native.Mathlib.Omega.{arith}
 use Rattle.stepped.proofs.Doing.{done-in, numbers, numbers-in}
-use Rattle.steps.proofs.Places.{idle, no-class, to-place}
+use Rattle.steps.proofs.StepAt.{idle, no-class, to-place}
 use borrow.Author.Needs.{needs}
 use Rattle.steps.proofs.step.step.Statement.{statement}
 use Rattle.steps.proofs.step.step.Tie as tie

@@ -1,7 +1,7 @@
 -- An anchor that passed its test has parts that fit two bytes.
 use borrow.Author.Needs.{needs}
-use Rattle.ranges.proofs.Ranges.{parts}
-use Rattle.steps_allocate.proofs.Bounds.{avail-fits}
+use Rattle.ranges.proofs.RangeTests.{parts}
+use Rattle.steps_allocate.proofs.TakingBounds.{avail-fits}
 use Rattle.steps_allocate.proofs.anchor.first_of.Statement.{statement}
 use Rattle.steps_allocate.proofs.anchor.first_of.Tie as tie
 

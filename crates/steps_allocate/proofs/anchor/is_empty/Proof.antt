@@ -3,7 +3,7 @@ use borrow.Author.Needs.{needs}
 use mathlib.Core.Path.{ap}
 use lib.Dec.{eqb}
 use Rattle.words.specs.Anchor.{EMPTY}
-use Rattle.ranges.proofs.Ranges.{parts}
+use Rattle.ranges.proofs.RangeTests.{parts}
 use Rattle.steps_allocate.proofs.anchor.is_empty.Statement.{statement}
 use Rattle.steps_allocate.proofs.anchor.is_empty.Tie as tie
 

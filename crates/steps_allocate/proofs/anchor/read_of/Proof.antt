@@ -1,7 +1,7 @@
 -- The tests are those of the definition, of the anchor that is read.
 use borrow.Author.Needs.{needs}
 use mathlib.Core.Path.{refl}
-use Rattle.steps_allocate.specs.Anchors.{isEmpty}
+use Rattle.steps_allocate.specs.AnchorWords.{isEmpty}
 use Rattle.stepped.specs.Ranges.{isAnchor, hasChain}
 use Rattle.ranges.proofs.Passed.{failed-at, passed-at, failed-for, passed-for, shown-at}
 use Rattle.stepped.proofs.Doing.{done}

@@ -3,8 +3,8 @@ use borrow.Author.Needs.{needs}
 use native.Mathlib.Omega.{arith}
 use mathlib.Core.Path.{refl}
 use Rattle.stepped.proofs.Doing.{done-in}
-use Rattle.steps_fill.proofs.Bounds.{unit-by}
-use Rattle.steps_fill.proofs.Filling.{a4-region, a4-index, a4-none, a4-many}
+use Rattle.steps_fill.proofs.FilledBlocks.{unit-by}
+use Rattle.steps_fill.proofs.FillingWays.{a4-region, a4-index, a4-none, a4-many}
 use Rattle.steps_fill.proofs.chain.step.Statement.{statement}
 use Rattle.steps_fill.proofs.chain.step.Tie as tie
 

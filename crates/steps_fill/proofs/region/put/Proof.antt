@@ -3,7 +3,7 @@ use borrow.Author.Needs.{needs}
 use native.Mathlib.Omega.{arith}
 use mathlib.Core.Path.{refl}
 use Rattle.stepped.proofs.Doing.{done-in}
-use Rattle.steps_fill.proofs.Filling.{a8Put-last, a8Put-next}
+use Rattle.steps_fill.proofs.FillingWays.{a8Put-last, a8Put-next}
 use Rattle.steps_fill.proofs.region.put.Statement.{statement}
 use Rattle.steps_fill.proofs.region.put.Tie as tie
 

@@ -3,7 +3,7 @@ use borrow.Author.Needs.{needs}
 use native.Mathlib.Omega.{arith}
 use mathlib.Core.Path.{ap}
 use Prim.Native.Nat.{_*_}
-use Rattle.steps_fill.proofs.Bounds.{unit-inside}
+use Rattle.steps_fill.proofs.FilledBlocks.{unit-inside}
 use Rattle.steps_fill.proofs.units.offset.Statement.{statement}
 use Rattle.steps_fill.proofs.units.offset.Tie as tie
 

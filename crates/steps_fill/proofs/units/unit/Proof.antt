@@ -1,7 +1,7 @@
 -- A block stays in its region.
 use borrow.Author.Needs.{needs}
 use native.Mathlib.Omega.{arith}
-use Rattle.steps_fill.proofs.Bounds.{unit-inside}
+use Rattle.steps_fill.proofs.FilledBlocks.{unit-inside}
 use Rattle.steps_fill.proofs.units.unit.Statement.{statement}
 use Rattle.steps_fill.proofs.units.unit.Tie as tie
 

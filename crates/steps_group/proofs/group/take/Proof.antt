@@ -3,7 +3,7 @@ use borrow.Author.Needs.{needs}
 use native.Mathlib.Omega.{arith}
 use mathlib.Core.Path.{refl}
 use Rattle.stepped.proofs.Doing.{done-in, does-in}
-use Rattle.steps_group.proofs.Grouping.{cache-large, group-large, cache-empty, cache-some}
+use Rattle.steps_group.proofs.GroupingWays.{cache-large, group-large, cache-empty, cache-some}
 use Rattle.steps_group.proofs.group.take.Statement.{statement}
 use Rattle.steps_group.proofs.group.take.Tie as tie
 

@@ -5,7 +5,7 @@ use native.Mathlib.Omega.{arith}
 use mathlib.Core.Path.{refl}
 use Rattle.stepped.proofs.Doing.{done}
 use Rattle.ranges.proofs.Passed.{failed, passed}
-use Rattle.steps_group.proofs.Grouping.{first-bad, first-taken}
+use Rattle.steps_group.proofs.GroupingWays.{first-bad, first-taken}
 use Rattle.steps_group.proofs.Fitting.{index-small, top-small}
 use Rattle.steps_group.proofs.group.take_first.Statement.{statement}
 use Rattle.steps_group.proofs.group.take_first.Tie as tie

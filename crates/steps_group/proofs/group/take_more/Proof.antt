@@ -6,7 +6,7 @@ use native.Mathlib.Omega.{arith}
 use mathlib.Core.Path.{refl}
 use Rattle.stepped.proofs.Doing.{done-in}
 use Rattle.ranges.proofs.Passed.{failed, passed}
-use Rattle.steps_group.proofs.Grouping.{more-full, last-bad, below-bad, more-taken}
+use Rattle.steps_group.proofs.GroupingWays.{more-full, last-bad, below-bad, more-taken}
 use Rattle.steps_group.proofs.Fitting.{link-inside, index-small, top-small}
 use Rattle.steps_group.proofs.group.take_more.Statement.{statement}
 use Rattle.steps_group.proofs.group.take_more.Tie as tie

@@ -4,7 +4,7 @@ use native.Mathlib.Omega.{arith}
 use mathlib.Core.Path.{refl}
 use Rattle.stepped.proofs.Doing.{done-in, does-in, lends}
 use Rattle.ranges.proofs.Passed.{failed, passed, block-passed}
-use Rattle.steps_group.proofs.Grouping.{top-bad, top-first, region-bad, top-other, top-more}
+use Rattle.steps_group.proofs.GroupingWays.{top-bad, top-first, region-bad, top-other, top-more}
 use Rattle.steps_group.proofs.group.take_top.Statement.{statement}
 use Rattle.steps_group.proofs.group.take_top.Tie as tie
 

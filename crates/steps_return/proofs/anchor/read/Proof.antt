@@ -3,7 +3,7 @@ use borrow.Author.Needs.{needs}
 use native.Mathlib.Omega.{arith}
 use mathlib.Core.Path.{refl}
 use Rattle.stepped.proofs.Doing.{done, does}
-use Rattle.steps_return.proofs.Returning.{read-no-region, read-no-group, read-large, read-entry}
+use Rattle.steps_return.proofs.ReturningWays.{read-no-region, read-no-group, read-large, read-entry}
 use Rattle.steps_return.proofs.anchor.read.Statement.{statement}
 use Rattle.steps_return.proofs.anchor.read.Tie as tie
 

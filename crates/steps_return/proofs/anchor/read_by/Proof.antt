@@ -3,7 +3,7 @@ use borrow.Author.Needs.{needs}
 use native.Mathlib.Omega.{arith}
 use mathlib.Core.Path.{refl}
 use Rattle.stepped.proofs.Doing.{done, does}
-use Rattle.steps_return.proofs.Returning.{entry-none, entry-large, entry-names}
+use Rattle.steps_return.proofs.ReturningWays.{entry-none, entry-large, entry-names}
 use Rattle.steps_return.proofs.anchor.read_by.Statement.{statement}
 use Rattle.steps_return.proofs.anchor.read_by.Tie as tie
 

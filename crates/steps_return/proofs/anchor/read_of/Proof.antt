@@ -4,7 +4,7 @@ use mathlib.Core.Path.{refl}
 use Rattle.stepped.proofs.Doing.{done}
 use Rattle.stepped.specs.Ranges.{isAnchor}
 use Rattle.ranges.proofs.Passed.{failed-at, passed-at}
-use Rattle.steps_return.proofs.Returning.{read-no-anchor, read-no-room, read-noted, no-room, room}
+use Rattle.steps_return.proofs.ReturningWays.{read-no-anchor, read-no-room, read-noted, no-room, room}
 use Rattle.steps_return.proofs.anchor.read_of.Statement.{statement}
 use Rattle.steps_return.proofs.anchor.read_of.Tie as tie
 

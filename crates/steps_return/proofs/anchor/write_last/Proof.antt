@@ -3,8 +3,8 @@ use borrow.Author.Needs.{needs}
 use native.Mathlib.Omega.{arith}
 use mathlib.Core.Path.{refl}
 use Rattle.stepped.proofs.Doing.{done-in}
-use Rattle.steps_return.proofs.Returning.{link-no-region, link-no-last, link-no-anchor, link-no-first}
-use Rattle.steps_return.proofs.Returning.{link-written}
+use Rattle.steps_return.proofs.ReturningWays.{link-no-region, link-no-last, link-no-anchor, link-no-first}
+use Rattle.steps_return.proofs.ReturningWays.{link-written}
 use Rattle.stepped.specs.Ranges.{isAnchor, hasFirst}
 use Rattle.ranges.proofs.Passed.{failed-at, passed-at, failed-for, passed-for}
 use Rattle.steps_group.proofs.Fitting.{link-inside}

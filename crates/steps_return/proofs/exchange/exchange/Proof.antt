@@ -5,9 +5,9 @@ use mathlib.Core.Path.{refl}
 use Rattle.stepped.proofs.Doing.{done, does}
 use Rattle.stepped.specs.Ranges.{isAnchor}
 use Rattle.ranges.proofs.Passed.{passed, failed-at, passed-at}
-use Rattle.steps_return.proofs.Returning.{exchange-no-descriptor, exchange-no-first, exchange-no-group}
-use Rattle.steps_return.proofs.Returning.{exchange-large, exchange-no-anchor, exchange-no-room, exchange-on}
-use Rattle.steps_return.proofs.Returning.{has-room, no-room, room}
+use Rattle.steps_return.proofs.ReturningWays.{exchange-no-descriptor, exchange-no-first, exchange-no-group}
+use Rattle.steps_return.proofs.ReturningWays.{exchange-large, exchange-no-anchor, exchange-no-room, exchange-on}
+use Rattle.steps_return.proofs.ReturningWays.{has-room, no-room, room}
 use Rattle.steps_return.proofs.exchange.exchange.Statement.{statement}
 use Rattle.steps_return.proofs.exchange.exchange.Tie as tie
 

@@ -5,7 +5,7 @@ use mathlib.Core.Path.{refl}
 use Rattle.stepped.proofs.Doing.{done, does}
 use Rattle.stepped.specs.Ranges.{isAnchor}
 use Rattle.ranges.proofs.Passed.{failed-at, passed-at}
-use Rattle.steps_return.proofs.Returning.{anchor-bad, anchor-changed, anchor-noted}
+use Rattle.steps_return.proofs.ReturningWays.{anchor-bad, anchor-changed, anchor-noted}
 use Rattle.steps_return.proofs.exchange.exchange_of.Statement.{statement}
 use Rattle.steps_return.proofs.exchange.exchange_of.Tie as tie
 

@@ -2,7 +2,7 @@
 use borrow.Author.Needs.{needs}
 use mathlib.Core.Path.{refl, sym, _∙_}
 use Rattle.stepped.proofs.Doing.{done}
-use Rattle.steps_return.proofs.Returning.{goes-one, goes-two, goes-offer, goes-bad}
+use Rattle.steps_return.proofs.ReturningWays.{goes-one, goes-two, goes-offer, goes-bad}
 use Rattle.steps_return.proofs.exchange.go_on.Statement.{statement}
 use Rattle.steps_return.proofs.exchange.go_on.Tie as tie
 

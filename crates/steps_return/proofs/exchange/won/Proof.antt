@@ -3,7 +3,7 @@ use borrow.Author.Needs.{needs}
 use native.Mathlib.Omega.{arith}
 use mathlib.Core.Path.{refl}
 use Rattle.stepped.proofs.Doing.{done, does}
-use Rattle.steps_return.proofs.Returning.{won-empty, won-partial}
+use Rattle.steps_return.proofs.ReturningWays.{won-empty, won-partial}
 use Rattle.steps_return.proofs.exchange.won.Statement.{statement}
 use Rattle.steps_return.proofs.exchange.won.Tie as tie
 

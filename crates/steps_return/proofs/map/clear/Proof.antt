@@ -3,7 +3,7 @@ use borrow.Author.Needs.{needs}
 use native.Mathlib.Omega.{arith}
 use mathlib.Core.Path.{refl}
 use Rattle.stepped.proofs.Doing.{done}
-use Rattle.steps_return.proofs.Clearing.{clear-bad, clear-done}
+use Rattle.steps_return.proofs.ClearingWays.{clear-bad, clear-done}
 use Rattle.steps_return.proofs.map.clear.Statement.{statement}
 use Rattle.steps_return.proofs.map.clear.Tie as tie
 

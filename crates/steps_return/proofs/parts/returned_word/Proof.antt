@@ -1,7 +1,7 @@
 -- The parts of the returned anchor fit their bits, and the methods make its word.
 use borrow.Author.Needs.{needs}
 use native.Mathlib.Omega.{arith}
-use Rattle.steps_return.proofs.Returning.{room-at, word-fits}
+use Rattle.steps_return.proofs.ReturningWays.{room-at, word-fits}
 use Rattle.steps_return.proofs.parts.returned_word.Statement.{statement}
 use Rattle.steps_return.proofs.parts.returned_word.Tie as tie
 

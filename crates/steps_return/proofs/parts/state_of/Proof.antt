@@ -1,7 +1,7 @@
 -- The state has two bits.
 use borrow.Author.Needs.{needs}
 use native.Mathlib.Omega.{arith}
-use Rattle.ranges.proofs.Ranges.{parts}
+use Rattle.ranges.proofs.RangeTests.{parts}
 use Rattle.steps_return.proofs.parts.state_of.Statement.{statement}
 use Rattle.steps_return.proofs.parts.state_of.Tie as tie
 

@@ -18,7 +18,7 @@ use Rattle.words.proofs.Heads.{itemOf-advanced, tagOf-advanced}
 use Rattle.plain.specs.State.{Place, Mem, setRow}
 use Rattle.plain.specs.Moves.{Decided, nothing, going}
 use Rattle.plain.specs.Steps.{Result, atPlace}
-use Rattle.plain.proofs.Places.{taskOf}
+use Rattle.plain.proofs.PlaceAlone.{taskOf}
 use Rattle.control.specs.Layout.{Head, DescriptorNext, RegionNext, TaskPlace, TaskHead}
 use Rattle.control.specs.Answers.{codeOf, valueOf}
 use Rattle.control.specs.declared.answer.Answer.{Answer}
@@ -29,8 +29,8 @@ use Rattle.agreement.specs.Relation.{wrap, HeadNoted, nexts, PlaceRelate
 use Rattle.agreement.proofs.ListMoves.{ListOf, descriptors, spare-regions}
 use Rattle.agreement.proofs.Slots.{toPlace, toHead}
 use Rattle.agreement.proofs.Sets.{withSlots, setSlot, setHead}
-use Rattle.agreement.proofs.Tops.{top-of, top-le, listed, listed-region, same-word, word-same, won-same}
-use Rattle.agreement.proofs.Tops.{same-won, next-tag, fresh}
+use Rattle.agreement.proofs.ListTops.{top-of, top-le, listed, listed-region, same-word, word-same, won-same}
+use Rattle.agreement.proofs.ListTops.{same-won, next-tag, fresh}
 use Rattle.agreement.proofs.Changes.{heading}
 use Rattle.agreement.proofs.Both.{Both, decide}
 use Rattle.agreement.proofs.Turns.{At, goes}

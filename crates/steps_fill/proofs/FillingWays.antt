@@ -17,7 +17,7 @@ use Rattle.control.specs.Places.{A1, A8}
 use Rattle.stepped.specs.Outcome.{bad, accept}
 use Rattle.stepped.specs.Ranges.{isTop}
 use Rattle.stepped.specs.Allocate.{a4, a4Move, a7, a8, a8Put}
-use Rattle.steps_allocate.specs.Anchors.{fullWord}
+use Rattle.steps_allocate.specs.AnchorWords.{fullWord}
 
 module _ (v : View) (link : ℕ → ℕ) (regions t c : ℕ) where
   -- ---- step 4

@@ -7,7 +7,7 @@ use Rattle.limits.specs.Limits.{TASKS, DESCRIPTORS, TAGS, SPARE-REGIONS, DESCRI
 use Rattle.words.specs.declared.head.Head.{Head}
 use Rattle.rows.specs.Counting.{count}
 use Rattle.rows.specs.Linked.{Linked, ends, links}
-use Rattle.rows.specs.Tests.{same}
+use Rattle.rows.specs.Comparisons.{same}
 use Rattle.rows.proofs.Totals.{total-one}
 use Rattle.rows.proofs.Weights.{below-is, when-same}
 use Rattle.words.specs.Head.{headOf}
@@ -15,8 +15,8 @@ use Rattle.plain.specs.State.{Mem, Place}
 use Rattle.plain.specs.Steps.{top}
 use Rattle.plain.specs.Held.{holdsDescriptor, holdsRegion}
 use Rattle.plain.specs.Invariant.{Invariant}
-use Rattle.plain.specs.Weights.{descriptorWeight, regionWeight, rowWeight}
-use Rattle.plain.proofs.Places.{taskOf}
+use Rattle.plain.specs.HolderWeights.{descriptorWeight, regionWeight, rowWeight}
+use Rattle.plain.proofs.PlaceAlone.{taskOf}
 use Rattle.plain.proofs.Turn.{Turn}
 use Rattle.agreement.specs.Relation.{HeadNoted, tail, wrap}
 

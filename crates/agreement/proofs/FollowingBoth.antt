@@ -13,7 +13,7 @@ use Rattle.plain.specs.State.{State, EMPTY, PARTIAL, FULL, stateNumber, read, o
 use Rattle.plain.specs.State.{working}
 use Rattle.plain.specs.Moves.{Decided, going}
 use Rattle.plain.specs.Steps as Steps
-use Rattle.plain.proofs.Places.{lengths}
+use Rattle.plain.proofs.PlaceAlone.{lengths}
 use Rattle.control.specs.Layout.{layout, Tasks, Regions, CacheCount, GroupCount, TaskPlace, TaskClass}
 use Rattle.control.specs.Places.{PUSH-OFFER, F1, F2}
 use Rattle.stepped.specs.Outcome.{accept}

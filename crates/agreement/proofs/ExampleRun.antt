@@ -19,14 +19,15 @@ use Rattle.plain.specs.Moves.{anchor-lost, Answer, going, finished, ended, refu
 use Rattle.plain.specs.Steps.{stepOf}
 use Rattle.plain.specs.Calls.{Pool, Start, start, allocate, free, step, startMem, rising, unstarted}
 use Rattle.plain.specs.Calls as Plain
-use Rattle.plain.proofs.Answers.{most}
+use Rattle.plain.proofs.CallAnswers.{most}
 use Rattle.stepped.specs.Outcome.{Memories}
 use Rattle.stepped.specs.Calls.{Lent, lengths}
 use Rattle.agreement.specs.Events.{Event, call, write, Premises, Unstarted}
 use Rattle.agreement.specs.Reached.{starting}
 use Rattle.agreement.specs.Agreement.{Agree}
-use Rattle.agreement.proofs.Runs.{steppedAnswers, wholeAnswers, answered, after, WritesHeld, writesHeld?, found}
-use Rattle.agreement.proofs.Runs.{short}
+use Rattle.agreement.proofs.AnswersOfRuns.{steppedAnswers, wholeAnswers, answered, after, WritesHeld}
+use Rattle.agreement.proofs.AnswersOfRuns.{writesHeld?, found}
+use Rattle.agreement.proofs.AnswersOfRuns.{short}
 use Rattle.agreement.proofs.Theorem.{agreement}
 
 -- ---- the lines of the schedule: two regions, three tasks

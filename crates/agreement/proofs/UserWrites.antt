@@ -18,15 +18,15 @@ use Rattle.classes.specs.Geometry.{regionOf, Block}
 use Rattle.classes.proofs.BlockUnits.{inside, apart, region-is}
 use Rattle.classes.proofs.Tables.{units-low}
 use Rattle.plain.specs.State.{State, EMPTY, PARTIAL, FULL, Mem}
-use Rattle.plain.specs.States.{IsOpen, IfOpen}
-use Rattle.plain.specs.Weights.{insideWeight, chainWeight, blockWeight}
+use Rattle.plain.specs.ByState.{IsOpen, IfOpen}
+use Rattle.plain.specs.HolderWeights.{insideWeight, chainWeight, blockWeight}
 use Rattle.plain.specs.Invariant.{Invariant}
-use Rattle.plain.proofs.States.{open-holds}
+use Rattle.plain.proofs.ByState.{open-holds}
 use Rattle.plain.proofs.Homes.{inside-open}
 use Rattle.agreement.specs.Contents.{contentsOf}
 use Rattle.agreement.specs.Relation.{Related}
 use Rattle.agreement.proofs.Frames.{kept-slot, lists-kept}
-use Rattle.agreement.proofs.Parts.{links-related, core-links}
+use Rattle.agreement.proofs.RelatedParts.{links-related, core-links}
 use Rattle.agreement.proofs.Couple.{Valid, valid, same-class}
 use Rattle.agreement.proofs.Both.{Apart}
 

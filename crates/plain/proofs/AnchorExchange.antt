@@ -4,7 +4,7 @@ use mathlib.Core.List.{List}
 use Prim.Native.Nat.{ℕ, suc, _+_, _≤_, _<_}
 use native.Mathlib.Omega.{arith}
 use Rattle.limits.specs.Limits.{TASKS, CLASSES, DESCRIPTORS}
-use Rattle.rows.specs.Tests.{same, other, same?}
+use Rattle.rows.specs.Comparisons.{same, other, same?}
 use Rattle.rows.specs.Update.{update}
 use Rattle.rows.specs.Weights.{when, one}
 use Rattle.rows.specs.Counting.{count}
@@ -14,17 +14,17 @@ use Rattle.rows.proofs.Weights.{when-same, when-other, when-zero, when-is, belo
 use Rattle.rows.proofs.Totals.{total-one, total-update}
 use Rattle.plain.specs.State.{EMPTY, Descriptor, Place, Task, Mem, setDescriptor}
 use Rattle.plain.specs.Steps.{atPlace}
-use Rattle.plain.specs.States.{IsOpen, IfOpen, IfEmpty, oneIfFull, oneIfEmpty}
+use Rattle.plain.specs.ByState.{IsOpen, IfOpen, IfEmpty, oneIfFull, oneIfEmpty}
 use Rattle.plain.specs.Held.{Held, held, blockIn, classBlockIn, descriptorIn, spareIn, listedIn, regionIn}
 use Rattle.plain.specs.Held.{unmappedIn}
-use Rattle.plain.specs.Weights.{insideWeight, insideClassWeight, chainWeight, chainClassWeight, openWeight}
-use Rattle.plain.specs.Weights.{fullWeight, descriptorWeight, descriptorClassWeight, spareWeight}
-use Rattle.plain.specs.Places.{NoteHolds, PlaceHolds}
+use Rattle.plain.specs.HolderWeights.{insideWeight, insideClassWeight, chainWeight, chainClassWeight, openWeight}
+use Rattle.plain.specs.HolderWeights.{fullWeight, descriptorWeight, descriptorClassWeight, spareWeight}
+use Rattle.plain.specs.TaskHolds.{NoteHolds, PlaceHolds}
 use Rattle.plain.specs.Invariant.{OpenDescriptor, ClosedDescriptor, Invariant}
-use Rattle.plain.proofs.States.{open-holds, open-asks, open-not-empty, empty-is}
-use Rattle.plain.proofs.Notes.{as-before}
+use Rattle.plain.proofs.ByState.{open-holds, open-asks, open-not-empty, empty-is}
+use Rattle.plain.proofs.NotesKept.{as-before}
 use Rattle.plain.proofs.Turn.{Turn, Asked, fewer, enough, as-mapped, turn-inv}
-use Rattle.plain.proofs.Places.{taskOf, lengths}
+use Rattle.plain.proofs.PlaceAlone.{taskOf, lengths}
 
 -- ---- a descriptor that a task holds
 

@@ -11,7 +11,7 @@ use Rattle.plain.specs.State.{Place, Task, Mem}
 use Rattle.plain.specs.Steps.{atPlace}
 use Rattle.plain.specs.Held.{hold, held, blockIn, classBlockIn, descriptorIn, spareIn, listedIn, regionIn}
 use Rattle.plain.specs.Held.{unmappedIn}
-use Rattle.plain.specs.Places.{NoteHolds, PlaceHolds}
+use Rattle.plain.specs.TaskHolds.{NoteHolds, PlaceHolds}
 use Rattle.plain.specs.Invariant.{Invariant}
 use Rattle.plain.proofs.Turn.{Turn, taskHolds, within}
 

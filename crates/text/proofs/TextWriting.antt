@@ -8,7 +8,7 @@ use native.Mathlib.Nat.{add-assoc}
 use lib.ListN.{length, take, getD, set, length-append, length-set}
 use lib.Seq.{take-suc, take-suc-set, take-append-add, take-append-le, length-take-le}
 use borrow.Rule.Slice.PartMut.{midOf, postOf, putMid, same-len-mid, mid-len}
-use Rattle.text.specs.Numbers.{Appended}
+use Rattle.text.specs.Texts.{Appended}
 
 -- nothing is written
 pub none : (out : List ℕ) (at : ℕ) → at ≤ length out → Appended out out at [] at

@@ -4,7 +4,7 @@ use Prim.Native.Nat.{ℕ, _≤_}
 use native.Mathlib.Omega.{arith}
 use Rattle.plain.specs.State.{State, EMPTY, PARTIAL, FULL}
 use Rattle.plain.specs.Calls.{NotEmpty}
-use Rattle.plain.specs.States.{ifOpen, IsOpen, IfOpen, oneIfEmpty}
+use Rattle.plain.specs.ByState.{ifOpen, IsOpen, IfOpen, oneIfEmpty}
 
 -- ---- what counts while an anchor is not EMPTY
 

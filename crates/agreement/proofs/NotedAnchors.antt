@@ -17,7 +17,7 @@ use Rattle.plain.specs.State.{EMPTY, FULL, Mem, Note, PARTIAL, State, stateNumb
 use Rattle.plain.specs.Steps.{AsNoted, noteOf, top}
 use Rattle.plain.specs.Blocks.{countBlock}
 use Rattle.plain.specs.Invariant.{OpenDescriptor}
-use Rattle.plain.specs.States.{IsOpen, ifOpen}
+use Rattle.plain.specs.ByState.{IsOpen, ifOpen}
 use Rattle.plain.proofs.Blocks.{counts-block}
 use Rattle.agreement.specs.Relation.{ChainRelated, DescriptorRelated, FirstIn, NoteRelated, firstIndex}
 

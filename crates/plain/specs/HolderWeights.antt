@@ -8,7 +8,7 @@ use Rattle.rows.specs.Counting.{count}
 use Rattle.rows.specs.Totals.{total}
 use Rattle.plain.specs.State.{Descriptor, Task}
 use Rattle.plain.specs.Blocks.{countBlock}
-use Rattle.plain.specs.States.{ifOpen, oneIfFull}
+use Rattle.plain.specs.ByState.{ifOpen, oneIfFull}
 use Rattle.plain.specs.Held.{classAt, underWay, holdsDescriptor, holdsSpare, holdsForClass, holdsRegion}
 use Rattle.plain.specs.Held.{holdsUnmapped}
 

@@ -21,8 +21,8 @@ use Rattle.stepped.specs.Outcome.{Memories}
 use Rattle.stepped.specs.Calls.{effectOf, lending, lengths}
 use Rattle.stepped.proofs.Conjunction.{left-true, right-true}
 use Rattle.agreement.proofs.Ends.{start-ends, allocate-ends, free-ends, step-ends}
-use Rattle.demands.specs.Answers.{Refusal, Ended}
-use Rattle.demands.specs.Runs.{Number}
+use Rattle.demands.specs.AnswerKinds.{Refusal, Ended}
+use Rattle.demands.specs.Acts.{Number}
 
 -- ---- the codes are below 256, so that the number tells code and value
 

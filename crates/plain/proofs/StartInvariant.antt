@@ -6,7 +6,7 @@ use native.Mathlib.Decide.{ℕ-discrete}
 use lib.ListN.{length}
 use mathlib.Core.List.{[]}
 use Rattle.limits.specs.Limits.{TASKS, CLASSES, DESCRIPTORS, SPARE-DESCRIPTORS, SPARE-REGIONS}
-use Rattle.rows.specs.Tests.{same, other, same?}
+use Rattle.rows.specs.Comparisons.{same, other, same?}
 use Rattle.rows.specs.Weights.{below}
 use Rattle.rows.specs.Counting.{count}
 use Rattle.rows.proofs.Branch.{if-yes, if-no}
@@ -14,9 +14,10 @@ use Rattle.rows.proofs.Weights.{when-same, when-other, when-zero, below-yes, be
 use Rattle.rows.proofs.Totals.{total-suc, total-zero}
 use Rattle.plain.specs.State.{EMPTY, Descriptor, idle, Task}
 use Rattle.plain.specs.Calls.{rising, startRow, startMem}
-use Rattle.plain.specs.Weights.{rowWeight, insideWeight, chainWeight, chainClassWeight, openWeight, fullWeight}
-use Rattle.plain.specs.Weights.{blockWeight, blockClassWeight, descriptorWeight, descriptorClassWeight}
-use Rattle.plain.specs.Weights.{spareWeight, regionWeight}
+use Rattle.plain.specs.HolderWeights.{rowWeight, insideWeight, chainWeight, chainClassWeight, openWeight}
+use Rattle.plain.specs.HolderWeights.{fullWeight}
+use Rattle.plain.specs.HolderWeights.{blockWeight, blockClassWeight, descriptorWeight, descriptorClassWeight}
+use Rattle.plain.specs.HolderWeights.{spareWeight, regionWeight}
 use Rattle.plain.specs.Invariant.{never-opened, Invariant}
 
 -- ---- the n items from i on

@@ -27,7 +27,7 @@ use Rattle.plain.specs.Steps.{Result}
 use Rattle.plain.specs.Calls as Plain
 use Rattle.plain.specs.Invariant.{Invariant}
 use Rattle.plain.proofs.Homes.{inside-open}
-use Rattle.plain.proofs.Places.{taskOf}
+use Rattle.plain.proofs.PlaceAlone.{taskOf}
 use Rattle.control.specs.Layout.{Anchor, Marks, TaskUnit, TaskPlace, TaskClass, DescriptorRegion, DescriptorClass}
 use Rattle.control.specs.Places.{IDLE, A1, F1, PLACES}
 use Rattle.stepped.specs.Outcome.{Outcome, refuse}
@@ -42,7 +42,7 @@ use Rattle.agreement.proofs.Sets.{setSlot, setMark}
 use Rattle.agreement.proofs.Bridge.{becomes, mark-clear-written}
 use Rattle.agreement.proofs.Couple.{quiet, mine}
 use Rattle.agreement.proofs.Changes.{marking}
-use Rattle.agreement.proofs.Notes.{number-max}
+use Rattle.agreement.proofs.NotedAnchors.{number-max}
 use Rattle.stepped.proofs.Conjunction.{both-true, left-true, right-true}
 use Rattle.agreement.proofs.Both.{Both, pass, meet, choose, decide}
 use Rattle.agreement.proofs.Turns.{At}

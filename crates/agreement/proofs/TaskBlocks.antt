@@ -20,10 +20,10 @@ use Rattle.classes.proofs.BlockUnits.{block-first, region-is}
 use Rattle.links.specs.Link.{link, withLink}
 use Rattle.plain.specs.State.{Mem, Place}
 use Rattle.plain.specs.Held.{classAt, underWay}
-use Rattle.plain.specs.Weights.{blockClassWeight, blockWeight, insideWeight, rowWeight}
+use Rattle.plain.specs.HolderWeights.{blockClassWeight, blockWeight, insideWeight, rowWeight}
 use Rattle.plain.proofs.Homes.{Home, home}
 use Rattle.plain.proofs.Owners.{home-of}
-use Rattle.plain.proofs.Places.{taskOf}
+use Rattle.plain.proofs.PlaceAlone.{taskOf}
 use Rattle.stepped.specs.Ranges
 use Rattle.stepped.specs.Ranges.{isTop}
 use Rattle.agreement.specs.Contents.{TaskCaches, Contents, Slot}

@@ -5,7 +5,7 @@ use Prim.Native.Nat.{ℕ, _≤_, _<_}
 use native.Mathlib.Omega.{arith}
 use Rattle.rows.specs.Counting.{count}
 use Rattle.rows.specs.Linked.{Linked, ends, links}
-use Rattle.rows.specs.Tests.{other, same, same?}
+use Rattle.rows.specs.Comparisons.{other, same, same?}
 use Rattle.rows.proofs.Counting.{count-append}
 use Rattle.rows.proofs.Weights.{when-other, when-same}
 use Rattle.classes.specs.Classes.{perRegion}
@@ -14,11 +14,11 @@ use Rattle.classes.proofs.BlockUnits.{index-below, unit-again}
 use Rattle.links.specs.Link.{link}
 use Rattle.plain.specs.State.{Mem, Place}
 use Rattle.plain.specs.Held.{classAt, underWay}
-use Rattle.plain.specs.Places.{Together}
+use Rattle.plain.specs.TaskHolds.{Together}
 use Rattle.plain.proofs.Owners.{home-of}
 use Rattle.agreement.specs.Contents.{TaskGroup, Contents, Slot}
 use Rattle.agreement.specs.Relation.{GroupRelated}
-use Rattle.agreement.proofs.Blocks.{home-below, mine-under}
+use Rattle.agreement.proofs.TaskBlocks.{home-below, mine-under}
 use Rattle.agreement.proofs.Couple.{Pair}
 
 -- a group goes over to another place, where the task's part and the links say the same of it

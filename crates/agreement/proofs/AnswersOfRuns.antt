@@ -17,7 +17,7 @@ use Rattle.plain.specs.Calls as Plain
 use Rattle.plain.specs.Calls.{Pool, Start, unstarted, Call, start, allocate, free, step, Lengths}
 use Rattle.plain.specs.Codes.{AtMost}
 use Rattle.plain.specs.Held.{held}
-use Rattle.plain.proofs.Answers.{most}
+use Rattle.plain.proofs.CallAnswers.{most}
 use Rattle.stepped.specs.Outcome.{Memories}
 use Rattle.agreement.specs.Events.{Event, write, stepped, whole, Recent, Near, classThere}
 use Rattle.agreement.specs.Events.{Premises, Unstarted, call, CallPremise}

@@ -5,7 +5,7 @@ use Prim.Native.Nat.{ℕ, suc, _+_, _≤_}
 use native.Mathlib.Omega.{arith}
 use lib.ListN.{length}
 use Rattle.limits.specs.Limits.{TASKS, DESCRIPTORS}
-use Rattle.rows.specs.Tests.{same, other, same?, before, after, order?}
+use Rattle.rows.specs.Comparisons.{same, other, same?, before, after, order?}
 use Rattle.rows.specs.Weights.{one}
 use Rattle.rows.specs.Counting.{count}
 use Rattle.rows.proofs.Weights.{when-same, when-other}
@@ -17,14 +17,14 @@ use Rattle.classes.specs.Geometry.{regionOf}
 use Rattle.plain.specs.State.{Place, Mem}
 use Rattle.plain.specs.Blocks.{blocksFrom, countBlock}
 use Rattle.plain.specs.Held.{classAt, underWay}
-use Rattle.plain.specs.Weights.{chainWeight, blockWeight}
-use Rattle.plain.specs.Places.{Together}
+use Rattle.plain.specs.HolderWeights.{chainWeight, blockWeight}
+use Rattle.plain.specs.TaskHolds.{Together}
 use Rattle.plain.specs.Invariant.{OpenDescriptor}
 use Rattle.plain.proofs.Blocks.{length-blocks, isBlock-row, block-counts}
-use Rattle.plain.proofs.States.{open-holds}
+use Rattle.plain.proofs.ByState.{open-holds}
 use Rattle.plain.proofs.Homes.{inside-open}
 use Rattle.plain.proofs.Turn.{Turn}
-use Rattle.plain.proofs.Places.{taskOf}
+use Rattle.plain.proofs.PlaceAlone.{taskOf}
 use Rattle.plain.proofs.Owners.{home-of, Owner, owner}
 
 -- a place of the class c that has under way the block u being freed and a group, y and g, whose region's entry in

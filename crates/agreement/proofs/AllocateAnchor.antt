@@ -28,12 +28,12 @@ use Rattle.plain.specs.Steps.{noteOf, chained, AsNoted, asNoted?, moving}
 use Rattle.plain.specs.Steps as Steps
 use Rattle.plain.specs.Blocks.{countBlock}
 use Rattle.plain.specs.Invariant.{OpenDescriptor, ChainLength}
-use Rattle.plain.specs.States.{IsOpen, ifOpen, oneIfFull}
-use Rattle.plain.proofs.Anchors.{in-hand, class-of}
+use Rattle.plain.specs.ByState.{IsOpen, ifOpen, oneIfFull}
+use Rattle.plain.proofs.AnchorExchange.{in-hand, class-of}
 use Rattle.plain.proofs.Takes.{taken}
 use Rattle.plain.proofs.Blocks.{counts-block}
-use Rattle.plain.proofs.Places.{taskOf}
-use Rattle.plain.proofs.States.{open-holds}
+use Rattle.plain.proofs.PlaceAlone.{taskOf}
+use Rattle.plain.proofs.ByState.{open-holds}
 use Rattle.control.specs.Layout
 use Rattle.control.specs.Layout.{TaskPlace, TaskClass, TaskAnchor, TaskDescriptor, TaskRegion, TaskIndex, TaskLeft}
 use Rattle.control.specs.Layout.{DescriptorRegion}
@@ -48,11 +48,12 @@ use Rattle.agreement.specs.Relation.{ChainRelated}
 use Rattle.agreement.proofs.Slots.{toPlace, toAnchor, toChain}
 use Rattle.agreement.proofs.Sets.{withSlots, setAnchor}
 use Rattle.agreement.proofs.Bridge.{anchor-written}
-use Rattle.agreement.proofs.Tops.{first-of, descriptor-in-hand}
+use Rattle.agreement.proofs.ListTops.{first-of, descriptor-in-hand}
 use Rattle.agreement.proofs.Couple.{mine}
 use Rattle.agreement.proofs.Changes.{anchoring}
-use Rattle.agreement.proofs.Notes.{note-of, same-unmoved, unmoved-same, same-anchor-word, anchor-word-same}
-use Rattle.agreement.proofs.Notes.{number-open, number-max, re-note}
+use Rattle.agreement.proofs.NotedAnchors.{note-of, same-unmoved, unmoved-same, same-anchor-word}
+use Rattle.agreement.proofs.NotedAnchors.{anchor-word-same}
+use Rattle.agreement.proofs.NotedAnchors.{number-open, number-max, re-note}
 use Rattle.stepped.proofs.Conjunction.{both-true}
 use Rattle.agreement.proofs.Both.{Both, pass, meet, miss, decide, has-top}
 use Rattle.agreement.proofs.Turns.{At, goes}

@@ -20,7 +20,7 @@ use Rattle.plain.specs.Calls.{whenIdle, refuse, became, tested, plainCal
 use Rattle.plain.specs.Codes.{StepCode, under-way, no-request, no-descriptor, no-region, finishes, ReadsNoSpare}
 use Rattle.plain.specs.Codes.{PushesBack, ReadsNoRegion, CallIs, starts, begins, steps, EndsBy12, EndsBy13}
 use Rattle.plain.specs.Codes.{AtMost}
-use Rattle.plain.proofs.Tests.{either}
+use Rattle.plain.proofs.Either.{either}
 use Rattle.plain.proofs.Steps.{step-facts}
 
 -- ---- 12 and 13 always come at these reads and exchanges

@@ -11,7 +11,7 @@ use Rattle.words.specs.Anchor.{anchorOf}
 use Rattle.words.specs.declared.anchor.Anchor.{Anchor}
 use Rattle.stepped.specs.Done.{Given, GivenArea}
 use Rattle.stepped.specs.Ranges.{isBlock, isTop, isAnchor}
-use Rattle.ranges.proofs.Ranges.{parts}
+use Rattle.ranges.proofs.RangeTests.{parts}
 use Rattle.ranges.proofs.Passed.{passed, block-passed, top-passed, anchor-passed}
 
 -- a block's link lies in the area

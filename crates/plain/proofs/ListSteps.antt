@@ -12,9 +12,9 @@ use Rattle.rows.proofs.Weights.{when-same, when-other, when-add, when-zero}
 use Rattle.plain.specs.State.{Phase, read, next, exchange, Pop, partial, spare, region, Push, retire, back}
 use Rattle.plain.specs.State.{release, offer, popping, pushing, Mem, working}
 use Rattle.plain.specs.Steps.{popList, pushList, popRead, popLost, popTake, popStep, pushPut, pushStep}
-use Rattle.plain.proofs.Tests.{either, KeepsInvariant}
+use Rattle.plain.proofs.Either.{either, KeepsInvariant}
 use Rattle.plain.proofs.Turn.{Turn}
-use Rattle.plain.proofs.Places.{taskOf, placeHolds, noteHolds, placed, placed-empty}
+use Rattle.plain.proofs.PlaceAlone.{taskOf, placeHolds, noteHolds, placed, placed-empty}
 use Rattle.plain.proofs.Exchanged.{relisted, released}
 use Rattle.plain.proofs.Continues.{f6-held, f5-held, f6-holds, f5-holds, f6-note, f5-note}
 

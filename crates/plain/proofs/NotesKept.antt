@@ -7,7 +7,7 @@ use lib.ListN.{length}
 use Rattle.classes.specs.Geometry.{regionOf}
 use Rattle.plain.specs.State.{Phase, read, next, exchange, Mem}
 use Rattle.plain.specs.Steps.{popList, pushList}
-use Rattle.plain.specs.Places.{PopNote, PushNote, NotedHolds}
+use Rattle.plain.specs.TaskHolds.{PopNote, PushNote, NotedHolds}
 use Rattle.plain.specs.Noted.{Noted, unnoted, pop-noted, push-noted, anchor-noted, entry-noted}
 use Rattle.plain.specs.Held.{Held, blockIn}
 

@@ -6,7 +6,7 @@ use native.Mathlib.Omega.{arith}
 use native.Mathlib.Decide.{decLt}
 use borrow.Author.Tests.{lt-ltb, le-ltb}
 use lib.ListN.{getD}
-use Rattle.text.specs.Numbers.{digits, decimal}
+use Rattle.text.specs.Texts.{digits, decimal}
 
 -- the number that digits say, behind those that say a
 abbrev pub value : ℕ → List ℕ → ℕ

@@ -14,7 +14,7 @@ use Rattle.rows.proofs.Linked.{linked-frame, linked-update}
 use Rattle.rows.proofs.Update.{update-all, update-all₂}
 use Rattle.links.specs.Link.{link}
 use Rattle.plain.specs.State.{Descriptor, EMPTY, FULL, Mem, PARTIAL, State, Task, stateNumber}
-use Rattle.plain.specs.States.{IfOpen, IsOpen}
+use Rattle.plain.specs.ByState.{IfOpen, IsOpen}
 use Rattle.agreement.specs.Contents.{Slot, Lists, Descriptors, Entries, Contents}
 use Rattle.agreement.specs.Relation.{ChainRelated, Core, DescriptorRelated, DescriptorsRelated, EntriesRelated}
 use Rattle.agreement.specs.Relation.{ListsRelated, wrap}

@@ -17,7 +17,7 @@ use Rattle.agreement.specs.Events as Events
 use Rattle.agreement.specs.Reached.{History, Reached}
 use Rattle.agreement.specs.Agreement.{Agrees, Unchanged, Untouched}
 use Rattle.pool.specs.Call.{Ensures}
-use Rattle.demands.specs.Answers.{Refusal}
+use Rattle.demands.specs.AnswerKinds.{Refusal}
 
 -- What happens to a pool: a call on its memories leaves the memories `left` and answers `number`; a call on other
 -- memories, lent as `lent`; a user writes the byte b at the byte `at` of the area.

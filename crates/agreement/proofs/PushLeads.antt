@@ -27,8 +27,8 @@ use Rattle.agreement.proofs.Sets.{setSlot, setHead}
 use Rattle.agreement.proofs.Bridge.{head-written}
 use Rattle.agreement.proofs.Both.{Both}
 use Rattle.agreement.proofs.Turns.{At}
-use Rattle.agreement.proofs.Following.{six, five}
-use Rattle.agreement.proofs.Heads.{list-of, Won, wins}
+use Rattle.agreement.proofs.FollowingBoth.{six, five}
+use Rattle.agreement.proofs.MoveSteps.{list-of, Won, wins}
 
 -- the head word that it writes
 abbrev pub advanced : View → ℕ → ℕ → ℕ
