@@ -7,13 +7,14 @@ use native.Mathlib.Omega.{arith}
 use borrow.Author.Tests.{eq-eqb, ne-eqb, le-leb, lt-ltb, eqb-true}
 use lib.Dec.{eqb, ltb}
 use lib.ListN.{length}
-use Rattle.limits.specs.Limits.{DESCRIPTORS, MOST-BLOCKS}
+use Rattle.limits.specs.Limits.{DESCRIPTORS}
 use Rattle.rows.specs.Counting.{count}
 use Rattle.rows.specs.Linked.{Linked, ends}
 use Rattle.rows.specs.Weights.{one}
 use Rattle.rows.proofs.Weights.{when-same}
 use Rattle.fields.specs.Columns.{View, _:=_, assigned}
 use Rattle.words.specs.Anchor.{AnchorFits, anchorOf, anchorWord, full}
+use Rattle.words.specs.Anchor as Words
 use Rattle.words.proofs.Anchors.{anchor-of-word, full-fits, anchor-below}
 use Rattle.words.specs.declared.anchor.Anchor.{Anchor}
 use Rattle.classes.specs.Classes.{perRegion}
@@ -21,7 +22,7 @@ use Rattle.classes.specs.Geometry.{indexOf}
 use Rattle.classes.proofs.BlockUnits.{index-below}
 use Rattle.classes.proofs.Tables.{perRegion-high}
 use Rattle.links.specs.Link.{link}
-use Rattle.plain.specs.State.{State, EMPTY, PARTIAL, FULL, stateNumber, Note, read, retire, Place, pushing, a3-read}
+use Rattle.plain.specs.State.{State, EMPTY, PARTIAL, FULL, stateNumber, Note, read, retire, pushing, a3-read}
 use Rattle.plain.specs.State.{a3-exchange, a4, Mem, setDescriptor, working}
 use Rattle.plain.specs.Moves.{going, took}
 use Rattle.plain.specs.Steps.{noteOf, chained, AsNoted, asNoted?, moving}
@@ -52,24 +53,11 @@ use Rattle.agreement.proofs.ListTops.{first-of, descriptor-in-hand}
 use Rattle.agreement.proofs.Couple.{mine}
 use Rattle.agreement.proofs.Changes.{anchoring}
 use Rattle.agreement.proofs.NotedAnchors.{note-of, same-unmoved, unmoved-same, same-anchor-word}
-use Rattle.agreement.proofs.NotedAnchors.{anchor-word-same}
-use Rattle.agreement.proofs.NotedAnchors.{number-open, number-max, re-note}
+use Rattle.agreement.proofs.NotedAnchors.{anchor-word-same, number-open, re-note, anchor-tested}
 use Rattle.stepped.proofs.Conjunction.{both-true}
 use Rattle.agreement.proofs.Both.{Both, pass, meet, miss, decide, has-top}
 use Rattle.agreement.proofs.Turns.{At, goes}
 use Rattle.agreement.proofs.Sharing.{shares}
-
-module _ {regions : ℕ} {v : View} {area : List ℕ} {m : Mem} {t : ℕ} {p : Place} {k : ℕ → List ℕ}
-    (w : At regions v area m t p k) where
-  -- a descriptor's anchor is in its ranges
-  pub anchor-tested : (d : ℕ) → d < DESCRIPTORS → isAnchor (v (Layout.Anchor d)) ≡ true
-  anchor-tested d l =
-      let C = w .pair .rel .core in
-      let b = anchorOf (v (Layout.Anchor d)) in
-      both-true (both-true
-      (le-leb (b .state) 2 (omega (arith, C .descriptors .each d l .state, number-max (m .descriptor d .state))))
-      (le-leb (b .avail) MOST-BLOCKS (C .descriptors .avails d l)))
-      (le-leb (b .count) MOST-BLOCKS (C .descriptors .chainCounts d l))
 
 -- the word of (FULL, n, 0) says so
 pub full-parts : (c : ℕ) → AnchorFits (full (perRegion c))
@@ -86,11 +74,13 @@ first-below r c (x ∷ q) l h i =
     omega (arith, first-of l, index-below (counts-block r c x (omega (arith, i x, when-same x 1))))
 
 -- an anchor from which a chain can be taken
-pub chain-tested : (n word : ℕ) → anchorOf word .state ≡ 1 → 1 ≤ anchorOf word .count → anchorOf word .count ≤ n
+pub chain-tested : (n word : ℕ) → anchorOf word .state ≡ Words.PARTIAL → 1 ≤ anchorOf word .count
+    → anchorOf word .count ≤ n
     → anchorOf word .avail < n → hasChain n word ≡ true
 chain-tested n word e f g h =
     let b = anchorOf word in
-    both-true (both-true (eq-eqb (b .state) 1 e) (both-true (le-leb 1 (b .count) f) (le-leb (b .count) n g)))
+    both-true
+    (both-true (eq-eqb (b .state) Words.PARTIAL e) (both-true (le-leb 1 (b .count) f) (le-leb (b .count) n g)))
     (lt-ltb (b .avail) n h)
 
 module _ {regions : ℕ} {v : View} {area : List ℕ} {m : Mem} {t : ℕ} {k : ℕ → List ℕ} where
@@ -107,9 +97,9 @@ module _ {regions : ℕ} {v : View} {area : List ℕ} {m : Mem} {t : ℕ} {k : �
       let c = v (TaskClass t) in
       let d = v (TaskDescriptor t) in
       let b = anchorOf (v (Layout.Anchor d)) in
-      pass (isAnchor (v (Layout.Anchor d))) (anchor-tested w d l)
-      (meet _ (eqb (b .state) 0)
-      (eq-eqb (b .state) 0 (w .pair .rel .core .descriptors .each d l .state ∙ ap stateNumber g)) (record {
+      pass (isAnchor (v (Layout.Anchor d))) (anchor-tested v area (w .pair .rel) d l)
+      (meet _ (eqb (b .state) Words.EMPTY)
+      (eq-eqb (b .state) Words.EMPTY (w .pair .rel .core .descriptors .each d l .state ∙ ap stateNumber g)) (record {
         says = refl;
         keeps = (refl, refl);
         rel =
@@ -137,13 +127,13 @@ module _ {regions : ℕ} {v : View} {area : List ℕ} {m : Mem} {t : ℕ} {k : �
       let C : ChainRelated (link area) b E = open-holds (E .state) opens (D .chain) in
       let L : OpenDescriptor E = open-holds (E .state) opens (w .pair .turn .inv .chains d l) in
       let sz : ChainLength PARTIAL (perRegion (E .class)) (length (E .chain)) = rw g at (L .sized) in
-      let st : b .state ≡ 1 = D .state ∙ ap stateNumber g in
+      let st : b .state ≡ Words.PARTIAL = D .state ∙ ap stateNumber g in
       let low : 1 ≤ b .count = omega (arith, C .counts, sz) in
       let high : b .count ≤ perRegion c = omega (arith, C .counts, sz, en) in
       let first : b .avail < perRegion c =
       omega (arith, en, first-below (E .region) (E .class) (E .chain) (C .linked) (sz .0) (L .inside)) in
-      pass (isAnchor word) (anchor-tested w d l)
-      (miss _ (eqb (b .state) 0) (ne-eqb (b .state) 0 (omega arith))
+      pass (isAnchor word) (anchor-tested v area (w .pair .rel) d l)
+      (miss _ (eqb (b .state) Words.EMPTY) (ne-eqb (b .state) Words.EMPTY (omega arith))
       (pass (hasChain (perRegion c) word) (chain-tested (perRegion c) word st low high first) (record {
         says = refl;
         keeps = (refl, refl);
@@ -245,7 +235,7 @@ module _ {regions : ℕ} {v : View} {area : List ℕ} {m : Mem} {t : ℕ} {k : �
   pub a3-exchange-both : {n : Note} → At regions v area m t
       (working (a3-exchange (v (TaskClass t)) (v (TaskDescriptor t)) n)) k
       → NoteRelated m (v (TaskClass t)) (v (TaskDescriptor t)) n (anchorOf (v (TaskAnchor t)))
-      → anchorOf (v (TaskAnchor t)) .state ≡ 1 → 1 ≤ anchorOf (v (TaskAnchor t)) .count
+      → anchorOf (v (TaskAnchor t)) .state ≡ Words.PARTIAL → 1 ≤ anchorOf (v (TaskAnchor t)) .count
       → anchorOf (v (TaskAnchor t)) .count ≤ perRegion (v (TaskClass t))
       → anchorOf (v (TaskAnchor t)) .avail < perRegion (v (TaskClass t))
       → Both regions v area m (Allocate.a3Exchange v (link area) regions t (v (TaskClass t)))
@@ -268,7 +258,7 @@ module _ {regions : ℕ} {v : View} {area : List ℕ} {m : Mem} {t : ℕ} {k : �
       λ h. open-holds (E .state) (number-open (E .state) h) (w .pair .turn .inv .chains d l) in
       pass (ltb d DESCRIPTORS && hasChain (perRegion c) word)
       (both-true (lt-ltb d DESCRIPTORS l) (chain-tested (perRegion c) word st low high first))
-      (pass (isAnchor (v (Layout.Anchor d))) (anchor-tested w d l)
+      (pass (isAnchor (v (Layout.Anchor d))) (anchor-tested v area (w .pair .rel) d l)
       (decide (eqb (v (Layout.Anchor d)) word) (asNoted? E n)
       (λ h.
       let same = anchor-word-same (v (Layout.Anchor d)) word (eqb-true (v (Layout.Anchor d)) word h) in

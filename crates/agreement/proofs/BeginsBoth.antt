@@ -8,18 +8,19 @@ use native.Mathlib.Numerals.{sub-one}
 use native.Mathlib.Decide.{ℕ-discrete, decLt}
 use borrow.Author.Tests.{eq-eqb, ne-eqb, le-leb, lt-ltb, eqb-true, eqb-false, ltb-true}
 use lib.Dec.{eqb, ltb}
-use Rattle.limits.specs.Limits.{REGION-UNITS, CLASSES, DESCRIPTORS, MOST-BLOCKS, LARGEST-SIZE, WORD-MARKS}
+use Rattle.limits.specs.Limits.{REGION-UNITS, CLASSES, DESCRIPTORS, LARGEST-SIZE, WORD-MARKS}
 use Rattle.rows.specs.Branch.{if, both}
 use Rattle.fields.specs.Columns.{View, Write, _:=_, assigned}
 use Rattle.links.specs.Link.{link}
 use Rattle.words.specs.Anchor.{anchorOf}
+use Rattle.words.specs.Anchor as Words
 use Rattle.words.specs.Mark.{bitAt, isSet, withClear}
 use Rattle.words.proofs.Marks.{clear-below}
 use Rattle.classes.specs.Classes.{units, perRegion}
 use Rattle.classes.specs.Sizes.{classOf}
 use Rattle.classes.specs.Geometry.{regionOf, indexOf, isFirst}
 use Rattle.classes.proofs.Sizes.{is-class}
-use Rattle.plain.specs.State.{State, EMPTY, PARTIAL, FULL, stateNumber, Place, idle, a1, f1, Mem, Task, setTask}
+use Rattle.plain.specs.State.{EMPTY, stateNumber, Place, idle, a1, f1, Mem, Task, setTask}
 use Rattle.plain.specs.State.{setHands}
 use Rattle.plain.specs.State.{working}
 use Rattle.plain.specs.Moves.{going, nothing, refused}
@@ -28,6 +29,7 @@ use Rattle.plain.specs.Calls as Plain
 use Rattle.plain.specs.Invariant.{Invariant}
 use Rattle.plain.proofs.Homes.{inside-open}
 use Rattle.plain.proofs.PlaceAlone.{taskOf}
+use Rattle.plain.proofs.ByState.{not-empty, larger-is}
 use Rattle.control.specs.Layout.{Anchor, Marks, TaskUnit, TaskPlace, TaskClass, DescriptorRegion, DescriptorClass}
 use Rattle.control.specs.Places.{IDLE, A1, F1, PLACES}
 use Rattle.stepped.specs.Outcome.{Outcome, refuse}
@@ -42,7 +44,7 @@ use Rattle.agreement.proofs.Sets.{setSlot, setMark}
 use Rattle.agreement.proofs.Bridge.{becomes, mark-clear-written}
 use Rattle.agreement.proofs.Couple.{quiet, mine}
 use Rattle.agreement.proofs.Changes.{marking}
-use Rattle.agreement.proofs.NotedAnchors.{number-max}
+use Rattle.agreement.proofs.NotedAnchors.{anchor-tested}
 use Rattle.stepped.proofs.Conjunction.{both-true, left-true, right-true}
 use Rattle.agreement.proofs.Both.{Both, pass, meet, choose, decide}
 use Rattle.agreement.proofs.Turns.{At}
@@ -116,17 +118,6 @@ module _ {regions : ℕ} {v : View} {area : List ℕ} {m : Mem} {t : ℕ} {k : �
 
 -- ---- free
 
--- a state is EMPTY exactly where its number is 0
-abbrev notEmpty : (z : State) → 1 ≤ stateNumber z → Plain.NotEmpty z
-notEmpty EMPTY h = absurd (omega arith)
-notEmpty PARTIAL h = tt
-notEmpty FULL h = tt
-
-numbered : (z : State) → Plain.NotEmpty z → 1 ≤ stateNumber z
-numbered EMPTY h = absurd h
-numbered PARTIAL h = omega arith
-numbered FULL h = omega arith
-
 -- the test of a block's first unit, in both pools
 first-same : (c u : ℕ) → isFirst c u ≡ true → Plain.First c u
 unfolding isFirst
@@ -185,7 +176,7 @@ module _ {regions : ℕ} {v : View} {area : List ℕ} {m : Mem} {t : ℕ} {k : �
               arith,
               w .pair .turn .fits,
               w .pair .small,
-              clear-below (v (Marks (u / WORD-MARKS))) (u % WORD-MARKS) 64
+              clear-below (v (Marks (u / WORD-MARKS))) (u % WORD-MARKS) WORD-MARKS
                   (w .fitting (Marks (u / WORD-MARKS)) (omega (arith, w .pair .small))) (omega arith),
             );
         apart = tt;
@@ -220,25 +211,21 @@ module _ {regions : ℕ} {v : View} {area : List ℕ} {m : Mem} {t : ℕ} {k : �
       (lt-ltb (v (DescriptorRegion d)) regions (R w .core .descriptors .regionNumbers d l))
       (choose (eqb (v (DescriptorRegion d)) (regionOf u))
       (λ e.
-      pass (isAnchor (v (Anchor d)))
-      (both-true
-      (both-true
-      (le-leb (anchorOf (v (Anchor d)) .state) 2 (omega (arith, D .state, number-max (m .descriptor d .state))))
-      (le-leb (anchorOf (v (Anchor d)) .avail) MOST-BLOCKS (R w .core .descriptors .avails d l)))
-      (le-leb (anchorOf (v (Anchor d)) .count) MOST-BLOCKS (R w .core .descriptors .chainCounts d l)))
-      (choose (eqb (anchorOf (v (Anchor d)) .state) 0)
+      pass (isAnchor (v (Anchor d))) (anchor-tested v area (R w) d l)
+      (choose (eqb (anchorOf (v (Anchor d)) .state) Words.EMPTY)
       (λ z. ten test _
       (λ p. absurd
       (omega (
         arith,
-        eqb-true (anchorOf (v (Anchor d)) .state) 0 z,
+        eqb-true (anchorOf (v (Anchor d)) .state) Words.EMPTY z,
         D .state,
-        numbered (m .descriptor d .state)
+        not-empty (m .descriptor d .state)
             (p .0 .1),
       ))))
       (λ z.
       let live : Plain.NotEmpty (m .descriptor d .state) =
-      notEmpty (m .descriptor d .state) (omega (arith, eqb-false (anchorOf (v (Anchor d)) .state) 0 z, D .state)) in
+      larger-is (m .descriptor d .state)
+      (omega (arith, eqb-false (anchorOf (v (Anchor d)) .state) Words.EMPTY z, D .state)) in
       pass (ltb (v (DescriptorClass d)) CLASSES)
       (lt-ltb (v (DescriptorClass d)) CLASSES (R w .core .descriptors .classNumbers d l))
       (subst (λ (c : ℕ). Both regions v area m (cond (isFirst c u) (Stepped.freeMarked v t u c) (refuse 10))

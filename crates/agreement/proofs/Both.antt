@@ -6,13 +6,15 @@ use Prim.Native.Nat.{ℕ, _^_, _≤_, _<_}
 use Rattle.limits.specs.Limits.{DESCRIPTORS}
 use Rattle.rows.specs.Branch.{if}
 use Rattle.rows.specs.Totals.{total}
-use Rattle.fields.specs.Columns.{Field, View, assigned, Has, width, Sound}
+use Rattle.fields.specs.Columns.{Field, View, assigned, Has, firstByte, width, Sound}
+use Rattle.fields.specs.Little.{Bytes}
+use Rattle.fields.proofs.Little.{getLE-lt}
 use Rattle.links.specs.Link.{LinkWrite, _⇒_, linked}
 use Rattle.plain.specs.State.{Mem}
 use Rattle.plain.specs.Moves.{Answer}
 use Rattle.plain.specs.Steps.{Result}
 use Rattle.plain.specs.HolderWeights.{insideWeight}
-use Rattle.control.specs.Layout.{layout, Tasks, Regions}
+use Rattle.control.specs.Layout.{layout, seen, Tasks, Regions}
 use Rattle.control.specs.Answers.{codeOf, valueOf}
 use Rattle.stepped.specs.Outcome.{Outcome, bad}
 use Rattle.agreement.specs.Contents.{Contents, contentsOf}
@@ -41,6 +43,10 @@ pub record Both (regions : ℕ) (v : View) (area : List ℕ) (m : Mem) (o : Outc
 -- each field holds a number of its width, as those of bytes do
 abbrev pub Fitting : View → Type 0
 Fitting v = (f : Field) → Has layout f → v f < 256 ^ width layout f
+
+-- what stands in bytes fits
+pub seen-fitting : (b : List ℕ) → Bytes b → Fitting (seen b)
+seen-fitting b h f k = getLE-lt b (firstByte layout f) (width layout f) h
 
 -- ---- tests
 

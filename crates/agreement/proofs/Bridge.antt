@@ -30,11 +30,11 @@ use Rattle.agreement.proofs.Sets.{setRegionNext, setAnchor, setOwner, s
 pub column-update : {A : Type 0} (g : ℕ → A) (f : ℕ → ℕ) (i x : ℕ)
     → (λ (j : ℕ). g (cond (eqb i j) x (f j))) ≡ update (λ (j : ℕ). g (f j)) i (g x)
 unfolding update
-column-update g f i x = fun-ext (λ j. go j (ℕ-discrete j i))
+column-update g f i x = fun-ext (λ j. by j (ℕ-discrete j i))
   where
-    go : (j : ℕ) (d : Dec (j ≡ i)) → g (cond (eqb i j) x (f j)) ≡ if d (g x) (g (f j))
-    go j (yes e) = rw (eq-eqb i j (sym e))
-    go j (no n) = rw (ne-eqb i j (λ e. n (sym e)))
+    by : (j : ℕ) (d : Dec (j ≡ i)) → g (cond (eqb i j) x (f j)) ≡ if d (g x) (g (f j))
+    by j (yes e) = rw (eq-eqb i j (sym e))
+    by j (no n) = rw (ne-eqb i j (λ e. n (sym e)))
 
 -- ---- the tasks' parts
 
@@ -42,11 +42,11 @@ column-update g f i x = fun-ext (λ j. go j (ℕ-discrete j i))
 pub slots-update : (v v′ : View) (t : ℕ) (s : Slot) → slotOf v′ t ≡ s → ((j : ℕ) → t ≢ j → slotOf v′ j ≡ slotOf v j)
     → slotOf v′ ≡ update (slotOf v) t s
 unfolding update
-slots-update v v′ t s e h = fun-ext (λ j. go j (ℕ-discrete j t))
+slots-update v v′ t s e h = fun-ext (λ j. by j (ℕ-discrete j t))
   where
-    go : (j : ℕ) (d : Dec (j ≡ t)) → slotOf v′ j ≡ if d s (slotOf v j)
-    go j (yes i) = ap (slotOf v′) i ∙ e
-    go j (no n) = h j (λ i. n (sym i))
+    by : (j : ℕ) (d : Dec (j ≡ t)) → slotOf v′ j ≡ if d s (slotOf v j)
+    by j (yes i) = ap (slotOf v′) i ∙ e
+    by j (no n) = h j (λ i. n (sym i))
 
 -- ---- the caches: tasks and classes apart
 
@@ -59,24 +59,24 @@ pub cache-here : (f : ℕ → ℕ) (t c x : ℕ) → c < CLASSES
     → byClass (λ e. cond (eqb (cacheAt t c) (cacheAt t e)) x (f (cacheAt t e)))
     ≡ update (byClass (λ e. f (cacheAt t e))) c x
 unfolding update
-cache-here f t c x l = fun-ext (λ e. go e (decLt e CLASSES) (ℕ-discrete e c))
+cache-here f t c x l = fun-ext (λ e. by e (decLt e CLASSES) (ℕ-discrete e c))
   where
-    go : (e : ℕ) (p : Dec (e < CLASSES)) (q : Dec (e ≡ c))
+    by : (e : ℕ) (p : Dec (e < CLASSES)) (q : Dec (e ≡ c))
         → if p (cond (eqb (cacheAt t c) (cacheAt t e)) x (f (cacheAt t e))) 0 ≡ if q x (if p (f (cacheAt t e)) 0)
-    go e (yes p) (yes q) = rw (eq-eqb (cacheAt t c) (cacheAt t e) (omega arith))
-    go e (yes p) (no q) = rw (ne-eqb (cacheAt t c) (cacheAt t e) (λ z. q (omega arith)))
-    go e (no p) (yes q) = absurd (p (omega arith))
-    go e (no p) (no q) = refl
+    by e (yes p) (yes q) = rw (eq-eqb (cacheAt t c) (cacheAt t e) (omega arith))
+    by e (yes p) (no q) = rw (ne-eqb (cacheAt t c) (cacheAt t e) (λ z. q (omega arith)))
+    by e (no p) (yes q) = absurd (p (omega arith))
+    by e (no p) (no q) = refl
 
 -- and as another task sees it
 pub cache-there : (f : ℕ → ℕ) (t c x j : ℕ) → c < CLASSES → t ≢ j
     → byClass (λ e. cond (eqb (cacheAt t c) (cacheAt j e)) x (f (cacheAt j e))) ≡ byClass (λ e. f (cacheAt j e))
-cache-there f t c x j l n = fun-ext (λ e. go e (decLt e CLASSES))
+cache-there f t c x j l n = fun-ext (λ e. by e (decLt e CLASSES))
   where
-    go : (e : ℕ) (p : Dec (e < CLASSES))
+    by : (e : ℕ) (p : Dec (e < CLASSES))
         → if p (cond (eqb (cacheAt t c) (cacheAt j e)) x (f (cacheAt j e))) 0 ≡ if p (f (cacheAt j e)) 0
-    go e (yes p) = rw (ne-eqb (cacheAt t c) (cacheAt j e) (λ z. n (omega arith)))
-    go e (no p) = refl
+    by e (yes p) = rw (ne-eqb (cacheAt t c) (cacheAt j e) (λ z. n (omega arith)))
+    by e (no p) = refl
 
 -- ---- the marks
 
@@ -87,17 +87,17 @@ module _ (v : View) (u b made : ℕ) (here : bitAt made (u % WORD-MARKS) ≡ b)
       (w % WORD-MARKS))
       ≡ update (markOf v) u b
   unfolding update
-  marks-update = fun-ext (λ w. go w (ℕ-discrete w u) (ℕ-discrete (u / WORD-MARKS) (w / WORD-MARKS)))
+  marks-update = fun-ext (λ w. by w (ℕ-discrete w u) (ℕ-discrete (u / WORD-MARKS) (w / WORD-MARKS)))
     where
-      go : (w : ℕ) (d : Dec (w ≡ u)) (e : Dec (u / WORD-MARKS ≡ w / WORD-MARKS))
+      by : (w : ℕ) (d : Dec (w ≡ u)) (e : Dec (u / WORD-MARKS ≡ w / WORD-MARKS))
           → bitAt (cond (eqb (u / WORD-MARKS) (w / WORD-MARKS)) made (v (Marks (w / WORD-MARKS)))) (w % WORD-MARKS)
           ≡ if d b (markOf v w)
-      go w (yes d) (yes e) = rw (eq-eqb (u / WORD-MARKS) (w / WORD-MARKS) e, d) here
-      go w (yes d) (no e) = absurd (e (ap (λ (z : ℕ). z / WORD-MARKS) (sym d)))
-      go w (no d) (yes e) =
+      by w (yes d) (yes e) = rw (eq-eqb (u / WORD-MARKS) (w / WORD-MARKS) e, d) here
+      by w (yes d) (no e) = absurd (e (ap (λ (z : ℕ). z / WORD-MARKS) (sym d)))
+      by w (no d) (yes e) =
           rw (eq-eqb (u / WORD-MARKS) (w / WORD-MARKS) e)
           (others (w % WORD-MARKS) (λ z. d (omega arith)) ∙ ap (λ (k : ℕ). bitAt (v (Marks k)) (w % WORD-MARKS)) e)
-      go w (no d) (no e) = rw (ne-eqb (u / WORD-MARKS) (w / WORD-MARKS) e)
+      by w (no d) (no e) = rw (ne-eqb (u / WORD-MARKS) (w / WORD-MARKS) e)
 
 pub mark-set : (v : View) (u : ℕ)
     → (λ (w : ℕ). bitAt (cond (eqb (u / WORD-MARKS) (w / WORD-MARKS))

@@ -4,7 +4,6 @@ use mathlib.Core.Logic.{_≢_}
 use mathlib.Core.List.{List}
 use Prim.Native.Nat.{ℕ, suc, _+_, _≤_, _<_}
 use native.Mathlib.Omega.{arith}
-use lib.ListN.{length}
 use Rattle.limits.specs.Limits.{TASKS, DESCRIPTORS, MOST-BLOCKS, SPARE-REGIONS, DESCRIPTOR-LISTS}
 use Rattle.words.specs.declared.anchor.Anchor.{Anchor}
 use Rattle.words.specs.declared.head.Head.{Head}
@@ -73,7 +72,7 @@ module _ {regions : ℕ} {a : Contents} {m : Mem} {t : ℕ} {p : Place} {k : ℕ
     arith,
     w .turn .inv .descriptors x,
     below-max x DESCRIPTORS,
-    total-one SPARE-REGIONS (rowWeight x) (m .row) ℓ l,
+    total-one DESCRIPTOR-LISTS (rowWeight x) (m .row) ℓ l,
     total-one TASKS (descriptorWeight x) (m .task) t (w .turn .fits),
     ap (descriptorWeight x t) (w .turn .is),
   )
@@ -89,10 +88,10 @@ module _ {regions : ℕ} {a : Contents} {m : Mem} {t : ℕ} {p : Place} {k : ℕ
         ap (regionWeight x t) (w .turn .is),
       )
 
-  pub dnexting : (x n : ℕ) (s : Slot) (T : Task) → 1 ≤ holdsDescriptor x p → n ≤ DESCRIPTORS
+  pub descriptor-nexting : (x n : ℕ) (s : Slot) (T : Task) → 1 ≤ holdsDescriptor x p → n ≤ DESCRIPTORS
       → SlotRelated regions (setSlot t s (setDescriptorNext x n a)) (setTask t T m) s T
       → Related regions (setSlot t s (setDescriptorNext x n a)) (setTask t T m)
-  dnexting x n s T h b =
+  descriptor-nexting x n s T h b =
       relisting s T (descriptorNext-related (C .lists) x n (λ ℓ l. off-lists x ℓ l h) b) (λ j l d. record {
         wins = λ ℓ. omega arith;
         still = λ ℓ e. refl;
@@ -101,10 +100,10 @@ module _ {regions : ℕ} {a : Contents} {m : Mem} {t : ℕ} {p : Place} {k : ℕ
         regionNexts = λ y g. refl;
       })
 
-  pub rnexting : (x n : ℕ) (s : Slot) (T : Task) → 1 ≤ holdsRegion x p → n ≤ regions
+  pub region-nexting : (x n : ℕ) (s : Slot) (T : Task) → 1 ≤ holdsRegion x p → n ≤ regions
       → SlotRelated regions (setSlot t s (setRegionNext x n a)) (setTask t T m) s T
       → Related regions (setSlot t s (setRegionNext x n a)) (setTask t T m)
-  rnexting x n s T h b =
+  region-nexting x n s T h b =
       relisting s T (regionNext-related (C .lists) x n (off-regions x h) b) (λ j l d. record {
         wins = λ ℓ. omega arith;
         still = λ ℓ e. refl;

@@ -1,4 +1,4 @@
--- One task's turn in both pools: a lemma for each kind of change.
+-- One task's turn in both pools: a law for each kind of change.
 use mathlib.Core.Path.{_≡_, refl, ap, subst, _∙_}
 use mathlib.Core.Logic.{_≢_}
 use mathlib.Core.List.{List, [], _∷_}
@@ -65,9 +65,10 @@ valid m v h =
     }
 
 module _ {regions : ℕ} {m : Mem} (I : Invariant regions m) where
-  same-desc : {u v : ℕ} (b : Valid m u) (c : Valid m v) → m .descriptor (b .d) .region ≡ m .descriptor (c .d) .region
+  same-descriptor : {u v : ℕ} (b : Valid m u) (c : Valid m v)
+      → m .descriptor (b .d) .region ≡ m .descriptor (c .d) .region
       → b .d ≡ c .d
-  same-desc b c e = elim (same? (b .d) (c .d)) [
+  same-descriptor b c e = elim (same? (b .d) (c .d)) [
     | same i ↦ i
     | other n ↦ absurd (let r = m .descriptor (b .d) .region in
         omega (
@@ -85,7 +86,7 @@ module _ {regions : ℕ} {m : Mem} (I : Invariant regions m) where
   pub same-class : {u v : ℕ} (b : Valid m u) (c : Valid m v)
       → m .descriptor (b .d) .region ≡ m .descriptor (c .d) .region
       → m .descriptor (b .d) .class ≡ m .descriptor (c .d) .class
-  same-class b c e = ap (λ (i : ℕ). m .descriptor i .class) (same-desc b c e)
+  same-class b c e = ap (λ (i : ℕ). m .descriptor i .class) (same-descriptor b c e)
 
   pub region-below : {v : ℕ} (b : Valid m v) → m .descriptor (b .d) .region < regions
   region-below b =

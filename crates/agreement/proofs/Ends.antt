@@ -36,7 +36,7 @@ use Rattle.stepped.specs.Lists.{pushPlace}
 use Rattle.stepped.specs.Steps as Steps
 use Rattle.stepped.specs.Calls as Calls
 use Rattle.agreement.specs.Ends.{WritesNothing, Leaves, oneOf, testRefusals, allocateRefusals, freeRefusals}
-use Rattle.agreement.specs.Ends.{placeRefusals, stepRefusals, Begins, Goes, StartEnds, BeginEnds, StepEnds}
+use Rattle.agreement.specs.Ends.{placeRefusals, stepRefusals, Begins, StepAnswers, StartEnds, BeginEnds, StepEnds}
 use Rattle.agreement.specs.Ends.{FindsEmpty, WinsPush, InPush, placeAfter, IsEnd, BegunOutcome}
 use Rattle.stepped.specs.Calls.{Tested, Lent, lengths}
 use Rattle.agreement.proofs.Ways.{branch, accepted-no, more, tests, passed, Cause, Ending, CallEnding, refused}
@@ -146,19 +146,19 @@ start-ends b lent s =
 -- ---- steps
 
 -- what ends a request is no refusal
-cause-goes : (ns : List ℕ) (v : View) (t : ℕ) (a : Answer) → Cause v t a → Goes ns a
-cause-goes ns v t Accepted k = tt
-cause-goes ns v t (Allocated u) k = tt
-cause-goes ns v t Freed k = tt
-cause-goes ns v t NoDescriptor k = tt
-cause-goes ns v t NoRegion k = tt
-cause-goes ns v t (Refused n) k = absurd k
+cause-answers : (ns : List ℕ) (v : View) (t : ℕ) (a : Answer) → Cause v t a → StepAnswers ns a
+cause-answers ns v t Accepted k = tt
+cause-answers ns v t (Allocated u) k = tt
+cause-answers ns v t Freed k = tt
+cause-answers ns v t NoDescriptor k = tt
+cause-answers ns v t NoRegion k = tt
+cause-answers ns v t (Refused n) k = absurd k
 
 module _ {ns : List ℕ} {v : View} {t : ℕ} where
-  goes : {o : Outcome} → Ending ns v t o → Goes ns (o .answer)
-  goes (refused h) = h
-  goes (going h) = tt
-  goes (ended {a = a} k h) = cause-goes ns v t a k
+  answers : {o : Outcome} → Ending ns v t o → StepAnswers ns (o .answer)
+  answers (refused h) = h
+  answers (going h) = tt
+  answers (ended {a = a} k h) = cause-answers ns v t a k
 
 -- a call of a step
 module _ {v : View} {t : ℕ} where
@@ -166,7 +166,7 @@ module _ {v : View} {t : ℕ} where
   ends (refused h) = record { nothing = λ n e. (refl, refl); answers = h; idle = λ i. absurd i }
   ends (going h) = record { nothing = λ n e. absurd (accepted-no e); answers = tt; idle = λ i. absurd i }
   ends (ended {a = a} k h) =
-      let G = cause-goes stepRefusals v t a k in
+      let G = cause-answers stepRefusals v t a k in
       record { nothing = λ n e. absurd (subst (Cause v t) e k); answers = G; idle = λ i. h }
 
   -- why a request ends with the answer a
@@ -217,9 +217,9 @@ module _ (lent : Lengths) (v : View) (link : ℕ → ℕ) (t : ℕ) where
       ∙ rw (lt-ltb IDLE (v (TaskPlace t)) (omega arith), lt-ltb (v (TaskClass t)) CLASSES h, e)
 
   -- the step at the place of a task that is not idle is refused by 14 alone
-  pub place-goes : v (TaskClass t) < CLASSES → IDLE < v (TaskPlace t)
-      → Goes placeRefusals (Steps.stepAt v link (v Regions) t (v (TaskClass t)) (v (TaskPlace t)) .answer)
-  place-goes fits busy = goes (step-at v link t fits busy)
+  pub place-answers : v (TaskClass t) < CLASSES → IDLE < v (TaskPlace t)
+      → StepAnswers placeRefusals (Steps.stepAt v link (v Regions) t (v (TaskClass t)) (v (TaskPlace t)) .answer)
+  place-answers fits busy = answers (step-at v link t fits busy)
 
   pub step-ends : StepEnds v t o
   step-ends = ends ending
@@ -266,7 +266,7 @@ module _ (lent : Lengths) (v : View) (link : ℕ → ℕ) (t : ℕ) where
         (at-place (h .0) (h .1 .place) (omega arith) (h .1 .class) ∙ wins-push Back (h .1)),
   )
 
-  -- a task that finds the list of spare regions empty goes to the head read of the push back
+  -- a task that finds the list of spare regions empty answers to the head read of the push back
   pub to-back : Tested lent v t → FindsEmpty Region v t → placeAfter o v t ≡ pushPlace Back
   unfolding Steps.stepAt
   to-back T F =

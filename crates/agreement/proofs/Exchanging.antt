@@ -7,7 +7,7 @@ use native.Mathlib.Decide.{ℕ-discrete}
 use borrow.Author.Tests.{eq-eqb, ne-eqb, lt-ltb, le-leb, eqb-true}
 use lib.Dec.{eqb}
 use lib.ListN.{length, length-append}
-use Rattle.limits.specs.Limits.{DESCRIPTORS, MOST-BLOCKS}
+use Rattle.limits.specs.Limits.{DESCRIPTORS}
 use Rattle.rows.specs.Linked.{Linked}
 use Rattle.rows.proofs.Linked.{linked-append, linked-append-one}
 use Rattle.fields.specs.Columns.{Sound, View, Write, _:=_, assigned}
@@ -45,7 +45,7 @@ use Rattle.agreement.proofs.Both.{Both, decide, meet, miss, pass}
 use Rattle.agreement.proofs.Turns.{At, goes}
 use Rattle.agreement.proofs.FollowingBoth.{five}
 use Rattle.agreement.proofs.Writes.{OwnWrites, anchor-exchanged}
-use Rattle.agreement.proofs.NotedAnchors.{SameAnchor, anchor-word-same, number-max, same-anchor-word, re-note}
+use Rattle.agreement.proofs.NotedAnchors.{SameAnchor, anchor-word-same, same-anchor-word, re-note, anchor-tested}
 use Rattle.agreement.proofs.NotedAnchors.{same-unmoved, unmoved-same}
 use Rattle.agreement.proofs.Noting.{note-anchor, note-room}
 use Rattle.agreement.proofs.GroupBlocks.{first-below, same-group}
@@ -224,10 +224,7 @@ module _ {regions : ℕ} {v : View} {area : List ℕ} {m : Mem} {t : ℕ} {k : �
       (lt-ltb (v (GroupFirst t)) (perRegion c) first-fits))
       (both-true (le-leb 1 h (omega (arith, G .counts))) (le-leb h (perRegion c) (omega arith))))
       (note-anchor a h N room)) (note-room a h N room))
-      (pass _ (both-true (both-true
-      (le-leb (anchorOf b .state) 2 (rw (D .state) (number-max (m .descriptor d .state))))
-      (le-leb (anchorOf b .avail) MOST-BLOCKS (C .descriptors .avails d (own .fits))))
-      (le-leb (anchorOf b .count) MOST-BLOCKS (C .descriptors .chainCounts d (own .fits))))
+      (pass _ (anchor-tested v area (w .pair .rel) d (own .fits))
       (decide (eqb b a) (asNoted? (m .descriptor d) n)
       (λ e. same-unmoved m d n D chain-of O M (anchor-word-same b a (eqb-true b a e)))
       (λ q. eq-eqb b a (same-anchor-word b a (unmoved-same m d n D chain-of O M q)))

@@ -9,6 +9,7 @@ use lib.ListN.{length}
 use Rattle.fields.specs.Columns.{View, Write, _:=_, assigned, Sound}
 use Rattle.fields.proofs.Layouts.{assigned-same}
 use Rattle.classes.specs.Classes.{perRegion}
+use Rattle.words.specs.Anchor as Words
 use Rattle.plain.specs.State.{State, EMPTY, PARTIAL, FULL, stateNumber, read, offer, Place, pushing, f1, f2, Mem}
 use Rattle.plain.specs.State.{working}
 use Rattle.plain.specs.Moves.{Decided, going}
@@ -79,10 +80,10 @@ module _ {regions : ℕ} {v : View} {area : List ℕ} {m : Mem} {t : ℕ} {p : P
       → Both regions v area m (Lists.f5 v regions t (v (TaskClass t)) was e ws)
       (Steps.atWork t k (Steps.f5 z (k (v (TaskClass t))) (v (TaskClass t)) u d) m₁, going e)
   unfolding Lists.f5
-  five was EMPTY d i r = rw (ne-eqb was 2 (omega arith)) six
-  five was PARTIAL d i r = rw (ne-eqb was 2 (omega arith)) six
+  five was EMPTY d i r = rw (ne-eqb was Words.FULL (omega arith)) six
+  five was PARTIAL d i r = rw (ne-eqb was Words.FULL (omega arith)) six
   five was FULL d i r =
-      rw (eq-eqb was 2 i)
+      rw (eq-eqb was Words.FULL i)
       (record {
         says = refl;
         keeps = keeps-after (assigned (TaskPlace t := PUSH-OFFER ∷ []) v) refl refl;

@@ -1,5 +1,5 @@
 -- The state that each task noted is one of the three, once the pool is started, after every event.
-use Prim.Native.Nat.{ℕ, _/_, _%_, _≤_, _<_}
+use Prim.Native.Nat.{ℕ, _/_, _%_, _≤_}
 use mathlib.Core.Path.{_≡_, refl, sym, subst}
 use mathlib.Core.Bool.{Bool, true, false, cond, _&&_}
 use mathlib.Core.List.{List, [], _∷_}
@@ -13,7 +13,7 @@ use Rattle.fields.specs.Little.{Bytes}
 use Rattle.words.specs.Anchor.{FULL}
 use Rattle.plain.specs.Calls.{Call, Start, start, allocate, free, step, Lengths}
 use Rattle.plain.specs.Calls as Plain
-use Rattle.control.specs.Layout.{seen, changed, Tasks, TaskPlace, TaskState}
+use Rattle.control.specs.Layout.{seen, changed, TaskPlace, TaskState}
 use Rattle.control.proofs.Fields.{seen-changed}
 use Rattle.stepped.specs.Outcome.{Memories, Outcome, Effect}
 use Rattle.stepped.specs.Ranges.{oneTo}
@@ -22,21 +22,15 @@ use Rattle.stepped.specs.Calls as Calls
 use Rattle.stepped.specs.Calls.{Tested, Lent, lengths, effectIn}
 use Rattle.stepped.proofs.Conjunction.{right-true}
 use Rattle.agreement.specs.Events.{Event, call, write, stepped}
+use Rattle.agreement.specs.Tied.{FoundStates}
 use Rattle.agreement.specs.Reached.{starting}
 use Rattle.agreement.proofs.Ways.{branch, tests}
 use Rattle.agreement.proofs.StartRelated.{at-state}
 use Rattle.agreement.proofs.Starting.{image-view}
 use Rattle.agreement.proofs.SoundMoves.{Own, Owns, Fit}
 use Rattle.agreement.proofs.SoundSteps.{step-fit}
-use Rattle.agreement.proofs.SoundCalls.{allocate-fit, free-fit, seen-fitting}
-
--- the states that the tasks noted, in a control memory
-abbrev pub States : List ℕ → Type 0
-States b = (t : ℕ) → t < TASKS → seen b (TaskState t) ≤ FULL
-
--- once it is started
-abbrev pub FoundStates : List ℕ → Type 0
-FoundStates b = 1 ≤ seen b Tasks → States b
+use Rattle.agreement.proofs.SoundCalls.{allocate-fit, free-fit}
+use Rattle.agreement.proofs.Both.{seen-fitting}
 
 -- ---- writes
 

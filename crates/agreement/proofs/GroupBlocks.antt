@@ -76,19 +76,19 @@ module _ {regions : ℕ} {a : Contents} {m : Mem} {t : ℕ} {p : Place} {k : ℕ
   last-below = omega (arith, G .lastIs, index-below (of-region (G .last) last-in))
 
   pub first-below : a .slot t .group .first < perRegion (a .slot t .class)
-  first-below = go (G .front) (G .is) (G .linked)
+  first-below = by (G .front) (G .is) (G .linked)
     where
-      go : (q : List ℕ) → y ∷ g ≡ q ++ (G .last ∷ [])
+      by : (q : List ℕ) → y ∷ g ≡ q ++ (G .last ∷ [])
           → Linked (link (a .area)) (indexOf (a .slot t .class)) (indexOf (a .slot t .class) (G .last))
           (a .slot t .group .first) q
           → a .slot t .group .first < perRegion (a .slot t .class)
-      go [] e (ends f) =
+      by [] e (ends f) =
           omega (
             arith,
             index-below
                 (of-region (G .last) (omega (arith, ap (count (G .last)) e, when-same (G .last) 1))),
           )
-      go (z ∷ q) e (links f l) = omega (arith, index-below (of-region z (omega (arith, ap (count z) e, when-same z 1))))
+      by (z ∷ q) e (links f l) = omega (arith, index-below (of-region z (omega (arith, ap (count z) e, when-same z 1))))
 
   -- its region is one of the area's
   pub region-below : a .slot t .hand .region < regions

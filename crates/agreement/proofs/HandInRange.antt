@@ -41,7 +41,7 @@ use Rattle.agreement.proofs.NotedAnchors.{first-max, number-max}
 
 -- a noted anchor
 note-in : {m : Mem} {c d : ℕ} {n : Note} {b : Anchor} → NoteRelated m c d n b
-    → (b .state ≤ 2) × (b .avail ≤ perRegion c)
+    → (b .state ≤ FULL) × (b .avail ≤ perRegion c)
 note-in {m} {c} {d} {n} N =
     omega (
       arith,

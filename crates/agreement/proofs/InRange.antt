@@ -40,8 +40,8 @@ use Rattle.agreement.proofs.NotedAnchors.{note-of, first-max, number-op
 use Rattle.agreement.proofs.Couple.{Pair, mine}
 use Rattle.agreement.proofs.TaskBlocks.{under-unit, below-tested, top-max}
 use Rattle.agreement.specs.Tied.{Tied}
-use Rattle.agreement.proofs.Simulation.{fitting}
-use Rattle.agreement.proofs.FoundStates.{FoundStates}
+use Rattle.agreement.proofs.Both.{seen-fitting}
+use Rattle.agreement.specs.Tied.{FoundStates}
 use Rattle.agreement.proofs.Reaching.{reached-tied, reached-found, along}
 use Rattle.agreement.proofs.FreeUnderWay.{Freeing, allocates, fills, frees, owes}
 use Rattle.agreement.proofs.HandInRange.{numbers-at}
@@ -106,7 +106,7 @@ module _ (regions : ℕ) (v : View) (area : List ℕ) (m : Mem) (t : ℕ) where
         record {
           class = mine w .fits;
           lists = N .0;
-          hands = N .1 .0;
+          hand = N .1 .0;
           chains = N .1 .1;
           unit-pushing = λ i j. unit-at F i (λ h. absurd (omega arith));
           unit = λ i j. unit-at F (omega arith) (λ h. i);
@@ -162,7 +162,7 @@ in-range {s₁} {s} S noted started =
     (s .mem .task t .cache) =
     λ t l. record { rel = R; turn = record { inv = I; fits = l; is = refl }; small = S .good .small q } in
     record {
-      widths = fitting (s₁ .control) (S .bytes);
+      widths = seen-fitting (s₁ .control) (S .bytes);
       tasks = omega (arith, S .tasks, S .good .few);
       regions = omega (arith, S .some q, S .good .small q);
       heads = λ ℓ l. top-le (C .lists .rows ℓ l) (listed I ℓ l);

@@ -47,7 +47,7 @@ next-of {nx} i (links {u = u} {r = r} e k) h l = let z : pred i ≡ u = omega ar
 module _ {regions : ℕ} {m : Mem} (I : Invariant regions m) where
   pub listed : (ℓ : ℕ) → ℓ < DESCRIPTOR-LISTS → (v : ℕ) → 1 ≤ count v (m .row ℓ) → v < DESCRIPTORS
   listed ℓ l v h =
-      below-is v DESCRIPTORS (omega (arith, I .descriptors v, total-one SPARE-REGIONS (rowWeight v) (m .row) ℓ l))
+      below-is v DESCRIPTORS (omega (arith, I .descriptors v, total-one DESCRIPTOR-LISTS (rowWeight v) (m .row) ℓ l))
 
   pub listed-region : (v : ℕ) → 1 ≤ count v (m .row SPARE-REGIONS) → v < regions
   listed-region v h = below-is v regions (omega (arith, I .regions v))

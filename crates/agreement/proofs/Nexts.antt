@@ -20,7 +20,7 @@ use Rattle.agreement.proofs.Slots.{toPlace}
 use Rattle.agreement.proofs.Sets.{setSlot, setDescriptorNext, setRegionNext}
 use Rattle.agreement.proofs.Bridge.{descriptorNext-written, regionNext-written}
 use Rattle.agreement.proofs.ListTops.{descriptor-in-hand, region-in-hand}
-use Rattle.agreement.proofs.Changes.{dnexting, rnexting}
+use Rattle.agreement.proofs.Changes.{descriptor-nexting, region-nexting}
 use Rattle.agreement.proofs.Both.{Both}
 use Rattle.agreement.proofs.Turns.{At}
 use Rattle.agreement.proofs.Sharing.{shares}
@@ -54,7 +54,8 @@ module _ {regions : ℕ} {v : View} {area : List ℕ} {m : Mem} {t : ℕ} {p : P
         says = refl;
         keeps = (refl, refl);
         rel =
-            shares w ws s p′ (setDescriptorNext x n (contentsOf v area)) m (dnexting (w .pair) x n s (taskOf p′ k) h i)
+            shares w ws s p′ (setDescriptorNext x n (contentsOf v area)) m
+            (descriptor-nexting (w .pair) x n s (taskOf p′ k) h i)
             (descriptorNext-written v (slotOf (assigned ws v)) area x n) refl refl
             (rw (eq-eqb t t refl)) (λ j n. rw (ne-eqb t j n)) refl refl pl;
         sound = omega (arith, w .pair .turn .fits, descriptor-in-hand (w .pair .turn) x h);
@@ -66,7 +67,8 @@ module _ {regions : ℕ} {v : View} {area : List ℕ} {m : Mem} {t : ℕ} {p : P
       record {
         says = refl;
         keeps = (refl, refl);
-        rel = shares w ws s p′ (setRegionNext x n (contentsOf v area)) m (rnexting (w .pair) x n s (taskOf p′ k) h i)
+        rel = shares w ws s p′ (setRegionNext x n (contentsOf v area)) m
+            (region-nexting (w .pair) x n s (taskOf p′ k) h i)
             (regionNext-written v (slotOf (assigned ws v)) area x n) refl refl
             (rw (eq-eqb t t refl)) (λ j n. rw (ne-eqb t j n)) refl refl pl;
         sound = omega (arith, w .pair .turn .fits, w .pair .small, region-in-hand (w .pair .turn) x h);

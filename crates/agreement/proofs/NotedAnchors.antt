@@ -1,9 +1,13 @@
 -- Anchors and what is noted of them: the two pools' comparisons come out alike.
 use mathlib.Core.Path.{_≡_, refl, sym, ap, _∙_}
 use mathlib.Core.List.{List, [], _∷_}
-use Prim.Native.Nat.{ℕ, zero, suc, _+_, _*_, _≤_}
+use mathlib.Core.Bool.{true}
+use Prim.Native.Nat.{ℕ, zero, suc, _+_, _*_, _≤_, _<_}
 use native.Mathlib.Omega.{arith}
+use borrow.Author.Tests.{le-leb}
 use lib.ListN.{length}
+use Rattle.limits.specs.Limits.{DESCRIPTORS, MOST-BLOCKS}
+use Rattle.fields.specs.Columns.{View}
 use Rattle.words.specs.declared.anchor.Anchor.{Anchor}
 use Rattle.rows.specs.Counting.{count}
 use Rattle.rows.specs.Linked.{Linked, ends, links}
@@ -12,6 +16,7 @@ use Rattle.classes.specs.Classes.{perRegion}
 use Rattle.classes.specs.Geometry.{indexOf, unitOf}
 use Rattle.classes.proofs.BlockUnits.{index-below, unit-again}
 use Rattle.words.specs.Anchor.{anchorOf}
+use Rattle.words.specs.Anchor as Words
 use Rattle.words.proofs.Anchors.{word-of-anchor}
 use Rattle.plain.specs.State.{EMPTY, FULL, Mem, Note, PARTIAL, State, stateNumber}
 use Rattle.plain.specs.Steps.{AsNoted, noteOf, top}
@@ -19,7 +24,11 @@ use Rattle.plain.specs.Blocks.{countBlock}
 use Rattle.plain.specs.Invariant.{OpenDescriptor}
 use Rattle.plain.specs.ByState.{IsOpen, ifOpen}
 use Rattle.plain.proofs.Blocks.{counts-block}
-use Rattle.agreement.specs.Relation.{ChainRelated, DescriptorRelated, FirstIn, NoteRelated, firstIndex}
+use Rattle.control.specs.Layout as Layout
+use Rattle.stepped.specs.Ranges.{isAnchor}
+use Rattle.stepped.proofs.Conjunction.{both-true}
+use Rattle.agreement.specs.Contents.{contentsOf}
+use Rattle.agreement.specs.Relation.{ChainRelated, DescriptorRelated, FirstIn, NoteRelated, Related, firstIndex}
 
 -- a linked chain's first block
 first-index : (c : ℕ) {nx : ℕ → ℕ} {f : ℕ} {q : List ℕ} → Linked nx (indexOf c) (perRegion c) f q
@@ -102,12 +111,13 @@ number-open EMPTY h i = absurd (omega arith)
 number-open PARTIAL h i = refl
 number-open FULL h i = refl
 
-pub open-number : (z : State) → ((i : ℕ) → ifOpen z i ≡ i) → (1 ≤ stateNumber z) × (stateNumber z ≤ 2)
+pub open-number : (z : State) → ((i : ℕ) → ifOpen z i ≡ i)
+    → (Words.EMPTY < stateNumber z) × (stateNumber z ≤ Words.FULL)
 open-number EMPTY h = absurd (omega (arith, h 1))
 open-number PARTIAL h = omega arith
 open-number FULL h = omega arith
 
-pub number-max : (z : State) → stateNumber z ≤ 2
+pub number-max : (z : State) → stateNumber z ≤ Words.FULL
 number-max EMPTY = omega arith
 number-max PARTIAL = omega arith
 number-max FULL = omega arith
@@ -118,3 +128,14 @@ pub re-note : {m m′ : Mem} {c c′ d : ℕ} {n : Note} {b : Anchor}
 re-note e f N =
     rw (← f)
     (record { state = N .state; count = N .count; avail = N .avail; first = rw e (N .first); none = N .none })
+
+-- the anchor of a descriptor is in its ranges
+pub anchor-tested : {regions : ℕ} {m : Mem} (v : View) (area : List ℕ) → Related regions (contentsOf v area) m → (d : ℕ)
+    → d < DESCRIPTORS → isAnchor (v (Layout.Anchor d)) ≡ true
+anchor-tested {m = m} v area R d l =
+    let D = R .core .descriptors in
+    let b = anchorOf (v (Layout.Anchor d)) in
+    both-true (both-true
+    (le-leb (b .state) Words.FULL (omega (arith, D .each d l .state, number-max (m .descriptor d .state))))
+    (le-leb (b .avail) MOST-BLOCKS (D .avails d l)))
+    (le-leb (b .count) MOST-BLOCKS (D .chainCounts d l))

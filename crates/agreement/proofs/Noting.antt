@@ -6,7 +6,7 @@ use native.Mathlib.Omega.{arith}
 use borrow.Author.Tests.{eq-eqb, le-leb, lt-ltb}
 use lib.Dec.{eqb, ltb}
 use Rattle.limits.specs.Limits.{MOST-BLOCKS}
-use Rattle.words.specs.Anchor.{anchorOf}
+use Rattle.words.specs.Anchor.{FULL, anchorOf}
 use Rattle.words.specs.declared.anchor.Anchor.{Anchor}
 use Rattle.classes.specs.Classes.{perRegion}
 use Rattle.classes.proofs.BlockUnits.{index-below}
@@ -31,7 +31,7 @@ module _ {m : Mem} {c d : ℕ} {n : Note} (w g : ℕ) (N : NoteRelated m c d n (
     (room : g + anchorOf w .count ≤ perRegion c) where
   pub note-anchor : isAnchor w ≡ true
   note-anchor = both-true (both-true
-      (le-leb (anchorOf w .state) 2 (rw (N .state) (number-max (n .state))))
+      (le-leb (anchorOf w .state) FULL (rw (N .state) (number-max (n .state))))
       (le-leb (anchorOf w .avail) MOST-BLOCKS (note-max N)))
       (le-leb (anchorOf w .count) MOST-BLOCKS (omega (arith, perRegion-high c)))
 

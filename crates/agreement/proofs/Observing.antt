@@ -4,9 +4,9 @@ use mathlib.Core.Logic.{_≢_}
 use mathlib.Core.List.{List, [], _∷_}
 use Prim.Native.Nat.{ℕ, zero, suc, _+_, _≤_, _<_}
 use native.Mathlib.Omega.{arith}
-use native.Mathlib.Decide.{ℕ-discrete, decLe}
+use native.Mathlib.Decide.{ℕ-discrete, decLt}
 use lib.ListN.{length}
-use Rattle.limits.specs.Limits.{REGIONS, TASKS, CLASSES, DESCRIPTORS, SPARE-REGIONS}
+use Rattle.limits.specs.Limits.{REGIONS, TASKS, CLASSES, DESCRIPTORS, SPARE-REGIONS, DESCRIPTOR-LISTS}
 use Rattle.rows.specs.Branch.{if, both}
 use Rattle.rows.specs.Weights.{below}
 use Rattle.rows.specs.Counting.{count}
@@ -19,14 +19,15 @@ use Rattle.classes.specs.Geometry.{unitOf, Block}
 use Rattle.classes.proofs.BlockUnits.{unit-again, unit-below}
 use Rattle.links.specs.Link.{link}
 use Rattle.plain.specs.State.{State, EMPTY, PARTIAL, FULL, stateNumber, Mem}
-use Rattle.plain.specs.Calls.{rising, NotEmpty, Opens, opens?}
+use Rattle.plain.specs.Calls.{rising, Opens, opens?}
+use Rattle.words.specs.Anchor as Words
 use Rattle.plain.specs.ByState.{ifOpen, IfOpen}
 use Rattle.plain.specs.Blocks.{countBlock}
 use Rattle.plain.specs.Held.{held}
 use Rattle.plain.specs.HolderWeights.{rowWeight, insideWeight, chainWeight, blockWeight}
 use Rattle.plain.specs.Invariant.{Invariant, OpenDescriptor}
 use Rattle.plain.proofs.Blocks.{block-counts, counts-block}
-use Rattle.plain.proofs.ByState.{open-holds}
+use Rattle.plain.proofs.ByState.{open-holds, not-empty, larger-is}
 use Rattle.plain.proofs.Homes.{inside-open}
 use Rattle.plain.proofs.OnePlace.{found}
 use Rattle.plain.proofs.StartInvariant.{rising-count, length-rising}
@@ -59,37 +60,28 @@ more h = omega arith
 -- ---- open regions
 
 module _ {regions : ℕ} {a : Contents} {m : Mem} (R : Related regions a m) (I : Invariant regions m) where
-  not-empty : (z : State) → NotEmpty z → 1 ≤ stateNumber z
-  not-empty EMPTY h = absurd h
-  not-empty PARTIAL h = omega arith
-  not-empty FULL h = omega arith
-
-  empty-not : (z : State) → 1 ≤ stateNumber z → NotEmpty z
-  empty-not EMPTY h = absurd (omega arith)
-  empty-not PARTIAL h = tt
-  empty-not FULL h = tt
-
   -- the tests of an open region come out alike
   tests : {X : Type 0} (d r : ℕ) → d < DESCRIPTORS → (x y x′ y′ : X)
-      → (1 ≤ stateNumber (m .descriptor d .state) → m .descriptor d .region ≡ r → x ≡ x′)
-      → y ≡ y′ → if (both (ℕ-discrete (a .descriptors .region d) r) (decLe 1 (a .descriptors .anchor d .state))) x y
+      → (Words.EMPTY < stateNumber (m .descriptor d .state) → m .descriptor d .region ≡ r → x ≡ x′)
+      → y ≡ y′
+      → if (both (ℕ-discrete (a .descriptors .region d) r) (decLt Words.EMPTY (a .descriptors .anchor d .state))) x y
       ≡ if (opens? (m .descriptor d) r) x′ y′
   tests d r l x y x′ y′ f g =
-      go (both (ℕ-discrete (a .descriptors .region d) r) (decLe 1 (a .descriptors .anchor d .state)))
+      by (both (ℕ-discrete (a .descriptors .region d) r) (decLt Words.EMPTY (a .descriptors .anchor d .state)))
       (opens? (m .descriptor d) r)
     where
       D : DescriptorRelated (link (a .area)) (a .descriptors .anchor d) (a .descriptors .region d)
           (a .descriptors .class d) (m .descriptor d)
       D = R .core .descriptors .each d l
 
-      go : (p : Dec ((a .descriptors .region d ≡ r) × (1 ≤ a .descriptors .anchor d .state)))
+      by : (p : Dec ((a .descriptors .region d ≡ r) × (Words.EMPTY < a .descriptors .anchor d .state)))
           (q : Dec (Opens (m .descriptor d) r)) → if p x y ≡ if q x′ y′
-      go (yes p) (yes q) = f (not-empty (m .descriptor d .state) (q .1)) (q .0)
-      go (yes p) (no q) =
-          absurd (q (sym (D .region) ∙ p .0, empty-not (m .descriptor d .state) (omega (arith, D .state, p))))
-      go (no p) (yes q) =
+      by (yes p) (yes q) = f (not-empty (m .descriptor d .state) (q .1)) (q .0)
+      by (yes p) (no q) =
+          absurd (q (sym (D .region) ∙ p .0, larger-is (m .descriptor d .state) (omega (arith, D .state, p))))
+      by (no p) (yes q) =
           absurd (p (D .region ∙ q .0, omega (arith, D .state, not-empty (m .descriptor d .state) (q .1))))
-      go (no p) (no q) = g
+      by (no p) (no q) = g
 
   classes : (z r : ℕ) → z ≤ DESCRIPTORS → classBy z r a ≡ plainClassBy z r m
   classes zero r l = refl
@@ -164,7 +156,7 @@ module _ {regions : ℕ} {a : Contents} {m : Mem} (small : regions ≤ REGIONS) 
   one-in : (z r c v : ℕ) → m .map r ≡ z → z ≤ DESCRIPTORS → plainClassBy z r m ≡ suc c → Block r c v
       → m .hands v + total TASKS (blockWeight v) (m .task) + count v (plainChainBy z r m) ≡ 1
   one-in zero r c v e l f b = absurd (omega arith)
-  one-in (suc d) r c v e l f b = go (opens? (m .descriptor d) r) f
+  one-in (suc d) r c v e l f b = by (opens? (m .descriptor d) r) f
     where
       lone : (j : ℕ) → j < DESCRIPTORS → j ≢ d → insideWeight v d (m .descriptor d) ≡ 1
           → chainWeight v j (m .descriptor j) ≡ 0
@@ -177,12 +169,12 @@ module _ {regions : ℕ} {a : Contents} {m : Mem} (small : regions ≤ REGIONS) 
                 j (m .descriptor j .state) (I .chains j k),
           )
 
-      go : (q : Dec (Opens (m .descriptor d) r)) → if q (suc (m .descriptor d .class)) 0 ≡ suc c
+      by : (q : Dec (Opens (m .descriptor d) r)) → if q (suc (m .descriptor d .class)) 0 ≡ suc c
           → m .hands v + total TASKS (blockWeight v) (m .task) + count v (if q (m .descriptor d .chain) []) ≡ 1
-      go (no q) f = absurd (omega arith)
-      go (yes q) f =
+      by (no q) f = absurd (omega arith)
+      by (yes q) f =
           let D = m .descriptor d in
-          let g = number-open (D .state) (not-empty R I (D .state) (q .1)) in
+          let g = number-open (D .state) (not-empty (D .state) (q .1)) in
           let b′ : Block (D .region) (D .class) v =
           subst (λ (x : ℕ). Block x (D .class) v) (sym (q .0)) (subst (λ (x : ℕ). Block r x v) (omega arith) b) in
           let i : insideWeight v d D ≡ 1 = g (countBlock v (D .region) (D .class)) ∙ block-counts b′ in
@@ -203,14 +195,14 @@ module _ {regions : ℕ} {a : Contents} {m : Mem} (small : regions ≤ REGIONS) 
   chain-blocks : (z r c v : ℕ) → z ≤ DESCRIPTORS → plainClassBy z r m ≡ suc c → 1 ≤ count v (plainChainBy z r m)
       → Block r c v
   chain-blocks zero r c v l f h = absurd (omega arith)
-  chain-blocks (suc d) r c v l f h = go (opens? (m .descriptor d) r) f h
+  chain-blocks (suc d) r c v l f h = by (opens? (m .descriptor d) r) f h
     where
-      go : (q : Dec (Opens (m .descriptor d) r)) → if q (suc (m .descriptor d .class)) 0 ≡ suc c
+      by : (q : Dec (Opens (m .descriptor d) r)) → if q (suc (m .descriptor d .class)) 0 ≡ suc c
           → 1 ≤ count v (if q (m .descriptor d .chain) []) → Block r c v
-      go (no q) f h = absurd (omega arith)
-      go (yes q) f h =
+      by (no q) f h = absurd (omega arith)
+      by (yes q) f h =
           let D = m .descriptor d in
-          let L = open-holds (D .state) (number-open (D .state) (not-empty R I (D .state) (q .1))) (I .chains d l) in
+          let L = open-holds (D .state) (number-open (D .state) (not-empty (D .state) (q .1))) (I .chains d l) in
           subst (λ (x : ℕ). Block r x v) (omega arith)
           (subst (λ (x : ℕ). Block x (D .class) v) (q .0)
           (counts-block (D .region) (D .class) v (omega (arith, L .inside v))))
@@ -220,7 +212,7 @@ module _ {regions : ℕ} {a : Contents} {m : Mem} (small : regions ≤ REGIONS) 
     lists =
         λ ℓ l. list-read (suc DESCRIPTORS) (R .core .lists .rows ℓ l)
         (more (short DESCRIPTORS (m .row ℓ)
-        (λ v. omega (arith, I .descriptors v, total-one SPARE-REGIONS (rowWeight v) (m .row) ℓ l))));
+        (λ v. omega (arith, I .descriptors v, total-one DESCRIPTOR-LISTS (rowWeight v) (m .row) ℓ l))));
     spares =
         list-read (suc regions) (R .core .lists .spareRow)
         (more (short regions (m .row SPARE-REGIONS) (λ v. omega (arith, I .regions v))));

@@ -25,10 +25,10 @@ use Rattle.stepped.specs.Calls as Stepped
 use Rattle.agreement.specs.Events.{Event, write, stepped, whole, Taken, Premise, call}
 use Rattle.agreement.specs.Events.{CallPremise}
 use Rattle.agreement.specs.Agreement.{HandsKept}
-use Rattle.agreement.proofs.Both.{Both}
+use Rattle.agreement.proofs.Both.{Both, seen-fitting}
 use Rattle.agreement.proofs.Turns.{At}
 use Rattle.agreement.specs.Tied.{Tied}
-use Rattle.agreement.proofs.Simulation.{Alike, fitting, tested-alike, taken-is}
+use Rattle.agreement.proofs.Simulation.{Alike, tested-alike, taken-is}
 use Rattle.agreement.proofs.Starting.{start-alike}
 use Rattle.agreement.proofs.BeginsBoth.{when-idle, allocate-both, free-both}
 use Rattle.agreement.proofs.Stepping.{step-both}
@@ -60,7 +60,7 @@ module _ {s₁ : Memories} {s : Pool} (S : Tied s₁ s) where
           };
       small = S .good .small (T .started);
     };
-    fitting = fitting (s₁ .control) (S .bytes);
+    fitting = seen-fitting (s₁ .control) (S .bytes);
   }
 
   begin-allocate : (lent : Lengths) (t size : ℕ) → Taken lent t s
@@ -126,7 +126,7 @@ call-alike (step t) lent s₁ s S h =
     (good-after y (call-good (step t) (lengths lent) s (S .good)))
     (λ T. at-regions S (λ r. Stepping₁.stepOf (seen (s₁ .control)) (link (s₁ .area)) r t) y T
     (step-both t (omega (arith, T .below, S .good .few)) (S .good .small (T .started))
-    (fitting (s₁ .control) (S .bytes))
+    (seen-fitting (s₁ .control) (S .bytes))
     (S .related (T .started)) (S .good .inv (T .started)) (h T)))
     (ℕ-discrete (lent .control) CONTROL-BYTES)
 

@@ -2,7 +2,7 @@
 use mathlib.Core.Path.{_≡_, refl, sym, ap, subst, _∙_}
 use mathlib.Core.Bool.{_&&_}
 use mathlib.Core.List.{List, [], _∷_}
-use Prim.Native.Nat.{ℕ, suc, _+_, _≤_, _<_}
+use Prim.Native.Nat.{ℕ, suc, _+_, _<_}
 use native.Mathlib.Omega.{arith}
 use native.Mathlib.Numerals.{add-one}
 use borrow.Author.Tests.{lt-ltb, le-leb}
@@ -12,7 +12,8 @@ use Rattle.rows.specs.Linked.{Linked, links}
 use Rattle.fields.specs.Columns.{View, _:=_}
 use Rattle.words.specs.Head.{itemOf}
 use Rattle.words.specs.Anchor.{isState}
-use Rattle.plain.specs.State.{State, EMPTY, PARTIAL, FULL, stateNumber, Phase, read, next, exchange, Place, idle}
+use Rattle.words.specs.Anchor as Words
+use Rattle.plain.specs.State.{State, FULL, Phase, read, next, exchange, Place, idle}
 use Rattle.plain.specs.State.{popping}
 use Rattle.plain.specs.State.{pushing, Mem, working}
 use Rattle.plain.specs.State as Plain
@@ -36,6 +37,7 @@ use Rattle.agreement.specs.Relation.{FoundState, r-popping, r-pushing, r
 use Rattle.agreement.proofs.Slots.{toPlace}
 use Rattle.agreement.proofs.Couple.{mine}
 use Rattle.stepped.proofs.Conjunction.{both-true}
+use Rattle.agreement.proofs.NotedAnchors.{number-max}
 use Rattle.agreement.proofs.Both.{Both, pass}
 use Rattle.agreement.proofs.Turns.{At}
 use Rattle.agreement.proofs.ListMoves.{push-later, ListOf, pushed-list}
@@ -43,12 +45,6 @@ use Rattle.agreement.proofs.HeldItems.{HoldsItem, push-holds}
 use Rattle.agreement.proofs.MoveSteps.{list-of, Won, kept, moves, notes, exchanges}
 use Rattle.agreement.proofs.Nexts.{next-set, held-below, writes-next}
 use Rattle.agreement.proofs.PushLeads.{advanced, leads-to, leads-five, leads-six}
-
--- a state is one of three
-state-max : (was : ℕ) (z : State) → was ≡ stateNumber z → was ≤ 2
-state-max was EMPTY h = omega arith
-state-max was PARTIAL h = omega arith
-state-max was FULL h = omega arith
 
 -- ---- the push that the task t has under way, where z is the state found; its list; and its item
 
@@ -148,7 +144,7 @@ module _ {regions : ℕ} {v : View} {area : List ℕ} {m : Mem} {t : ℕ} {k : �
   push-won Release z w f W =
       let r = v (TaskRegion t) in
       let was = v (TaskState t) in
-      pass (isState was) (le-leb was 2 (state-max was z f))
+      pass (isState was) (le-leb was Words.FULL (rw f (number-max z)))
       (leads-five w (kind Release w) r W (pushed SPARE-REGIONS r) z f)
   push-won Offer z w f W =
       let d = v (TaskDescriptor t) in

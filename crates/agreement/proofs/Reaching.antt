@@ -5,12 +5,12 @@ use Rattle.plain.specs.Calls.{Pool}
 use Rattle.plain.specs.Calls as Plain
 use Rattle.stepped.specs.Outcome.{Memories}
 use Rattle.agreement.specs.Events.{Event, stepped, whole, Premise, Premises}
-use Rattle.agreement.specs.Tied.{Tied}
+use Rattle.agreement.specs.Tied.{Tied, FoundStates}
 use Rattle.agreement.specs.Reached.{History, happened, Reached, from-unstarted, from-start, by-event, Along}
 use Rattle.agreement.specs.Reached.{Wherever}
 use Rattle.agreement.proofs.Unstarted.{unstarted-tied}
 use Rattle.agreement.proofs.Starting.{accepted-start}
-use Rattle.agreement.proofs.FoundStates.{FoundStates, accepted-found, event-found}
+use Rattle.agreement.proofs.FoundStates.{accepted-found, event-found}
 use Rattle.agreement.proofs.OneEvent.{alike}
 
 -- The memories and the pool that a run reaches are tied, and each task noted one of the three states.

@@ -13,8 +13,9 @@ use Rattle.rows.specs.Update.{update}
 use Rattle.rows.proofs.Linked.{linked-frame, linked-update}
 use Rattle.rows.proofs.Update.{update-all, update-all₂}
 use Rattle.links.specs.Link.{link}
-use Rattle.plain.specs.State.{Descriptor, EMPTY, FULL, Mem, PARTIAL, State, Task, stateNumber}
+use Rattle.plain.specs.State.{Descriptor, Mem, Task, stateNumber}
 use Rattle.plain.specs.ByState.{IfOpen, IsOpen}
+use Rattle.plain.proofs.ByState.{open-map}
 use Rattle.agreement.specs.Contents.{Slot, Lists, Descriptors, Entries, Contents}
 use Rattle.agreement.specs.Relation.{ChainRelated, Core, DescriptorRelated, DescriptorsRelated, EntriesRelated}
 use Rattle.agreement.specs.Relation.{ListsRelated, wrap}
@@ -93,7 +94,7 @@ module _ {regions : ℕ} {nx : ℕ → ℕ} {D : Descriptors} {P : ℕ → Descr
       state = R .each d l .state;
       region = R .each d l .region;
       class = R .each d l .class;
-      chain = if-open (P d .state)
+      chain = open-map (P d .state)
           (λ o C. record { linked = linked-frame (same d l o) (C .linked); counts = C .counts }) (R .each d l .chain);
     };
     avails = R .avails;
@@ -101,11 +102,6 @@ module _ {regions : ℕ} {nx : ℕ → ℕ} {D : Descriptors} {P : ℕ → Descr
     regionNumbers = R .regionNumbers;
     classNumbers = R .classNumbers;
   }
-    where
-      if-open : (z : State) {X Y : Type 0} → (IsOpen z → X → Y) → IfOpen z X → IfOpen z Y
-      if-open EMPTY f x = tt
-      if-open PARTIAL f x = f (λ i. refl) x
-      if-open FULL f x = f (λ i. refl) x
 
 -- ---- the map and the marks
 module _ {regions : ℕ} {E : Entries} {map hands : ℕ → ℕ} (R : EntriesRelated regions E map hands) where

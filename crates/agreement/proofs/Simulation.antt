@@ -1,7 +1,6 @@
 -- How one call keeps the bytes of the stepped run tied to the plain pool.
 use mathlib.Core.Path.{_≡_, refl, sym, _∙_}
 use mathlib.Core.Bool.{cond}
-use mathlib.Core.List.{List}
 use Prim.Native.Nat.{ℕ, _*_, _≤_, _<_}
 use native.Mathlib.Omega.{arith}
 use native.Mathlib.Decide.{ℕ-discrete, decLt}
@@ -11,9 +10,7 @@ use lib.ListN.{length}
 use Rattle.limits.specs.Limits.{CONTROL-BYTES, REGIONS, REGION-BYTES, TASKS}
 use Rattle.rows.specs.Branch.{if}
 use Rattle.rows.proofs.Branch.{if-yes, if-no}
-use Rattle.fields.specs.Little.{Bytes}
-use Rattle.fields.specs.Columns.{Field, View, Has, width, firstByte, assigned}
-use Rattle.fields.proofs.Little.{getLE-lt}
+use Rattle.fields.specs.Columns.{Field, View, Has, assigned}
 use Rattle.fields.proofs.Layouts.{length-written, bytes-written}
 use Rattle.links.specs.Link.{linked}
 use Rattle.plain.specs.Moves.{Answer}
@@ -29,7 +26,7 @@ use Rattle.stepped.specs.Calls as Stepped
 use Rattle.agreement.specs.Events.{ran, Taken}
 use Rattle.agreement.specs.Tied.{Tied}
 use Rattle.agreement.specs.Agreement.{HandsKept}
-use Rattle.agreement.proofs.Both.{Both, Fitting}
+use Rattle.agreement.proofs.Both.{Both}
 use Rattle.agreement.proofs.Views.{views-related}
 use Rattle.agreement.proofs.UserWrites.{byte-kept}
 
@@ -38,10 +35,6 @@ pub record Alike (Further : Memories → Type 0) (x : Memories × Answer) (y : P
   pub says : x .1 ≡ y .1
   pub tied : Tied (x .0) (y .0)
   pub shows : Further (x .0)
-
--- the fields of bytes hold numbers of their widths
-pub fitting : (b : List ℕ) → Bytes b → Fitting (seen b)
-fitting b h f k = getLE-lt b (firstByte layout f) (width layout f) h
 
 module _ {s₁ : Memories} {s : Pool} (S : Tied s₁ s) where
   abbrev v : View

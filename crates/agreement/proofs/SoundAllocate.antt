@@ -8,7 +8,7 @@ use borrow.Author.Tests.{leb-true, ltb-true, eqb-true}
 use lib.Dec.{eqb, leb, ltb}
 use Rattle.limits.specs.Limits.{REGIONS, UNITS, TASKS, CLASSES, DESCRIPTORS, MOST-BLOCKS, WORD-MARKS}
 use Rattle.fields.specs.Columns.{View}
-use Rattle.words.specs.Anchor.{EMPTY, anchorOf, anchorWord, full}
+use Rattle.words.specs.Anchor.{EMPTY, PARTIAL, anchorOf, anchorWord, full}
 use Rattle.words.proofs.Anchors.{anchor-below}
 use Rattle.words.proofs.Marks.{set-below}
 use Rattle.classes.specs.Classes.{perRegion}
@@ -56,7 +56,7 @@ module _ (v : View) (fits : Fitting v) (link : ℕ → ℕ) {regions t c : ℕ} 
           perRegion-high c,
           top-max regions c few (k - 1) (link u) (right-true (isBlock regions c u) top h),
           u-max,
-          set-below (v (Marks (u / WORD-MARKS))) (u % WORD-MARKS) 64
+          set-below (v (Marks (u / WORD-MARKS))) (u % WORD-MARKS) WORD-MARKS
               (fits (Marks (u / WORD-MARKS)) (omega (arith, u-max))) (omega arith),
         );
         own = omega arith;
@@ -89,9 +89,9 @@ module _ (v : View) (fits : Fitting v) (link : ℕ → ℕ) {regions t c : ℕ} 
       → (anchorOf word .avail < MOST-BLOCKS) × (anchorOf word .count ≤ MOST-BLOCKS)
   chain-max word h =
       let a = anchorOf word in
-      let p = both (eqb (a .state) 1 && oneTo n (a .count)) (ltb (a .avail) n) h in
+      let p = both (eqb (a .state) PARTIAL && oneTo n (a .count)) (ltb (a .avail) n) h in
       let q = both (leb 1 (a .count)) (leb (a .count) n)
-      (right-true (eqb (a .state) 1) (oneTo n (a .count)) (p .0)) in (
+      (right-true (eqb (a .state) PARTIAL) (oneTo n (a .count)) (p .0)) in (
         omega (arith, perRegion-high c, ltb-true (a .avail) n (p .1)),
         omega
             (arith, perRegion-high c, leb-true (a .count) n (q .1)),

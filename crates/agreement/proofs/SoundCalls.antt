@@ -10,9 +10,8 @@ use borrow.Author.Tests.{ne-eqb, ltb-true, ltb-false}
 use lib.Dec.{eqb, leb, ltb}
 use lib.ListN.{length}
 use Rattle.limits.specs.Limits.{CONTROL-BYTES, UNITS, TASKS, CLASSES, DESCRIPTORS, LARGEST-SIZE, WORD-MARKS}
-use Rattle.fields.specs.Columns.{Field, View, Write, _:=_, assign, assigned, firstByte, width, Has}
+use Rattle.fields.specs.Columns.{Field, View, Write, _:=_, assign, assigned, Has}
 use Rattle.fields.specs.Little.{Bytes}
-use Rattle.fields.proofs.Little.{getLE-lt}
 use Rattle.words.specs.Anchor.{EMPTY, anchorOf}
 use Rattle.words.specs.Mark.{isSet}
 use Rattle.words.proofs.Marks.{clear-below}
@@ -29,7 +28,7 @@ use Rattle.stepped.specs.Steps as Steps
 use Rattle.stepped.specs.Calls as Calls
 use Rattle.stepped.specs.Calls.{Tested}
 use Rattle.agreement.specs.Ends.{placeAfter}
-use Rattle.agreement.proofs.Both.{Fitting}
+use Rattle.agreement.proofs.Both.{Fitting, seen-fitting}
 use Rattle.agreement.proofs.Ways.{branch, tests}
 use Rattle.agreement.proofs.SoundMoves.{Own, Owns, Fit, none, test}
 use Rattle.agreement.proofs.SoundSteps.{step-fit}
@@ -64,7 +63,7 @@ module _ {lent : Lengths} {v : View} (fits : Fitting v) {t : ℕ} (T : Tested le
               task,
               l,
               k,
-              clear-below marks (u % WORD-MARKS) 64 (fits (Marks (u / WORD-MARKS)) (omega (arith, l)))
+              clear-below marks (u % WORD-MARKS) WORD-MARKS (fits (Marks (u / WORD-MARKS)) (omega (arith, l)))
                   (omega arith),
             );
         own = omega arith;
@@ -90,10 +89,6 @@ module _ {lent : Lengths} {v : View} (fits : Fitting v) {t : ℕ} (T : Tested le
       (λ l. none))))) (λ h. none))))) (λ e. none))
 
 -- ---- the bytes
-
--- what stands in bytes fits
-pub seen-fitting : (control : List ℕ) → Bytes control → Fitting (seen control)
-seen-fitting control b g h = getLE-lt control (firstByte layout g) (width layout g) b
 
 -- A step on bytes, with any bytes: the task's place is afterwards the one that its outcome leads to.
 module _ (lent : Lengths) (link : ℕ → ℕ) (t : ℕ) (b : List ℕ) (bytes : Bytes b) (long : lent .control ≡ length b) where

@@ -98,7 +98,8 @@ module _ {regions : ℕ} {v : View} {area : List ℕ} {m : Mem} {t : ℕ} {k : �
           low,
           top-max (w .pair) c b q below sub,
           w .fitting (CacheCount t c) (omega (arith, w .pair .turn .fits, l)),
-          set-below word (u % WORD-MARKS) 64 (w .fitting (Marks (u / WORD-MARKS)) (omega (arith, low))) (omega arith),
+          set-below word (u % WORD-MARKS) WORD-MARKS
+              (w .fitting (Marks (u / WORD-MARKS)) (omega (arith, low))) (omega arith),
         );
         apart = tt;
       }))

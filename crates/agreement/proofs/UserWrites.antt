@@ -5,7 +5,7 @@ use mathlib.Core.List.{List, [], _∷_}
 use Prim.Native.Nat.{ℕ, suc, pred, _+_, _*_, _≤_, _<_}
 use native.Mathlib.Omega.{arith}
 use native.Mathlib.Decide.{ℕ-discrete, decLt}
-use lib.ListN.{length, getD, set, length-set}
+use lib.ListN.{getD, set, length-set}
 use Rattle.limits.specs.Limits.{UNIT-BYTES, TASKS, DESCRIPTORS}
 use Rattle.rows.specs.Counting.{count}
 use Rattle.rows.specs.Totals.{total}
@@ -17,8 +17,7 @@ use Rattle.classes.specs.Classes.{block}
 use Rattle.classes.specs.Geometry.{regionOf, Block}
 use Rattle.classes.proofs.BlockUnits.{inside, apart, region-is}
 use Rattle.classes.proofs.Tables.{units-low}
-use Rattle.plain.specs.State.{State, EMPTY, PARTIAL, FULL, Mem}
-use Rattle.plain.specs.ByState.{IsOpen, IfOpen}
+use Rattle.plain.specs.State.{Mem}
 use Rattle.plain.specs.HolderWeights.{insideWeight, chainWeight, blockWeight}
 use Rattle.plain.specs.Invariant.{Invariant}
 use Rattle.plain.proofs.ByState.{open-holds}
@@ -44,12 +43,6 @@ away {r} {c} {u} {r′} {c′} {v} b d same n at p q l = elim (ℕ-discrete r r�
     | no k ↦ omega (arith, inside b, inside d, units-low c′)
   ]
 ]
-
--- X follows while the anchor is not EMPTY
-if-open : (z : State) {X Y : Type 0} → (IsOpen z → X → Y) → IfOpen z X → IfOpen z Y
-if-open EMPTY f x = tt
-if-open PARTIAL f x = f (λ i. refl) x
-if-open FULL f x = f (λ i. refl) x
 
 module _ {regions : ℕ} {m : Mem} (I : Invariant regions m) (u at : ℕ) (held : 1 ≤ m .hands u)
     (from : UNIT-BYTES * u ≤ at)

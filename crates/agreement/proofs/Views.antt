@@ -28,11 +28,11 @@ module _ {v v′ : View} (same : (g : Field) → Has layout g → v′ g ≡ v g
   -- a column of the caches: f names a task's field by the class
   caches-same : (f : ℕ → Field) → ((c : ℕ) → c < CLASSES → Has layout (f c))
       → byClass (λ c. v′ (f c)) ≡ byClass (λ c. v (f c))
-  caches-same f has = fun-ext (λ c. go c (decLt c CLASSES))
+  caches-same f has = fun-ext (λ c. by c (decLt c CLASSES))
     where
-      go : (c : ℕ) (p : Dec (c < CLASSES)) → if p (v′ (f c)) 0 ≡ if p (v (f c)) 0
-      go c (yes p) = same (f c) (has c p)
-      go c (no p) = refl
+      by : (c : ℕ) (p : Dec (c < CLASSES)) → if p (v′ (f c)) 0 ≡ if p (v (f c)) 0
+      by c (yes p) = same (f c) (has c p)
+      by c (no p) = refl
 
   -- a task's part
   slots-same : (t : ℕ) → t < TASKS → slotOf v′ t ≡ slotOf v t

@@ -70,13 +70,13 @@ Begins ns NoRegion = ⊥
 Begins ns (Refused n) = oneOf ns n ≡ true
 
 -- the answer of a step: still under way, a request's end, or refused by one of the numbers ns
-abbrev pub Goes : List ℕ → Answer → Type 0
-Goes ns Accepted = Unit {0}
-Goes ns (Allocated u) = Unit {0}
-Goes ns Freed = Unit {0}
-Goes ns NoDescriptor = Unit {0}
-Goes ns NoRegion = Unit {0}
-Goes ns (Refused n) = oneOf ns n ≡ true
+abbrev pub StepAnswers : List ℕ → Answer → Type 0
+StepAnswers ns Accepted = Unit {0}
+StepAnswers ns (Allocated u) = Unit {0}
+StepAnswers ns Freed = Unit {0}
+StepAnswers ns NoDescriptor = Unit {0}
+StepAnswers ns NoRegion = Unit {0}
+StepAnswers ns (Refused n) = oneOf ns n ≡ true
 
 -- how a start ends, by its effect on the memories s
 pub record StartEnds (s : Memories) (e : Effect) : Type 0 where
@@ -126,7 +126,7 @@ IsEnd (Refused n) = ⊥
 -- How a step ends: "12 and 13 .. are a request's end .. and leave the task idle", and so does a finish.
 pub record StepEnds (v : View) (t : ℕ) (o : Outcome) : Type 0 where
   pub nothing : WritesNothing o
-  pub answers : Goes stepRefusals (o .answer)
+  pub answers : StepAnswers stepRefusals (o .answer)
   pub idle : IsEnd (o .answer) → placeAfter o v t ≡ IDLE
 
 -- ---- sizes

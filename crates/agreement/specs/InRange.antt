@@ -7,7 +7,7 @@ use Rattle.limits.specs.Limits.{REGIONS, UNITS, TASKS, CLASSES, DESCRIPTORS, MO
 use Rattle.limits.specs.Limits.{DESCRIPTOR-LISTS}
 use Rattle.fields.specs.Columns.{Field, View, Has, width}
 use Rattle.words.specs.Head.{itemOf}
-use Rattle.words.specs.Anchor.{PARTIAL, FULL, anchorOf}
+use Rattle.words.specs.Anchor.{EMPTY, PARTIAL, FULL, anchorOf}
 use Rattle.classes.specs.Classes.{perRegion}
 use Rattle.control.specs.Layout.{layout, Head, Anchor, TaskHead, TaskAnchor, CacheTop, CacheCount, TaskUnit}
 use Rattle.control.specs.Layout.{TaskIndex, TaskLeft, GroupFirst, GroupLast, GroupCount}
@@ -97,7 +97,7 @@ pub record TaskInRange (regions : ℕ) (v : View) (t : ℕ) : Type 0 where
   -- one of the classes
   pub class : v (TaskClass t) < CLASSES
   pub lists : ListsInRange regions v t
-  pub hands : HandInRange regions v t
+  pub hand : HandInRange regions v t
   pub chains : ChainsInRange v t
   -- the unit that is freed: a block of the class
   pub unit-pushing : AtPlaces v t PUSH-RELEASE (PUSH-OFFER + TO-EXCHANGE)
@@ -130,9 +130,9 @@ pub record InRange (v : View) : Type 0 where
   pub avails : (d : ℕ) → d < DESCRIPTORS → anchorOf (v (Anchor d)) .avail ≤ MOST-BLOCKS
   pub chain-counts : (d : ℕ) → d < DESCRIPTORS → anchorOf (v (Anchor d)) .count ≤ MOST-BLOCKS
   -- and as large as its own class has, unless it is EMPTY: n as avail is none
-  pub open-avails : (d : ℕ) → d < DESCRIPTORS → 1 ≤ anchorOf (v (Anchor d)) .state
+  pub open-avails : (d : ℕ) → d < DESCRIPTORS → EMPTY < anchorOf (v (Anchor d)) .state
       → anchorOf (v (Anchor d)) .avail ≤ perRegion (v (DescriptorClass d))
-  pub open-counts : (d : ℕ) → d < DESCRIPTORS → 1 ≤ anchorOf (v (Anchor d)) .state
+  pub open-counts : (d : ℕ) → d < DESCRIPTORS → EMPTY < anchorOf (v (Anchor d)) .state
       → anchorOf (v (Anchor d)) .count ≤ perRegion (v (DescriptorClass d))
   pub descriptor-regions : (d : ℕ) → d < DESCRIPTORS → v (DescriptorRegion d) < v Regions
   pub descriptor-classes : (d : ℕ) → d < DESCRIPTORS → v (DescriptorClass d) < CLASSES

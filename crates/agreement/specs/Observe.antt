@@ -5,7 +5,7 @@ use mathlib.Core.Path.{_≡_}
 use mathlib.Core.List.{List, [], _∷_}
 use Prim.Native.Nat.{ℕ, zero, suc, _+_, _-_, _≤_, _<_}
 use mathlib.Core.Bool.{cond, _&&_}
-use native.Mathlib.Decide.{ℕ-discrete, decLe}
+use native.Mathlib.Decide.{ℕ-discrete, decLt, decLe}
 use lib.Dec.{leb}
 use Rattle.limits.specs.Limits.{DESCRIPTORS, CLASSES, TASKS, UNITS, SPARE-REGIONS, DESCRIPTOR-LISTS}
 use Rattle.rows.specs.Branch.{if, both}
@@ -14,6 +14,7 @@ use Rattle.rows.specs.Totals.{total}
 use Rattle.rows.specs.Linked.{walk}
 use Rattle.classes.specs.Classes.{perRegion}
 use Rattle.classes.specs.Geometry.{unitOf, Block}
+use Rattle.words.specs.Anchor.{EMPTY}
 use Rattle.links.specs.Link.{link}
 use Rattle.plain.specs.State.{Mem}
 use Rattle.plain.specs.Calls.{opens?}
@@ -47,14 +48,14 @@ spareRegions a regions = listFrom (a .lists .regionNext) (suc regions) (a .lists
 abbrev pub classBy : ℕ → ℕ → Contents → ℕ
 classBy zero r a = 0
 classBy (suc d) r a =
-    if (both (ℕ-discrete (a .descriptors .region d) r) (decLe 1 (a .descriptors .anchor d .state)))
+    if (both (ℕ-discrete (a .descriptors .region d) r) (decLt EMPTY (a .descriptors .anchor d .state)))
     (suc (a .descriptors .class d)) 0
 
 -- its chain: as many blocks as the anchor counts, from avail on
 abbrev pub chainBy : ℕ → ℕ → Contents → List ℕ
 chainBy zero r a = []
 chainBy (suc d) r a =
-    if (both (ℕ-discrete (a .descriptors .region d) r) (decLe 1 (a .descriptors .anchor d .state)))
+    if (both (ℕ-discrete (a .descriptors .region d) r) (decLt EMPTY (a .descriptors .anchor d .state)))
     (walk (link (a .area)) (unitOf r (a .descriptors .class d)) (a .descriptors .anchor d .avail)
     (a .descriptors .anchor d .count)) []
 

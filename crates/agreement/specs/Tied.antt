@@ -1,11 +1,14 @@
 -- What ties the bytes of the stepped run to the plain pool, before and after every event of every run.
 use mathlib.Core.Path.{_≡_}
-use Prim.Native.Nat.{_≤_}
+use mathlib.Core.List.{List}
+use Prim.Native.Nat.{ℕ, _≤_, _<_}
 use lib.ListN.{length}
+use Rattle.limits.specs.Limits.{TASKS}
 use Rattle.fields.specs.Little.{Bytes}
+use Rattle.words.specs.Anchor.{FULL}
 use Rattle.plain.specs.Calls.{Pool}
 use Rattle.plain.specs.Invariant.{Good}
-use Rattle.control.specs.Layout.{Control, Tasks, Regions, seen}
+use Rattle.control.specs.Layout.{Control, Tasks, Regions, TaskState, seen}
 use Rattle.stepped.specs.Outcome.{Memories}
 use Rattle.agreement.specs.Contents.{contentsOf}
 use Rattle.agreement.specs.Relation.{Related}
@@ -22,3 +25,11 @@ pub record Tied (s₁ : Memories) (s : Pool) : Type 0 where
   pub some : 1 ≤ s .tasks → 1 ≤ s .regions
   pub regions : 1 ≤ s .tasks → seen (s₁ .control) Regions ≡ s .regions
   pub related : 1 ≤ s .tasks → Related (s .regions) (contentsOf (seen (s₁ .control)) (s₁ .area)) (s .mem)
+
+-- The state that each task noted is one of the three: what `TaskState` holds, whether a step will read it or not.
+abbrev pub States : List ℕ → Type 0
+States control = (t : ℕ) → t < TASKS → seen control (TaskState t) ≤ FULL
+
+-- once the pool is started
+abbrev pub FoundStates : List ℕ → Type 0
+FoundStates control = 1 ≤ seen control Tasks → States control

@@ -65,9 +65,9 @@ pub index-again : (r c i : ℕ) → i < perRegion c → indexOf c (unitOf r c i)
 index-again r c i h = index-is (block-at r c i h)
 
 -- different regions or indexes have different units
-pub one-place : (r q c i k : ℕ) → i < perRegion c → k < perRegion c
+pub same-block : (r q c i k : ℕ) → i < perRegion c → k < perRegion c
     → unitOf r c i ≡ unitOf q c k → (r ≡ q) × (i ≡ k)
-one-place r q c i k h j e = (
+same-block r q c i k h j e = (
   sym (region-again r c i h) ∙ ap regionOf e ∙ region-again q c k j,
   sym (index-again r c i h) ∙ ap (indexOf c) e ∙ index-again q c k j,
 )

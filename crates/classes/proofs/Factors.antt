@@ -43,6 +43,6 @@ told c f u h =
     h .tells (u % REGION-UNITS) (omega arith)
     ∙ (let e : u % REGION-UNITS % REGION-UNITS ≡ u % REGION-UNITS = omega arith in rw e refl)
 
--- the product of a unit's place and a factor fits in a word
+-- the product of a unit's offset and a factor fits in a word
 pub small : (c f u : ℕ) → Factor c f → u % REGION-UNITS * f < REGION-UNITS * PRODUCT-MODULUS
 small c f u h = omega (arith, mul-le-mul-left (u % REGION-UNITS) (h .below))

@@ -24,7 +24,7 @@ MARK-WORDS = UNITS / WORD-MARKS
 abbrev pub CACHES-OF-TASK : ℕ
 CACHES-OF-TASK = 16
 
--- how many caches there are places for
+-- how many caches there is room for
 abbrev pub CACHES : ℕ
 CACHES = CACHES-OF-TASK * TASKS
 

@@ -26,13 +26,14 @@ use Rattle.stepped.specs.Steps.{stepAt}
 use Rattle.stepped.specs.Outcome.{Outcome, Memories}
 use Rattle.stepped.specs.Calls as Calls
 use Rattle.stepped.specs.Calls.{Tested, lending, effectOf, lengths}
-use Rattle.agreement.specs.Ends.{oneOf, Goes, FindsEmpty, WinsPush, InPush, placeAfter, allocateRefusals, placeRefusals}
+use Rattle.agreement.specs.Ends.{oneOf, StepAnswers, FindsEmpty, WinsPush, InPush, placeAfter, allocateRefusals}
+use Rattle.agreement.specs.Ends.{placeRefusals}
 use Rattle.agreement.specs.Ends.{stepRefusals}
 use Rattle.agreement.specs.Events.{stepped, whole, Premises, Unstarted}
 use Rattle.agreement.specs.Events as Events
 use Rattle.agreement.specs.Agreement.{Agrees, Unchanged, Untouched, AgreesAt}
 use Rattle.agreement.proofs.Ways.{only, tests, branch}
-use Rattle.agreement.proofs.Ends.{allocate-ends, step-ends, effect-leaves, smallest-class, place-goes, no-descriptor}
+use Rattle.agreement.proofs.Ends.{allocate-ends, step-ends, effect-leaves, smallest-class, place-answers, no-descriptor}
 use Rattle.agreement.proofs.Ends.{no-region, put-back}
 use Rattle.agreement.proofs.SoundCalls.{step-place, step-others, allocate-others, free-others}
 use Rattle.agreement.specs.Reached.{happened, Reached, from-unstarted, from-start}
@@ -107,7 +108,7 @@ module _ (lent left : Memories) (r : ℕ) where
       let o = Calls.stepOutcome long (seen (lent .control)) (link (lent .area)) t in
       let R = refused (o .answer) (subst Refusal (C .number) h) in
       let G =
-      subst (Goes stepRefusals) (R .1) (step-ends long (seen (lent .control)) (link (lent .area)) t .answers) in
+      subst (StepAnswers stepRefusals) (R .1) (step-ends long (seen (lent .control)) (link (lent .area)) t .answers) in
       ap (oneOf stepRefusals) (C .number ∙ ap numberOf (R .1)) ∙ G
 
   -- .. and where all of its tests pass, by 14 alone: "14 comes where the bad value is read". A place past the step list
@@ -123,8 +124,8 @@ module _ (lent left : Memories) (r : ℕ) where
       let R = refused a (subst Refusal e h) in
       let class = ltb-true (v (TaskClass t)) CLASSES (Q .1 .0) in
       let busy = ltb-true IDLE (v (TaskPlace t)) (Q .0) in
-      let G = place-goes long v (link (lent .area)) t class busy in
-      e ∙ ap numberOf (R .1) ∙ only 14 (R .0) (subst (Goes placeRefusals) (R .1) G)
+      let G = place-answers long v (link (lent .area)) t class busy in
+      e ∙ ap numberOf (R .1) ∙ only 14 (R .0) (subst (StepAnswers placeRefusals) (R .1) G)
 
   -- "A size gets the smallest class that holds it."
   pub allocate-begins : (t size : ℕ) → Contract (allocate t size) lent left r → r ≡ 0

@@ -15,8 +15,9 @@ use Rattle.control.specs.Answers.{codeOf, valueOf, numberOf}
 use Rattle.control.specs.declared.answer.Answer.{Answer}
 use Rattle.control.specs.declared.answer.Answer.the-variants.{Accepted, Allocated, Freed, NoDescriptor, NoRegion}
 use Rattle.control.specs.declared.answer.Answer.the-variants.{Refused}
-use Rattle.agreement.specs.Ends.{oneOf, Begins, Goes, IsEnd, startRefusals, allocateRefusals, freeRefusals}
+use Rattle.agreement.specs.Ends.{oneOf, Begins, StepAnswers, IsEnd, startRefusals, allocateRefusals, freeRefusals}
 use Rattle.agreement.specs.Ends.{stepRefusals}
+use Rattle.control.proofs.AnswerNumber.{number-is}
 use Rattle.stepped.specs.Outcome.{Memories}
 use Rattle.stepped.specs.Calls.{effectOf, lending, lengths}
 use Rattle.stepped.proofs.Conjunction.{left-true, right-true}
@@ -49,13 +50,13 @@ begins-small ns s NoDescriptor b = omega arith
 begins-small ns s NoRegion b = omega arith
 begins-small ns s (Refused n) b = among ns n s b
 
-goes-small : (ns : List ℕ) → small ns ≡ true → (a : Answer) → Goes ns a → codeOf a < 256
-goes-small ns s Accepted b = omega arith
-goes-small ns s (Allocated u) b = omega arith
-goes-small ns s Freed b = omega arith
-goes-small ns s NoDescriptor b = omega arith
-goes-small ns s NoRegion b = omega arith
-goes-small ns s (Refused n) b = among ns n s b
+step-small : (ns : List ℕ) → small ns ≡ true → (a : Answer) → StepAnswers ns a → codeOf a < 256
+step-small ns s Accepted b = omega arith
+step-small ns s (Allocated u) b = omega arith
+step-small ns s Freed b = omega arith
+step-small ns s NoDescriptor b = omega arith
+step-small ns s NoRegion b = omega arith
+step-small ns s (Refused n) b = among ns n s b
 
 -- the code of every exported call
 pub code-small : (k : Call) (s : Memories) → codeOf (effectOf k s .answer) < 256
@@ -69,17 +70,8 @@ code-small (free t u) s =
     begins-small freeRefusals refl (effectOf (free t u) s .answer)
     (free-ends (lengths (lending s)) (seen (s .control)) t u .answers)
 code-small (step t) s =
-    goes-small stepRefusals refl (effectOf (step t) s .answer)
+    step-small stepRefusals refl (effectOf (step t) s .answer)
     (step-ends (lengths (lending s)) (seen (s .control)) (link (s .area)) t .answers)
-
--- the number is the code and 256 times the value
-number-is : (a : Answer) → numberOf a ≡ codeOf a + 256 * valueOf a
-number-is Accepted = refl
-number-is (Allocated u) = refl
-number-is Freed = refl
-number-is NoDescriptor = refl
-number-is NoRegion = refl
-number-is (Refused n) = omega arith
 
 -- a number r that is that of the answer b, which a is, tells its code and its value
 pub told-as : (a b : Answer) (d : Decided) {r : ℕ} → r ≡ numberOf b → b ≡ a → codeOf b < 256
@@ -113,7 +105,7 @@ not-among : {n : ℕ} (m : ℕ) → oneOf stepRefusals n ≡ true → oneOf step
 not-among m g h e = false≢true (sym h ∙ ap (oneOf stepRefusals) (sym e) ∙ g)
 
 -- the numbers 12 and 13 tell that a step found no descriptor and no region: neither is among the numbers that refuse it
-pub ends-told : (a : Answer) → Goes stepRefusals a
+pub ends-told : (a : Answer) → StepAnswers stepRefusals a
     → (numberOf a ≡ 12 → a ≡ NoDescriptor) × (numberOf a ≡ 13 → a ≡ NoRegion)
 ends-told Accepted g = (λ e. absurd (omega arith), λ e. absurd (omega arith))
 ends-told (Allocated u) g = (λ e. absurd (omega arith), λ e. absurd (omega arith))
@@ -123,7 +115,7 @@ ends-told NoRegion g = (λ e. absurd (omega arith), λ e. refl)
 ends-told (Refused n) g = (λ e. absurd (not-among 12 g refl e), λ e. absurd (not-among 13 g refl e))
 
 -- the numbers of a request's end tell that it has ended
-pub end-told : (a : Answer) → Goes stepRefusals a → Ended (numberOf a) → IsEnd a
+pub end-told : (a : Answer) → StepAnswers stepRefusals a → Ended (numberOf a) → IsEnd a
 unfolding small
 end-told Accepted g e =
     ⊎-elim (λ h. absurd (omega (arith, h)))

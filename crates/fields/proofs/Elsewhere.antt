@@ -19,11 +19,11 @@ getD-past s at (suc w) v i h =
 
 -- a write leaves each byte outside it
 pub getD-other : (s : List ℕ) (at w v i : ℕ) → (i < at + w → i < at) → getD (setLE s at w v) i 0 ≡ getD s i 0
-getD-other s at w v i h = go (decLt i (at + w))
+getD-other s at w v i h = by (decLt i (at + w))
   where
-    go : Dec (i < at + w) → getD (setLE s at w v) i 0 ≡ getD s i 0
-    go (yes l) = getD-before s at w v i (h l)
-    go (no l) = getD-past s at w v i (omega arith)
+    by : Dec (i < at + w) → getD (setLE s at w v) i 0 ≡ getD s i 0
+    by (yes l) = getD-before s at w v i (h l)
+    by (no l) = getD-past s at w v i (omega arith)
 
 -- two lists that agree on a number's bytes have the same number there
 pub getLE-agree : (s t : List ℕ) (at w : ℕ)

@@ -1,4 +1,4 @@
--- Laws of `getLE` and `setLE` at one place, each over every width.
+-- Laws of `getLE` and `setLE` at one offset, each over every width.
 use mathlib.Core.Path.{_≡_, refl, _∙_}
 use mathlib.Core.List.{List}
 use Prim.Native.Nat.{ℕ, zero, suc, _+_, _*_, _/_, _%_, _^_, _≤_, _<_}
@@ -55,7 +55,7 @@ getD-before s at (suc w) v i h =
     getD-before (set s at (v % 256)) (suc at) w (v / 256) i (omega arith)
     ∙ getD-set-other s at i (v % 256) 0 (omega arith)
 
--- a number that was written is read back, if it fits and the place is in the list
+-- a number that was written is read back, if it fits and the offset is in the list
 pub getLE-same : (s : List ℕ) (at w v : ℕ) → at + w ≤ length s → v < 256 ^ w → getLE (setLE s at w v) at w ≡ v
 unfolding getLE setLE
 getLE-same s at zero v h k = omega arith
@@ -69,15 +69,15 @@ getLE-same s at (suc w) v h k =
     (omega arith)
 
 bytes-set : (s : List ℕ) (at v : ℕ) → Bytes s → v < 256 → Bytes (set s at v)
-bytes-set s at v h k i = go (ℕ-discrete i at)
+bytes-set s at v h k i = by (ℕ-discrete i at)
   where
     in-range : i ≡ at → Dec (at < length s) → getD (set s at v) i 0 < 256
     in-range e (yes l) = rw (e, getD-set-same s at v 0 l) k
     in-range e (no l) = rw (set-out s at v (omega arith)) (h i)
 
-    go : Dec (i ≡ at) → getD (set s at v) i 0 < 256
-    go (yes e) = in-range e (decLt at (length s))
-    go (no n) = rw (getD-set-other s at i v 0 n) (h i)
+    by : Dec (i ≡ at) → getD (set s at v) i 0 < 256
+    by (yes e) = in-range e (decLt at (length s))
+    by (no n) = rw (getD-set-other s at i v 0 n) (h i)
 
 -- a write leaves a list of bytes
 pub bytes-setLE : (s : List ℕ) (at w v : ℕ) → Bytes s → Bytes (setLE s at w v)

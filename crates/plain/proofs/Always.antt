@@ -1,19 +1,19 @@
 -- The invariant of the pool holds before a start and after every call.
 use mathlib.Core.Path.{_≡_, refl}
 use mathlib.Core.List.{List, _∷_, []}
-use Prim.Native.Nat.{ℕ, _*_, _/_, _<_}
+use Prim.Native.Nat.{ℕ, _/_, _<_}
 use native.Mathlib.Omega.{arith}
-use native.Mathlib.Decide.{ℕ-discrete, decLt}
-use Rattle.limits.specs.Limits.{CONTROL-BYTES, REGION-BYTES, TASKS}
+use native.Mathlib.Decide.{decLt}
+use Rattle.limits.specs.Limits.{REGION-BYTES, TASKS}
 use Rattle.classes.specs.Geometry.{regionOf}
 use Rattle.plain.specs.State.{Place, idle, Mem, working}
 use Rattle.plain.specs.Moves.{Answer}
 use Rattle.plain.specs.Steps.{Result, stepOf}
-use Rattle.plain.specs.Calls.{Pool, Call, start, allocate, free, startArea?, startTasks?, beginAllocate}
+use Rattle.plain.specs.Calls.{Pool, Call, start, allocate, free, beginAllocate}
 use Rattle.plain.specs.Calls.{beginFree}
 use Rattle.plain.specs.Calls.{whenIdle, tested, plainCall, Lengths, step}
 use Rattle.plain.specs.Invariant.{Invariant, Good, run}
-use Rattle.plain.proofs.Either.{either, KeepsInvariant}
+use Rattle.plain.proofs.CallTests.{either, by-tests, by-start-tests, KeepsInvariant}
 use Rattle.plain.proofs.Steps.{step-inv}
 use Rattle.plain.proofs.StartInvariant.{start-inv}
 use Rattle.plain.proofs.Begins.{allocate-inv, free-by-inv}
@@ -36,14 +36,8 @@ GoodAfter x = Good (x .0)
 tested-good : (t : ℕ) (lent : Lengths) (s : Pool) (x : Result) → Good s
     → (t < TASKS → Invariant (s .regions) (s .mem) → KeepsInvariant (s .regions) x) → Good (tested t lent s x .0)
 tested-good t lent s x g h =
-    either GoodAfter (ℕ-discrete (lent .control) CONTROL-BYTES) _ _
-    (λ a. either GoodAfter (ℕ-discrete (s .tasks) 0) _ _ (λ b. g)
-    (λ b. either GoodAfter (ℕ-discrete (lent .area) (REGION-BYTES * s .regions)) _ _
-    (λ c. either GoodAfter (decLt t (s .tasks)) _ _
+    by-tests GoodAfter t lent s x (λ n l. g)
     (λ d. record { few = g .few; small = g .small; inv = λ i. h (omega (arith, g .few)) (g .inv i) })
-    (λ d. g))
-    (λ c. g)))
-    (λ a. g)
 
 -- A pool that is not started is good.
 pub not-started : (s : Pool) → s .tasks ≡ 0 → Good s
@@ -54,13 +48,8 @@ not-started s e =
 pub call-good : (c : Call) (lent : Lengths) (s : Pool) → Good s → Good (plainCall c lent s .0)
 unfolding plainCall
 call-good (start n) lent s g =
-    either GoodAfter (ℕ-discrete (lent .control) CONTROL-BYTES) _ _
-    (λ a. either GoodAfter (startArea? (lent .area)) _ _
-    (λ b. either GoodAfter (startTasks? (n .tasks)) _ _
-    (λ c. record { few = c .1; small = λ i. omega (arith, b); inv = λ i. start-inv (lent .area / REGION-BYTES) })
-    (λ c. g))
-    (λ b. g))
-    (λ a. g)
+    by-start-tests GoodAfter n lent s (λ k i l. g)
+    (λ b c. record { few = c .1; small = λ i. omega (arith, b); inv = λ i. start-inv (lent .area / REGION-BYTES) })
 call-good (allocate t size) lent s g =
     let m = s .mem in
     tested-good t lent s _ g (λ l I.

@@ -22,7 +22,7 @@ use Rattle.plain.specs.Held.{classAt, underWay}
 use Rattle.plain.specs.HolderWeights.{rowWeight, insideClassWeight, chainWeight, chainClassWeight, blockWeight}
 use Rattle.plain.specs.HolderWeights.{blockClassWeight}
 use Rattle.plain.specs.Invariant.{OpenDescriptor, Invariant}
-use Rattle.plain.proofs.Either.{either, KeepsInvariant}
+use Rattle.plain.proofs.CallTests.{either, KeepsInvariant}
 use Rattle.plain.proofs.Blocks.{block-counts, first-is-block}
 use Rattle.plain.proofs.ByState.{open-le, open-is, open-holds}
 use Rattle.plain.proofs.Homes.{inside-open}

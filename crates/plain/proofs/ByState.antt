@@ -1,8 +1,8 @@
 -- What counts by the state of an anchor.
 use mathlib.Core.Path.{_≡_, refl}
-use Prim.Native.Nat.{ℕ, _≤_}
+use Prim.Native.Nat.{ℕ, _≤_, _<_}
 use native.Mathlib.Omega.{arith}
-use Rattle.plain.specs.State.{State, EMPTY, PARTIAL, FULL}
+use Rattle.plain.specs.State.{State, EMPTY, PARTIAL, FULL, stateNumber}
 use Rattle.plain.specs.Calls.{NotEmpty}
 use Rattle.plain.specs.ByState.{ifOpen, IsOpen, IfOpen, oneIfEmpty}
 
@@ -69,6 +69,18 @@ open-map PARTIAL f x = f (λ i. refl) x
 open-map FULL f x = f (λ i. refl) x
 
 -- ---- the states
+
+-- A state that is not EMPTY has a larger number, ..
+pub not-empty : (z : State) → NotEmpty z → stateNumber EMPTY < stateNumber z
+not-empty EMPTY h = absurd h
+not-empty PARTIAL h = omega arith
+not-empty FULL h = omega arith
+
+-- .. and one with a larger number is not EMPTY.
+pub larger-is : (z : State) → stateNumber EMPTY < stateNumber z → NotEmpty z
+larger-is EMPTY h = absurd (omega arith)
+larger-is PARTIAL h = tt
+larger-is FULL h = tt
 
 -- a state is one of the three
 pub data IsState (s : State) : Type 0 where

@@ -27,7 +27,7 @@ use Rattle.plain.specs.Held.{unmappedIn, underWay}
 use Rattle.plain.specs.HolderWeights.{rowWeight, blockWeight}
 use Rattle.plain.specs.TaskHolds.{Together, NoteHolds, PlaceHolds}
 use Rattle.plain.specs.Invariant.{Invariant}
-use Rattle.plain.proofs.Either.{either, KeepsInvariant}
+use Rattle.plain.proofs.CallTests.{either, KeepsInvariant}
 use Rattle.plain.proofs.Homes.{inside-open}
 use Rattle.plain.proofs.NotesKept.{as-before}
 use Rattle.plain.proofs.Turn.{Turn, fewer, as-mapped, turn-inv, within}

@@ -14,13 +14,13 @@ use Rattle.classes.specs.Geometry.{regionOf}
 use Rattle.plain.specs.State.{read, spare, region, back, Place, idle, pushing, Task, Mem, working}
 use Rattle.plain.specs.Moves.{found-empty, pushed, Answer, ended, refused}
 use Rattle.plain.specs.Steps.{Result, popRead, pushPut, stepAt, stepOf, whenWorking}
-use Rattle.plain.specs.Calls.{Pool, Call, start, allocate, free, startMem, startArea?, startTasks?, opens?}
+use Rattle.plain.specs.Calls.{Pool, Call, start, allocate, free, startMem, opens?}
 use Rattle.plain.specs.Calls.{first?, freeEntry}
 use Rattle.plain.specs.Calls.{whenIdle, refuse, became, tested, plainCall, Lengths, step}
 use Rattle.plain.specs.Codes.{StepCode, under-way, no-request, no-descriptor, no-region, finishes, ReadsNoSpare}
 use Rattle.plain.specs.Codes.{PushesBack, ReadsNoRegion, CallIs, starts, begins, steps, EndsBy12, EndsBy13}
 use Rattle.plain.specs.Codes.{AtMost}
-use Rattle.plain.proofs.Either.{either}
+use Rattle.plain.proofs.CallTests.{either, by-tests, by-start-tests}
 use Rattle.plain.proofs.Steps.{step-facts}
 
 -- ---- 12 and 13 always come at these reads and exchanges
@@ -82,13 +82,7 @@ module _ (c : Call) (s : Pool) where
   -- the tests of a call that is no start
   tested-is : (t : ℕ) (lent : Lengths) (x : Result) → (t < s .tasks → CallIs c s (became s x))
       → CallIs c s (tested t lent s x)
-  tested-is t lent x h =
-      either (CallIs c s) (ℕ-discrete (lent .control) CONTROL-BYTES) _ _
-      (λ a. either (CallIs c s) (ℕ-discrete (s .tasks) 0) _ _ (λ b. refuses 4 (omega arith))
-      (λ b. either (CallIs c s) (ℕ-discrete (lent .area) (REGION-BYTES * s .regions)) _ _
-      (λ d. either (CallIs c s) (decLt t (s .tasks)) _ _ h (λ e. refuses 5 (omega arith)))
-      (λ d. refuses 2 (omega arith))))
-      (λ a. refuses 1 (omega arith))
+  tested-is t lent x h = by-tests (CallIs c s) t lent s x (λ n l. refuses n (omega arith)) h
 
   begins-is : (x : Result) → Small x → CallIs c s (became s x)
   begins-is x h = begins (h .0) refl (h .1)
@@ -97,13 +91,8 @@ module _ (c : Call) (s : Pool) where
 pub call-is : (c : Call) (lent : Lengths) (s : Pool) → CallIs c s (plainCall c lent s)
 unfolding plainCall startMem
 call-is (start n) lent s =
-    let c = start n in
-    either (CallIs c s) (ℕ-discrete (lent .control) CONTROL-BYTES) _ _
-    (λ a. either (CallIs c s) (startArea? (lent .area)) _ _
-    (λ b. either (CallIs c s) (startTasks? (n .tasks)) _ _
-    (λ d. starts refl (λ ℓ. refl)) (λ d. refuses c s 3 (omega arith)))
-    (λ b. refuses c s 2 (omega arith)))
-    (λ a. refuses c s 1 (omega arith))
+    by-start-tests (CallIs (start n) s) n lent s (λ k i l. refuses (start n) s k (omega arith))
+    (λ b d. starts refl (λ ℓ. refl))
 call-is (allocate t size) lent s =
     let c = allocate t size in
     tested-is c s t lent _ (λ l. begins-is c s _ (small-idle c s (s .mem .task t .place) _
@@ -145,22 +134,22 @@ step-not-14 n finishes e = absurd (omega arith)
 
 -- No call answers 14.
 pub never-14 : (c : Call) (lent : Lengths) (s : Pool) → plainCall c lent s .1 .code ≢ 14
-never-14 c lent s = go-on (call-is c lent s)
+never-14 c lent s = by (call-is c lent s)
   where
-    go-on : CallIs c s (plainCall c lent s) → plainCall c lent s .1 .code ≢ 14
-    go-on (starts h w) e = absurd (omega arith)
-    go-on (begins h k w) e = absurd (omega arith)
-    go-on (steps t f l h) e =
+    by : CallIs c s (plainCall c lent s) → plainCall c lent s .1 .code ≢ 14
+    by (starts h w) e = absurd (omega arith)
+    by (begins h k w) e = absurd (omega arith)
+    by (steps t f l h) e =
         step-not-14 (stepOf t (s .mem) .1 .code) (step-facts t (s .mem) .code) (answer-code s h e)
 
 -- Each call adds at most one won exchange to each list of a started pool.
 pub most : (n : ℕ) (c : Call) (lent : Lengths) (s : Pool) → AtMost n s → AtMost (suc n) (plainCall c lent s .0)
-most n c lent s g = go-on (call-is c lent s)
+most n c lent s g = by (call-is c lent s)
   where
-    go-on : CallIs c s (plainCall c lent s) → AtMost (suc n) (plainCall c lent s .0)
-    go-on (starts h w) i ℓ = omega (arith, w ℓ)
-    go-on (begins h k w) i ℓ = omega (arith, w ℓ, g (omega arith) ℓ)
-    go-on (steps t f l h) i ℓ =
+    by : CallIs c s (plainCall c lent s) → AtMost (suc n) (plainCall c lent s .0)
+    by (starts h w) i ℓ = omega (arith, w ℓ)
+    by (begins h k w) i ℓ = omega (arith, w ℓ, g (omega arith) ℓ)
+    by (steps t f l h) i ℓ =
         omega (
           arith,
           ap (λ (x : Pool × Answer). x .0 .mem .won ℓ) h,
@@ -171,24 +160,24 @@ most n c lent s g = go-on (call-is c lent s)
 -- A call answers 12 only if it is a step that reads the empty list of spare descriptors.
 pub only-12 : (c : Call) (lent : Lengths) (s : Pool) → plainCall c lent s .1 .code ≡ 12
     → EndsBy12 s (plainCall c lent s .1)
-only-12 c lent s = go-on (call-is c lent s)
+only-12 c lent s = by (call-is c lent s)
   where
-    go-on : CallIs c s (plainCall c lent s) → plainCall c lent s .1 .code ≡ 12 → EndsBy12 s (plainCall c lent s .1)
-    go-on (starts h w) e = absurd (omega arith)
-    go-on (begins h k w) e = absurd (omega arith)
-    go-on (steps t f l h) e =
+    by : CallIs c s (plainCall c lent s) → plainCall c lent s .1 .code ≡ 12 → EndsBy12 s (plainCall c lent s .1)
+    by (starts h w) e = absurd (omega arith)
+    by (begins h k w) e = absurd (omega arith)
+    by (steps t f l h) e =
         let r = step-facts t (s .mem) .twelve (answer-code s h e) in
         record { t = t; fits = l; reads = r .0; decided = ap (λ (x : Pool × Answer). x .1 .decided) h ∙ r .1 }
 
 -- A call answers 13 only if it is a step that wins the exchange that pushes a descriptor back.
 pub only-13 : (c : Call) (lent : Lengths) (s : Pool) → plainCall c lent s .1 .code ≡ 13
     → EndsBy13 s (plainCall c lent s .1)
-only-13 c lent s = go-on (call-is c lent s)
+only-13 c lent s = by (call-is c lent s)
   where
-    go-on : CallIs c s (plainCall c lent s) → plainCall c lent s .1 .code ≡ 13 → EndsBy13 s (plainCall c lent s .1)
-    go-on (starts h w) e = absurd (omega arith)
-    go-on (begins h k w) e = absurd (omega arith)
-    go-on (steps t f l h) e =
+    by : CallIs c s (plainCall c lent s) → plainCall c lent s .1 .code ≡ 13 → EndsBy13 s (plainCall c lent s .1)
+    by (starts h w) e = absurd (omega arith)
+    by (begins h k w) e = absurd (omega arith)
+    by (steps t f l h) e =
         let r = step-facts t (s .mem) .thirteen (answer-code s h e) in
         record {
           t = t;

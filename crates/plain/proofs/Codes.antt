@@ -22,7 +22,7 @@ use Rattle.plain.specs.Steps.{pushStep, a3Exchange, a7Step, a8Step, f1St
 use Rattle.plain.specs.Codes.{StepCode, under-way, no-request, no-descriptor, no-region, finishes, WayBack, stays}
 use Rattle.plain.specs.Codes.{comes, StepFacts}
 use Rattle.plain.specs.Noted.{Noted, unnoted, pop-noted, push-noted, anchor-noted, entry-noted, noted}
-use Rattle.plain.proofs.Either.{either}
+use Rattle.plain.proofs.CallTests.{either}
 
 -- 1 for a push of a descriptor back, else 0
 abbrev isBack : Push → ℕ

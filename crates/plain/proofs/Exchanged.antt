@@ -57,7 +57,12 @@ module _ {area : ℕ} {m : Mem} {t : ℕ} {p : Place} {k : ℕ → List ℕ} (w 
       → Invariant area (atPlace t k p′ (setRow ℓ q m))
   relisted p′ ℓ q e l s o n = turn-inv w _ (taskOf p′ k) refl (record {
     descriptors = λ x.
-        omega (arith, s .descriptors x, ap (descriptorIn x) e, total-update SPARE-REGIONS (rowWeight x) (m .row) ℓ q l);
+        omega (
+          arith,
+          s .descriptors x,
+          ap (descriptorIn x) e,
+          total-update DESCRIPTOR-LISTS (rowWeight x) (m .row) ℓ q l,
+        );
     regions = λ x.
         omega (
           arith,
@@ -98,7 +103,7 @@ module _ {area : ℕ} {m : Mem} {t : ℕ} {p : Place} {k : ℕ → List ℕ} (w 
       arith,
       s .descriptors x,
       ap (descriptorIn x) e,
-      total-out SPARE-REGIONS (rowWeight x) (m .row) SPARE-REGIONS q (omega arith),
+      total-out DESCRIPTOR-LISTS (rowWeight x) (m .row) SPARE-REGIONS q (omega arith),
     );
     regions = λ x. omega (arith, s .regions x, ap (regionIn x) e, ap (count x) (update-same (m .row) SPARE-REGIONS q));
     classes = λ c x l. fewer (omega (

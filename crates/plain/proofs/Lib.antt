@@ -1,6 +1,6 @@
 -- Laws of the plain pool: rows of the bench table, and the invariant.
 pub mod BenchFirsts
-pub mod Either
+pub mod CallTests
 pub mod Blocks
 pub mod ByState
 pub mod Held

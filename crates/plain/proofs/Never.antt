@@ -24,8 +24,8 @@ pub top-item : (q : List ℕ) → 1 ≤ length q → TopItem q
 top-item [] h = absurd (omega arith)
 top-item (x ∷ q) h = record { item = x; rest = q; is = refl }
 
--- A state with the number 1 is PARTIAL.
-partial-is : (s : State) → stateNumber s ≡ 1 → s ≡ PARTIAL
+-- A state with PARTIAL's number is PARTIAL.
+partial-is : (s : State) → stateNumber s ≡ stateNumber PARTIAL → s ≡ PARTIAL
 partial-is EMPTY e = absurd (omega arith)
 partial-is PARTIAL e = refl
 partial-is FULL e = absurd (omega arith)

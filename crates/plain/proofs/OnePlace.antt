@@ -3,7 +3,7 @@ use mathlib.Core.Path.{_≡_, sym, ap, _∙_}
 use mathlib.Core.Logic.{_≢_}
 use Prim.Native.Nat.{ℕ, _+_, _≤_, _<_}
 use native.Mathlib.Omega.{arith}
-use Rattle.limits.specs.Limits.{TASKS, DESCRIPTORS, SPARE-REGIONS}
+use Rattle.limits.specs.Limits.{TASKS, DESCRIPTORS, DESCRIPTOR-LISTS}
 use Rattle.rows.specs.Comparisons.{same, other, same?, before, after, order?}
 use Rattle.rows.specs.Weights.{when, one}
 use Rattle.rows.specs.Counting.{count}
@@ -141,9 +141,9 @@ module _ {area : ℕ} {m : Mem} (I : Invariant area m) where
   once-listed = record {
     descriptors = λ d. omega (arith, I .descriptors d, below-max d DESCRIPTORS);
     descriptor = λ ℓ d l.
-        omega (arith, I .descriptors d, below-max d DESCRIPTORS, total-one SPARE-REGIONS (rowWeight d) (m .row) ℓ l);
+        omega (arith, I .descriptors d, below-max d DESCRIPTORS, total-one DESCRIPTOR-LISTS (rowWeight d) (m .row) ℓ l);
     below = λ ℓ d l h.
-        below-is d DESCRIPTORS (omega (arith, I .descriptors d, total-one SPARE-REGIONS (rowWeight d) (m .row) ℓ l));
+        below-is d DESCRIPTORS (omega (arith, I .descriptors d, total-one DESCRIPTOR-LISTS (rowWeight d) (m .row) ℓ l));
     region = λ r. omega (arith, I .regions r, below-max r area);
     inArea = λ r h. below-is r area (omega (arith, I .regions r));
   }

@@ -24,7 +24,7 @@ use Rattle.plain.specs.ByState.{ifOpen, IsOpen, IfOpen, IfEmpty, oneIfFu
 use Rattle.plain.specs.HolderWeights.{insideWeight, insideClassWeight, chainWeight, chainClassWeight, openWeight}
 use Rattle.plain.specs.HolderWeights.{fullWeight, descriptorClassWeight, regionWeight}
 use Rattle.plain.specs.Invariant.{OpenDescriptor, ClosedDescriptor, Invariant}
-use Rattle.plain.proofs.Either.{KeepsInvariant}
+use Rattle.plain.proofs.CallTests.{KeepsInvariant}
 use Rattle.plain.proofs.Blocks.{isBlock-row}
 use Rattle.plain.proofs.ByState.{open-map}
 use Rattle.plain.proofs.NotesKept.{as-before}

@@ -16,7 +16,7 @@ use Rattle.plain.specs.Blocks.{countBlock}
 use Rattle.plain.specs.ByState.{oneIfFull}
 use Rattle.plain.specs.Held.{owed}
 use Rattle.plain.specs.Invariant.{all-returned}
-use Rattle.plain.proofs.Either.{either, KeepsInvariant}
+use Rattle.plain.proofs.CallTests.{either, KeepsInvariant}
 use Rattle.plain.proofs.Turn.{Turn}
 use Rattle.plain.proofs.PlaceAlone.{taskOf, placeHolds, placed, noteHolds}
 use Rattle.plain.proofs.Owners.{Owner}

@@ -12,7 +12,7 @@ use Rattle.plain.specs.State.{f3-read, f3-link, f3-exchange, f4-clear, M
 use Rattle.plain.specs.Steps.{f3Read, stepAt, stepOf, whenWorking}
 use Rattle.plain.specs.Invariant.{Invariant}
 use Rattle.plain.specs.Codes.{StepFacts}
-use Rattle.plain.proofs.Either.{KeepsInvariant}
+use Rattle.plain.proofs.CallTests.{KeepsInvariant}
 use Rattle.plain.proofs.Turn.{Turn}
 use Rattle.plain.proofs.PlaceAlone.{taskOf, turnAt, placeHolds, placed, noteHolds}
 use Rattle.plain.proofs.Caches.{a1-inv, a4-inv, a8-inv, f1-inv, f2-inv}

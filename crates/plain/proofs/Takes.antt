@@ -16,7 +16,7 @@ use Rattle.plain.specs.Steps.{moving, AsNoted, asNoted?, chained, a3Read
 use Rattle.plain.specs.Blocks.{countBlock}
 use Rattle.plain.specs.ByState.{ifOpen, IsOpen, oneIfFull, oneIfEmpty}
 use Rattle.plain.specs.Invariant.{ChainLength, OpenDescriptor, Invariant}
-use Rattle.plain.proofs.Either.{either, KeepsInvariant}
+use Rattle.plain.proofs.CallTests.{either, KeepsInvariant}
 use Rattle.plain.proofs.ByState.{open-holds, IsState, is-empty, is-partial, is-full, state?}
 use Rattle.plain.proofs.NotesKept.{as-before}
 use Rattle.plain.proofs.Turn.{Turn, fewer, enough, as-mapped, turn-inv}

@@ -138,7 +138,7 @@ module _ {area : ℕ} {m : Mem} {t : ℕ} {T : Task} (w : Turn area m t T) where
         w .inv .descriptors x,
         retask (descriptorWeight x),
         s .descriptors x,
-        total-one SPARE-REGIONS (rowWeight x) (m′ .row) ℓ l,
+        total-one DESCRIPTOR-LISTS (rowWeight x) (m′ .row) ℓ l,
         total-le TASKS z (descriptorWeight x) (m′ .task) (λ i g. h i),
         below-max x DESCRIPTORS,
       )

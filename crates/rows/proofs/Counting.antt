@@ -16,7 +16,7 @@ use Rattle.rows.proofs.Weights.{when-same, when-other, when-max, weight
 pub count-first : (u : ℕ) (r : List ℕ) → 1 ≤ count u (u ∷ r)
 count-first u r = omega (arith, when-same u 1)
 
--- What stands at a place of the row counts.
+-- What stands at an index of the row counts.
 pub count-at : (r : List ℕ) (i : ℕ) → i < length r → 1 ≤ count (getD r i 0) r
 count-at [] i h = absurd (omega arith)
 count-at (v ∷ r) zero h = count-first v r
@@ -68,14 +68,14 @@ split-count u r p = omega (arith, ap (count u) (p .is), count-remove u (p .front
 
 -- ---- a change
 
--- One place of a row written anew: the old item no longer counts, the new one does.
+-- One item of a row written anew: the old item no longer counts, the new one does.
 pub count-set : (u : ℕ) (r : List ℕ) (i v : ℕ) → i < length r
     → count u (set r i v) + one u (getD r i 0) ≡ count u r + one u v
 count-set u [] i v h = absurd (omega arith)
 count-set u (x ∷ r) zero v h = omega arith
 count-set u (x ∷ r) (suc i) v h = omega (arith, count-set u r i v (omega arith))
 
--- One of several rows changed: at its place the old items no longer count and the new ones do, elsewhere
+-- One of several rows changed: at its index the old items no longer count and the new ones do, elsewhere
 -- all counts as before.
 pub count-update : (u : ℕ) (f : ℕ → List ℕ) (k : ℕ) (r : List ℕ) (j : ℕ)
     → count u (update f k r j) + when j k (count u (f k)) ≡ count u (f j) + when j k (count u r)

@@ -80,7 +80,7 @@ below-is u v h = elim (order? u v) [ before l ↦ l | after g ↦ absurd (omega 
 
 -- ---- a weight after an update
 
--- A function changed at one place: there the new weight stands for the old one, elsewhere it is as before.
+-- A function changed at one index: there the new weight stands for the old one, elsewhere it is as before.
 pub weight-update : {A : Type 0} (w : A → ℕ) (f : ℕ → A) (k : ℕ) (x : A) (j : ℕ)
     → w (update f k x j) + when j k (w (f k)) ≡ w (f j) + when j k (w x)
 weight-update w f k x j = elim (same? j k) [

@@ -7,7 +7,8 @@ use borrow.Author.Tests.{eq-eqb, ne-eqb, le-leb, lt-leb}
 use lib.ListN.{length, getD}
 use Rattle.fields.specs.Little.{getLE}
 use Rattle.schedule.specs.declared.record.Record.the-variants.{Start, Allocate, Free, Step, Run, Bad}
-use Rattle.schedule.specs.Records.{wideOf, recordAt}
+use Rattle.schedule.specs.Records.{START-KIND, ALLOCATE-KIND, FREE-KIND, STEP-KIND, RUN-KIND, START-BYTES}
+use Rattle.schedule.specs.Records.{STEP-BYTES, WIDE-BYTES, wideOf, recordAt}
 
 module _ (input : List ℕ) (at : ℕ) where
   abbrev kind : ℕ
@@ -16,53 +17,54 @@ module _ (input : List ℕ) (at : ℕ) where
   abbrev left : ℕ
   left = length input - at
 
-  pub no-kind : kind < 1 → Bad ≡ recordAt input at
+  pub no-kind : kind < START-KIND → Bad ≡ recordAt input at
   unfolding recordAt
-  no-kind h = rw (lt-leb 1 kind h)
+  no-kind h = rw (lt-leb _ _ h)
 
-  module _ (k : 1 ≤ kind) where
-    pub unknown : 5 < kind → Bad ≡ recordAt input at
+  module _ (k : START-KIND ≤ kind) where
+    pub unknown : RUN-KIND < kind → Bad ≡ recordAt input at
     unfolding recordAt
-    unknown h = rw (le-leb 1 kind k, lt-leb kind 5 h)
+    unknown h = rw (le-leb _ _ k, lt-leb _ _ h)
 
-    module _ (l : kind ≤ 5) where
-      pub step-cut : kind ≡ 4 → left < 2 → Bad ≡ recordAt input at
+    module _ (l : kind ≤ RUN-KIND) where
+      pub step-cut : kind ≡ STEP-KIND → left < STEP-BYTES → Bad ≡ recordAt input at
       unfolding recordAt
-      step-cut e h = rw (le-leb 1 kind k, le-leb kind 5 l, eq-eqb kind 4 e, lt-leb 2 left h)
+      step-cut e h = rw (le-leb _ _ k, le-leb _ _ l, eq-eqb _ _ e, lt-leb _ _ h)
 
-      pub step-whole : kind ≡ 4 → 2 ≤ left → Step (getD input (at + 1) 0) ≡ recordAt input at
+      pub step-whole : kind ≡ STEP-KIND → STEP-BYTES ≤ left → Step (getD input (at + 1) 0) ≡ recordAt input at
       unfolding recordAt
-      step-whole e h = rw (le-leb 1 kind k, le-leb kind 5 l, eq-eqb kind 4 e, le-leb 2 left h)
+      step-whole e h = rw (le-leb _ _ k, le-leb _ _ l, eq-eqb _ _ e, le-leb _ _ h)
 
-      module _ (m : kind ≢ 4) where
-        pub start-cut : kind ≡ 1 → left < 3 → Bad ≡ recordAt input at
+      module _ (m : kind ≢ STEP-KIND) where
+        pub start-cut : kind ≡ START-KIND → left < START-BYTES → Bad ≡ recordAt input at
         unfolding recordAt
-        start-cut e h = rw (le-leb 1 kind k, le-leb kind 5 l, ne-eqb kind 4 m, eq-eqb kind 1 e, lt-leb 3 left h)
+        start-cut e h = rw (le-leb _ _ k, le-leb _ _ l, ne-eqb _ _ m, eq-eqb _ _ e, lt-leb _ _ h)
 
-        pub start-whole : kind ≡ 1 → 3 ≤ left → Start (getD input (at + 1) 0) (getD input (at + 2) 0)
+        pub start-whole : kind ≡ START-KIND → START-BYTES ≤ left → Start (getD input (at + 1) 0) (getD input (at + 2) 0)
             ≡ recordAt input at
         unfolding recordAt
-        start-whole e h = rw (le-leb 1 kind k, le-leb kind 5 l, ne-eqb kind 4 m, eq-eqb kind 1 e, le-leb 3 left h)
+        start-whole e h = rw (le-leb _ _ k, le-leb _ _ l, ne-eqb _ _ m, eq-eqb _ _ e, le-leb _ _ h)
 
-        module _ (n : kind ≢ 1) where
-          pub wide-cut : left < 4 → Bad ≡ recordAt input at
+        module _ (n : kind ≢ START-KIND) where
+          pub wide-cut : left < WIDE-BYTES → Bad ≡ recordAt input at
           unfolding recordAt
-          wide-cut h = rw (le-leb 1 kind k, le-leb kind 5 l, ne-eqb kind 4 m, ne-eqb kind 1 n, lt-leb 4 left h)
+          wide-cut h = rw (le-leb _ _ k, le-leb _ _ l, ne-eqb _ _ m, ne-eqb _ _ n, lt-leb _ _ h)
 
-          pub wide-whole : 4 ≤ left → wideOf kind (getD input (at + 1) 0) (getLE input (at + 2) 2) ≡ recordAt input at
+          pub wide-whole : WIDE-BYTES ≤ left → wideOf kind (getD input (at + 1) 0) (getLE input (at + 2) 2)
+              ≡ recordAt input at
           unfolding recordAt
-          wide-whole h = rw (le-leb 1 kind k, le-leb kind 5 l, ne-eqb kind 4 m, ne-eqb kind 1 n, le-leb 4 left h)
+          wide-whole h = rw (le-leb _ _ k, le-leb _ _ l, ne-eqb _ _ m, ne-eqb _ _ n, le-leb _ _ h)
 
 -- a task, and the number m in two bytes
 module _ (kind task : ℕ) {number m : ℕ} (h : number ≡ m) where
-  pub is-allocate : kind ≡ 2 → Allocate task number ≡ wideOf kind task m
+  pub is-allocate : kind ≡ ALLOCATE-KIND → Allocate task number ≡ wideOf kind task m
   unfolding wideOf
-  is-allocate e = rw (eq-eqb kind 2 e, h)
+  is-allocate e = rw (eq-eqb _ _ e, h)
 
-  pub is-free : kind ≢ 2 → kind ≡ 3 → Free task number ≡ wideOf kind task m
+  pub is-free : kind ≢ ALLOCATE-KIND → kind ≡ FREE-KIND → Free task number ≡ wideOf kind task m
   unfolding wideOf
-  is-free n e = rw (ne-eqb kind 2 n, eq-eqb kind 3 e, h)
+  is-free n e = rw (ne-eqb _ _ n, eq-eqb _ _ e, h)
 
-  pub is-run : kind ≢ 2 → kind ≢ 3 → Run task number ≡ wideOf kind task m
+  pub is-run : kind ≢ ALLOCATE-KIND → kind ≢ FREE-KIND → Run task number ≡ wideOf kind task m
   unfolding wideOf
-  is-run n k = rw (ne-eqb kind 2 n, ne-eqb kind 3 k, h)
+  is-run n k = rw (ne-eqb _ _ n, ne-eqb _ _ k, h)

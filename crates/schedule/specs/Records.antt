@@ -13,11 +13,48 @@ use Rattle.schedule.specs.declared.record.Record.the-variants.{Start, Al
 abbrev pub INPUT-BYTES : ℕ
 INPUT-BYTES = 65536
 
+-- the kinds: "1 start"
+abbrev pub START-KIND : ℕ
+START-KIND = 1
+
+-- "2 allocate"
+abbrev pub ALLOCATE-KIND : ℕ
+ALLOCATE-KIND = 2
+
+-- "3 free"
+abbrev pub FREE-KIND : ℕ
+FREE-KIND = 3
+
+-- "4 step"
+abbrev pub STEP-KIND : ℕ
+STEP-KIND = 4
+
+-- "5 run", the last of them
+abbrev pub RUN-KIND : ℕ
+RUN-KIND = 5
+
+-- how many bytes a record has, its kind with it: "start (tasks, regions)"
+abbrev pub START-BYTES : ℕ
+START-BYTES = 3
+
+-- "step (task)"
+abbrev pub STEP-BYTES : ℕ
+STEP-BYTES = 2
+
+-- a task, and a number in two bytes
+abbrev pub WIDE-BYTES : ℕ
+WIDE-BYTES = 4
+
+-- the most calls that a record makes: a run's number has two bytes
+abbrev pub MOST-CALLS : ℕ
+MOST-CALLS = 65535
+
 -- "2 allocate (task, size in two bytes, low first); 3 free (task, unit in two bytes, low first); .. 5 run (task, most
 -- steps in two bytes, low first)"
 unfoldable pub wideOf : ℕ → ℕ → ℕ → Record
 wideOf kind task number =
-    cond (eqb kind 2) (Allocate task number) (cond (eqb kind 3) (Free task number) (Run task number))
+    cond (eqb kind ALLOCATE-KIND) (Allocate task number)
+    (cond (eqb kind FREE-KIND) (Free task number) (Run task number))
 
 -- the record that begins at the byte `at`: "1 start (tasks, regions); .. 4 step (task)"; "15 unknown kind or cut
 -- record"
@@ -25,11 +62,12 @@ unfoldable pub recordAt : List ℕ → ℕ → Record
 recordAt input at =
     let kind = getD input at 0 in
     let left = length input - at in
-    cond (leb 1 kind)
-    (cond (leb kind 5)
-    (cond (eqb kind 4) (cond (leb 2 left) (Step (getD input (at + 1) 0)) Bad)
-    (cond (eqb kind 1) (cond (leb 3 left) (Start (getD input (at + 1) 0) (getD input (at + 2) 0)) Bad)
-    (cond (leb 4 left) (wideOf kind (getD input (at + 1) 0) (getLE input (at + 2) 2)) Bad)))
+    cond (leb START-KIND kind)
+    (cond (leb kind RUN-KIND)
+    (cond (eqb kind STEP-KIND) (cond (leb STEP-BYTES left) (Step (getD input (at + 1) 0)) Bad)
+    (cond (eqb kind START-KIND)
+    (cond (leb START-BYTES left) (Start (getD input (at + 1) 0) (getD input (at + 2) 0)) Bad)
+    (cond (leb WIDE-BYTES left) (wideOf kind (getD input (at + 1) 0) (getLE input (at + 2) 2)) Bad)))
     Bad)
     Bad
 
@@ -39,9 +77,9 @@ entryAt input at n = record { number = n; kind = getD input at 0; body = recordA
 
 -- where the next record begins; "After 15 it stops"
 abbrev pub endOf : Record → ℕ → ℕ → ℕ
-endOf (Start a b) at end = at + 3
-endOf (Allocate a b) at end = at + 4
-endOf (Free a b) at end = at + 4
-endOf (Step a) at end = at + 2
-endOf (Run a b) at end = at + 4
+endOf (Start a b) at end = at + START-BYTES
+endOf (Allocate a b) at end = at + WIDE-BYTES
+endOf (Free a b) at end = at + WIDE-BYTES
+endOf (Step a) at end = at + STEP-BYTES
+endOf (Run a b) at end = at + WIDE-BYTES
 endOf Bad at end = end

@@ -3,7 +3,24 @@ ghost use mathlib.Core.Path.{_≡_};
 ghost use Prim.Native.Nat.{_+_, _≤_, _<_};
 ghost use lib.ListN.{length, getD};
 ghost use Rattle.fields.specs.Little.{getLE};
-ghost use Rattle.schedule.specs.Records.{INPUT-BYTES, wideOf, recordAt, entryAt, endOf};
+ghost use Rattle.schedule.specs.Records.{INPUT-BYTES, WIDE-BYTES, wideOf, recordAt, entryAt, endOf};
+
+// The kinds of record, and how many bytes a record of a kind has.
+const START_KIND: u8 = 1;
+
+const ALLOCATE_KIND: u8 = 2;
+
+const FREE_KIND: u8 = 3;
+
+const STEP_KIND: u8 = 4;
+
+const RUN_KIND: u8 = 5;
+
+const START_BYTES: usize = 3;
+
+const STEP_BYTES: usize = 2;
+
+const WIDE_BYTES: usize = 4;
 
 pub enum Record {
     // Tasks and regions.
@@ -29,15 +46,15 @@ pub struct Entry {
 
 // A record whose body is a task and a number in two bytes. Caller: `read`, which has tested that the input has them.
 fn wide(input: &[u8], at: usize, kind: u8) -> Record
-    requires { ⌜ (at + 4 ≤ length (now input)) × (length (now input) ≤ INPUT-BYTES) ⌝ }
+    requires { ⌜ (at + WIDE-BYTES ≤ length (now input)) × (length (now input) ≤ INPUT-BYTES) ⌝ }
     ensures { λ r. ⌜ r ≡ wideOf kind (getD (now (input .entry)) (at + 1) 0) (getLE (now (input .entry)) (at + 2) 2) ⌝ }
 {
     let task = input[at + 1];
     let number = fields::load16(input, at + 2);
-    if kind == 2 {
+    if kind == ALLOCATE_KIND {
         return Record::Allocate(task, number);
     }
-    if kind == 3 {
+    if kind == FREE_KIND {
         return Record::Free(task, number);
     }
     Record::Run(task, number)
@@ -50,25 +67,25 @@ pub fn read(input: &[u8], at: usize) -> Record
 {
     let kind = input[at];
     let left = input.len() - at;
-    if kind < 1 {
+    if kind < START_KIND {
         return Record::Bad;
     }
-    if 5 < kind {
+    if RUN_KIND < kind {
         return Record::Bad;
     }
-    if kind == 4 {
-        if left < 2 {
+    if kind == STEP_KIND {
+        if left < STEP_BYTES {
             return Record::Bad;
         }
         return Record::Step(input[at + 1]);
     }
-    if kind == 1 {
-        if left < 3 {
+    if kind == START_KIND {
+        if left < START_BYTES {
             return Record::Bad;
         }
         return Record::Start(input[at + 1], input[at + 2]);
     }
-    if left < 4 {
+    if left < WIDE_BYTES {
         return Record::Bad;
     }
     wide(input, at, kind)
@@ -93,11 +110,11 @@ pub fn end(body: Record, at: usize, end: usize) -> usize
     ensures { λ r. ⌜ r ≡ endOf body at end ⌝ }
 {
     match body {
-        Record::Start(_, _) => at + 3,
-        Record::Allocate(_, _) => at + 4,
-        Record::Free(_, _) => at + 4,
-        Record::Step(_) => at + 2,
-        Record::Run(_, _) => at + 4,
+        Record::Start(_, _) => at + START_BYTES,
+        Record::Allocate(_, _) => at + WIDE_BYTES,
+        Record::Free(_, _) => at + WIDE_BYTES,
+        Record::Step(_) => at + STEP_BYTES,
+        Record::Run(_, _) => at + WIDE_BYTES,
         Record::Bad => end,
     }
 }

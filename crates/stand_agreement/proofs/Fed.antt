@@ -3,13 +3,12 @@ use Prim.Native.Nat.{ℕ, _*_, _≤_}
 use mathlib.Core.Path.{_≡_, refl}
 use mathlib.Core.Logic.{_≢_}
 use native.Mathlib.Omega.{arith}
-use native.Mathlib.Decide.{ℕ-discrete, decLt}
 use Rattle.limits.specs.Limits.{CONTROL-BYTES, REGION-BYTES}
 use Rattle.plain.specs.Moves.{Answer}
 use Rattle.plain.specs.Steps.{Result}
 use Rattle.plain.specs.Calls.{Pool, Start, Lengths}
 use Rattle.plain.specs.Calls as Calls
-use Rattle.plain.proofs.Either.{either}
+use Rattle.plain.proofs.CallTests.{by-tests, by-start-tests}
 use Rattle.schedule.specs.Plain.{numberIn, regionsFed}
 
 -- the same number of tasks and of regions
@@ -18,14 +17,7 @@ SameStart p p′ = (p′ .tasks ≡ p .tasks) × (p′ .regions ≡ p .regions)
 
 -- a call that is no start
 tested-keeps : (t : ℕ) (lent : Lengths) (p : Pool) (x : Result) → SameStart p (Calls.tested t lent p x .0)
-tested-keeps t lent p x =
-    let Q : Pool × Answer → Type 0 = λ z. SameStart p (z .0) in
-    either Q (ℕ-discrete (lent .control) CONTROL-BYTES) _ _
-    (λ a. either Q (ℕ-discrete (p .tasks) 0) _ _ (λ b. (refl, refl))
-    (λ b. either Q (ℕ-discrete (lent .area) (REGION-BYTES * p .regions)) _ _
-    (λ c. either Q (decLt t (p .tasks)) _ _ (λ d. (refl, refl)) (λ d. (refl, refl)))
-    (λ c. (refl, refl))))
-    (λ a. (refl, refl))
+tested-keeps t lent p x = by-tests (λ z. SameStart p (z .0)) t lent p x (λ n l. (refl, refl)) (λ l. (refl, refl))
 
 module _ (lent : Lengths) (t : ℕ) (p : Pool) where
   pub allocate-keeps : (size : ℕ) → SameStart p (Calls.plainCall (Calls.allocate t size) lent p .0)
@@ -55,10 +47,5 @@ pub start-is : (b : Start) (regions : ℕ) (p : Pool)
     (Calls.plainCall (Calls.start b) (record { control = CONTROL-BYTES; area = REGION-BYTES * regions }) p)
 unfolding Calls.plainCall
 start-is b regions p =
-    let Q = StartIs regions p in
-    either Q (ℕ-discrete CONTROL-BYTES CONTROL-BYTES) _ _
-    (λ a. either Q (Calls.startArea? (REGION-BYTES * regions)) _ _
-    (λ d. either Q (Calls.startTasks? (b .tasks)) _ _ (λ c. accepted refl (c .0) (omega arith))
-    (λ c. refused (λ e. absurd (omega arith)) refl))
-    (λ d. refused (λ e. absurd (omega arith)) refl))
-    (λ a. refused (λ e. absurd (omega arith)) refl)
+    by-start-tests (StartIs regions p) b (record { control = CONTROL-BYTES; area = REGION-BYTES * regions }) p
+    (λ n i l. refused (λ e. absurd (omega arith)) refl) (λ d c. accepted refl (c .0) (omega arith))

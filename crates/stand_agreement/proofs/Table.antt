@@ -21,7 +21,8 @@ use Rattle.schedule.specs.declared.record.Record.{Record}
 use Rattle.schedule.specs.declared.record.Record.the-variants.{Start, Allocate, Free, Step, Run, Bad}
 use Rattle.schedule.specs.declared.tally.Tally.{Tally}
 use Rattle.schedule.specs.declared.treat.Line.{Line}
-use Rattle.schedule.specs.Records.{INPUT-BYTES, wideOf, recordAt, entryAt, endOf}
+use Rattle.schedule.specs.Records.{INPUT-BYTES, START-KIND, ALLOCATE-KIND, FREE-KIND, STEP-KIND, RUN-KIND, START-BYTES}
+use Rattle.schedule.specs.Records.{STEP-BYTES, WIDE-BYTES, MOST-CALLS, wideOf, recordAt, entryAt, endOf}
 use Rattle.schedule.specs.Tally.{noneCounted, counted}
 use Rattle.schedule.specs.Stand.{STAND-AREA}
 use Rattle.schedule.specs.Stand.{as-started, lineOf, runs, treated, table}
@@ -43,16 +44,17 @@ mostOf Bad = 0
 
 -- a record makes at most 65,535 calls, has at least a byte, and ends within the schedule
 pub record Fits (at end : ℕ) (r : Record) : Type 0 where
-  pub most : mostOf r ≤ 65535
+  pub most : mostOf r ≤ MOST-CALLS
   pub from : at + 1 ≤ endOf r at end
   pub to : endOf r at end ≤ end
 
-wide-fits : (at end kind task number : ℕ) → at + 4 ≤ end → number < 65536 → Fits at end (wideOf kind task number)
+wide-fits : (at end kind task number : ℕ) → at + WIDE-BYTES ≤ end → number < 65536
+    → Fits at end (wideOf kind task number)
 unfolding wideOf
 wide-fits at end kind task number h l =
     let P = Fits at end in
-    branch P (eqb kind 2) (λ e. record { most = omega arith; from = omega arith; to = h })
-    (λ e. branch P (eqb kind 3) (λ f. record { most = omega arith; from = omega arith; to = h })
+    branch P (eqb kind ALLOCATE-KIND) (λ e. record { most = omega arith; from = omega arith; to = h })
+    (λ e. branch P (eqb kind FREE-KIND) (λ f. record { most = omega arith; from = omega arith; to = h })
     (λ f. record { most = omega (arith, l); from = omega arith; to = h }))
 
 record-fits : (input : List ℕ) (at : ℕ) → Bytes input → at < length input → Fits at (length input) (recordAt input at)
@@ -62,17 +64,18 @@ record-fits input at b l =
     let kind = getD input at 0 in
     let left = length input - at in
     let bad : P Bad = record { most = omega arith; from = omega (arith, l); to = omega arith } in
-    branch P (leb 1 kind)
-    (λ e. branch P (leb kind 5)
-    (λ f. branch P (eqb kind 4)
-    (λ g. branch P (leb 2 left)
-    (λ h. record { most = omega arith; from = omega arith; to = omega (arith, leb-true 2 left h) }) (λ h. bad))
-    (λ g. branch P (eqb kind 1)
-    (λ h. branch P (leb 3 left)
-    (λ i. record { most = omega arith; from = omega arith; to = omega (arith, leb-true 3 left i) }) (λ i. bad))
-    (λ h. branch P (leb 4 left)
+    branch P (leb START-KIND kind)
+    (λ e. branch P (leb kind RUN-KIND)
+    (λ f. branch P (eqb kind STEP-KIND)
+    (λ g. branch P (leb STEP-BYTES left)
+    (λ h. record { most = omega arith; from = omega arith; to = omega (arith, leb-true STEP-BYTES left h) }) (λ h. bad))
+    (λ g. branch P (eqb kind START-KIND)
+    (λ h. branch P (leb START-BYTES left)
+    (λ i. record { most = omega arith; from = omega arith; to = omega (arith, leb-true START-BYTES left i) })
+    (λ i. bad))
+    (λ h. branch P (leb WIDE-BYTES left)
     (λ i. wide-fits at (length input) kind (getD input (at + 1) 0) (getLE input (at + 2) 2)
-    (omega (arith, leb-true 4 left i)) (getLE-lt input (at + 2) 2 b))
+    (omega (arith, leb-true WIDE-BYTES left i)) (getLE-lt input (at + 2) 2 b))
     (λ i. bad))))
     (λ f. bad))
     (λ e. bad)
@@ -109,11 +112,12 @@ same-runs (suc m) n a t s p B l =
         )
         (record { number = one .number; beside = later (omega arith) (one .beside) })
 
-after : {n : ℕ} {x : Memories × ℕ} {y : Pool × ℕ} → SameAnswer (suc n) x y → SameAnswer (n + 65535) x y
+after : {n : ℕ} {x : Memories × ℕ} {y : Pool × ℕ} → SameAnswer (suc n) x y → SameAnswer (n + MOST-CALLS) x y
 after S = record { number = S .number; beside = later (omega arith) (S .beside) }
 
-same-treated : {n : ℕ} {s : Memories} {p : Pool} (r : Record) → mostOf r ≤ 65535 → Beside n s p → n + 65535 < TAGS
-    → SameAnswer (n + 65535) (treated onBytes r s) (treated onPlain r p)
+same-treated : {n : ℕ} {s : Memories} {p : Pool} (r : Record) → mostOf r ≤ MOST-CALLS → Beside n s p
+    → n + MOST-CALLS < TAGS
+    → SameAnswer (n + MOST-CALLS) (treated onBytes r s) (treated onPlain r p)
 same-treated (Start tasks regions) m B l = after (same-start B (record { tasks = tasks }) regions)
 same-treated (Allocate t size) m B l = after (same-allocate B (omega arith) t size)
 same-treated (Free t u) m B l = after (same-free B (omega arith) t u)
@@ -126,15 +130,17 @@ same-treated Bad m B l = record { number = refl; beside = later (omega arith) B 
 -- ---- the table
 
 module _ (input : List ℕ) (bytes : Bytes input) (long : length input ≤ INPUT-BYTES) where
-  same-table : (f at n k : ℕ) (y : Tally) (s : Memories) (p : Pool) → at ≤ length input → k ≤ 65535 * at → Beside k s p
+  same-table : (f at n k : ℕ) (y : Tally) (s : Memories) (p : Pool) → at ≤ length input → k ≤ MOST-CALLS * at
+      → Beside k s p
       → table onBytes f input at n y s ≡ table onPlain f input at n y p
   unfolding table
   same-table zero at n k y s p h l B = refl
   same-table (suc f) at n k y s p h l B =
-      by (λ at′ y′ s′ p′ h′ l′ B′. same-table f at′ (n + 1) (k + 65535) y′ s′ p′ h′ l′ B′) (decLt at (length input))
+      by (λ at′ y′ s′ p′ h′ l′ B′. same-table f at′ (n + 1) (k + MOST-CALLS) y′ s′ p′ h′ l′ B′)
+      (decLt at (length input))
     where
-      by : ((at′ : ℕ) (y′ : Tally) (s′ : Memories) (p′ : Pool) → at′ ≤ length input → k + 65535 ≤ 65535 * at′
-          → Beside (k + 65535) s′ p′
+      by : ((at′ : ℕ) (y′ : Tally) (s′ : Memories) (p′ : Pool) → at′ ≤ length input → k + MOST-CALLS ≤ MOST-CALLS * at′
+          → Beside (k + MOST-CALLS) s′ p′
           → table onBytes f input at′ (n + 1) y′ s′ ≡ table onPlain f input at′ (n + 1) y′ p′)
           → Dec (at < length input) → table onBytes (suc f) input at n y s ≡ table onPlain (suc f) input at n y p
       by rest (no g) = rw (le-ltb at (length input) (omega arith)) refl

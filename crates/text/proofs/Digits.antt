@@ -10,7 +10,7 @@ use lib.ListN.{length, length-append}
 use Rattle.text.specs.Texts.{digits, decimal}
 use Rattle.text.specs.Lines.{lineText}
 
--- more places than a number needs change nothing
+-- more digits than a number needs change nothing
 enough : (f g n : ℕ) → n < f → n < g → digits f n ≡ digits g n
 unfolding digits
 enough zero g n h k = absurd (omega arith)

@@ -40,17 +40,17 @@ anchor-injective a b f g e = sym (anchor-of-word a f) ∙ ap anchorOf e ∙ anch
 
 -- the states are the three
 pub states : (s : ℕ) → isState s ≡ true → (s ≡ EMPTY) ⊎ ((s ≡ PARTIAL) ⊎ (s ≡ FULL))
-states s e = elim (decLt s 1) [
+states s e = elim (decLt s PARTIAL) [
   | yes l ↦ inl (omega arith)
-  | no l ↦ elim (decLt s 2) [
+  | no l ↦ elim (decLt s FULL) [
     | yes m ↦ inr (inl (omega arith))
-    | no m ↦ inr (inr (omega (arith, leb-true s 2 e)))
+    | no m ↦ inr (inr (omega (arith, leb-true s FULL e)))
   ]
 ]
 
 -- of the numbers of two bits, 3 alone is no state
 pub no-state : (s : ℕ) → s < 4 → (isState s ≡ false) ↔ (s ≡ 3)
-no-state s h = (λ e. omega (arith, leb-false s 2 e), λ e. lt-leb s 2 (omega arith))
+no-state s h = (λ e. omega (arith, leb-false s FULL e), λ e. lt-leb s FULL (omega arith))
 
 -- ---- the anchors that the steps write
 
@@ -77,7 +77,7 @@ returned-state a first group n = either-state (eqb (a .count + group) n)
 pub returned-fits : (a : Anchor) (first group n : ℕ) → first < 2147483648 → Room a group n
     → AnchorFits (returned a first group n)
 returned-fits a first group n h r =
-    let s = leb-true (stateAt (a .count + group) n) 2 (returned-state a first group n) in
+    let s = leb-true (stateAt (a .count + group) n) FULL (returned-state a first group n) in
     record { state = omega arith; avail = h; count = omega arith }
 
 -- ---- the test by which an exchange is won

@@ -12,7 +12,7 @@ use Rattle.words.specs.Mark.{bitAt}
 
 -- ---- every bit but one
 
--- a bit below the place i is one of the remainder by 2 ^ i
+-- a bit below the bit i is one of the remainder by 2 ^ i
 low-at : (n d j : ℕ) → bitAt (n % 2 ^ (d + 1 + j)) j ≡ bitAt n j
 low-at n d j = ap (λ (x : ℕ). x % 2) (field n (d + 1) j) ∙ mod-mod-pow (n / 2 ^ j) d 1
 
@@ -21,7 +21,7 @@ low-bit n i j h =
     let e : i - j - 1 + 1 + j ≡ i = omega arith in
     subst (λ (k : ℕ). bitAt (n % 2 ^ k) j ≡ bitAt n j) e (low-at n (i - j - 1) j)
 
--- a bit above the place i is one of what stands above it
+-- a bit above the bit i is one of what stands above it
 high-at : (n i d : ℕ) → bitAt (n / 2 ^ i / 2) d ≡ bitAt n (i + (1 + d))
 high-at n i d = ap (λ (x : ℕ). x % 2) (shr-shr (n / 2 ^ i) 1 d ∙ shr-shr n i (1 + d))
 
@@ -30,7 +30,7 @@ high-bit n i j h =
     let e : i + (1 + (j - i - 1)) ≡ j = omega arith in
     high-at n i (j - i - 1) ∙ ap (bitAt n) e
 
--- two numbers that agree below and above the place i have every other bit in common
+-- two numbers that agree below and above the bit i have every other bit in common
 module _ (x y i : ℕ) (low : x % 2 ^ i ≡ y % 2 ^ i) (high : x / 2 ^ i / 2 ≡ y / 2 ^ i / 2) (j : ℕ) where
   agree-low : j < i → bitAt x j ≡ bitAt y j
   agree-low h = sym (low-bit x i j h) ∙ ap (λ (n : ℕ). bitAt n j) low ∙ low-bit y i j h

@@ -9,6 +9,7 @@ use borrow.Author.Tests.{eq-eqb, ne-eqb}
 use lib.Bits.{bitAnd, bitOr, and-mask, and-le-l, or-lt}
 use lib.Dec.{eqb}
 use lib.Pow.{pow-pos, pow-lt, shl-exact}
+use Rattle.limits.specs.Limits.{WORD-MARKS}
 use Rattle.words.specs.Mark.{bitAt, isSet, withSet, withClear, Changed}
 use Rattle.words.proofs.Bits.{added-here, added-others, and-bit, or-bit, and-rest}
 
@@ -81,12 +82,12 @@ module _ (w i : ℕ) where
   pub or-set : bitOr w (2 ^ i) ≡ withSet w i
   or-set = omega (arith, set-sum, clear-sum, or-bit w i)
 
-  module _ (k : ℕ) (fits : w < 2 ^ k) (place : i < k) where
+  module _ (k : ℕ) (fits : w < 2 ^ k) (inside : i < k) where
     pub and-clear : bitAnd w (2 ^ k - 1 - 2 ^ i) ≡ withClear w i
-    and-clear = omega (arith, clear-sum, and-rest w i k fits place)
+    and-clear = omega (arith, clear-sum, and-rest w i k fits inside)
 
     pub set-below : withSet w i < 2 ^ k
-    set-below = rw or-set at (or-lt k w (2 ^ i) fits (pow-lt place))
+    set-below = rw or-set at (or-lt k w (2 ^ i) fits (pow-lt inside))
 
     pub clear-below : withClear w i < 2 ^ k
     clear-below = omega (arith, clear-sum)
@@ -96,16 +97,16 @@ module _ (w i : ℕ) where
 pub tested : (w i : ℕ) → eqb (bitAnd (w / 2 ^ i) 1) 1 ≡ isSet w i
 tested w i = ap (λ (x : ℕ). eqb x 1) (and-mask (w / 2 ^ i) 1)
 
-shifted : (i : ℕ) → i < 64 → 1 * 2 ^ i % 18446744073709551616 ≡ 2 ^ i
-shifted i h = shl-exact 1 i 64 (omega arith) (omega arith) ∙ one-mul (2 ^ i)
+shifted : (i : ℕ) → i < WORD-MARKS → 1 * 2 ^ i % 18446744073709551616 ≡ 2 ^ i
+shifted i h = shl-exact 1 i WORD-MARKS (omega arith) (omega arith) ∙ one-mul (2 ^ i)
 
-pub set-changed : (w i : ℕ) → i < 64
+pub set-changed : (w i : ℕ) → i < WORD-MARKS
     → Changed w i 1 (withSet w i) (bitOr w (1 * 2 ^ i % 18446744073709551616))
 set-changed w i h =
     rw (shifted i h, or-set w i) (record { value = refl; here = set-here w i; others = set-others w i })
 
-pub clear-changed : (w i : ℕ) → w < 18446744073709551616 → i < 64
+pub clear-changed : (w i : ℕ) → w < 18446744073709551616 → i < WORD-MARKS
     → Changed w i 0 (withClear w i) (bitAnd w (18446744073709551615 - 1 * 2 ^ i % 18446744073709551616))
 clear-changed w i l h =
-    rw (shifted i h, and-clear w i 64 l h)
+    rw (shifted i h, and-clear w i WORD-MARKS l h)
     (record { value = refl; here = clear-here w i; others = clear-others w i })

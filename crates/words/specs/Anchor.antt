@@ -19,7 +19,7 @@ FULL = 2
 
 -- 0 to 2 are states; two bits hold one number more
 abbrev pub isState : ℕ → Bool
-isState s = leb s 2
+isState s = leb s FULL
 
 -- state in the low 2 bits, then avail in 31 bits, then count in 31
 abbrev pub anchorOf : ℕ → Anchor
