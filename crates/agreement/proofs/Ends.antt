@@ -266,7 +266,7 @@ module _ (lent : Lengths) (v : View) (link : ℕ → ℕ) (t : ℕ) where
         (at-place (h .0) (h .1 .place) (omega arith) (h .1 .class) ∙ wins-push Back (h .1)),
   )
 
-  -- a task that finds the list of spare regions empty answers to the head read of the push back
+  -- a task that finds the list of spare regions empty goes to the head read of the push back
   pub to-back : Tested lent v t → FindsEmpty Region v t → placeAfter o v t ≡ pushPlace Back
   unfolding Steps.stepAt
   to-back T F =

@@ -24,7 +24,7 @@ push-later Back = omega arith
 push-later Release = omega arith
 push-later Offer = omega arith
 
--- a list of such items: the lists of descriptors, and that of the spare regions
+-- the lists by what their items are: those of descriptors, and that of the spare regions
 pub data ListOf : Items → ℕ → Type 0 where
   descriptors : {ℓ : ℕ} → ℓ < DESCRIPTOR-LISTS → ListOf descriptor-items ℓ
   spare-regions : ListOf region-items SPARE-REGIONS
@@ -40,7 +40,7 @@ pushed-list Back c h = descriptors {ℓ = SPARE-DESCRIPTORS} (omega arith)
 pushed-list Release c h = spare-regions
 pushed-list Offer c h = descriptors {ℓ = c} (omega arith)
 
--- its number is one of the lists'
+-- a list's number is below the number of lists
 pub below-lists : {items : Items} {ℓ : ℕ} → ListOf items ℓ → ℓ < LISTS
 below-lists (descriptors l) = omega arith
 below-lists spare-regions = omega arith

@@ -33,7 +33,7 @@ use Rattle.stepped.proofs.MovePlaces.{push-steps}
 use Rattle.agreement.specs.Events.{Recent}
 use Rattle.agreement.specs.Contents.{slotOf, contentsOf}
 use Rattle.agreement.specs.Relation.{at-read, at-next, at-exchange, nexts, inHand, PushRelated, plainPush}
-use Rattle.agreement.specs.Relation.{FoundState, r-popping, r-pushing, r-idle, r-working}
+use Rattle.agreement.specs.Relation.{ReleaseNoted, r-popping, r-pushing, r-idle, r-working}
 use Rattle.agreement.proofs.Slots.{toPlace}
 use Rattle.agreement.proofs.Couple.{mine}
 use Rattle.stepped.proofs.Conjunction.{both-true}
@@ -87,7 +87,7 @@ module _ {regions : ℕ} {v : View} {area : List ℕ} {m : Mem} {t : ℕ} {k : �
   -- ---- the head read
 
   pub push-read : (P : Push) (z : State) → At regions v area m t (working (pushing (pushOf v t z P) read)) k
-      → FoundState P (v (TaskState t)) z
+      → ReleaseNoted P (v (TaskState t)) z
       → Both regions v area m (Lists.pushRead v regions t (v (TaskClass t)) P)
       (Steps.pushStep t k (pushOf v t z P) read m)
   unfolding Lists.pushRead
@@ -105,7 +105,7 @@ module _ {regions : ℕ} {v : View} {area : List ℕ} {m : Mem} {t : ℕ} {k : �
   -- ---- the next written
 
   pub push-next : (P : Push) (z : State) {n : ℕ} → At regions v area m t (working (pushing (pushOf v t z P) (next n))) k
-      → FoundState P (v (TaskState t)) z
+      → ReleaseNoted P (v (TaskState t)) z
       → PushRelated regions (contentsOf v area) m (slotOf v t) P (next n)
       → Both regions v area m (Lists.pushNext v regions t (v (TaskClass t)) P)
       (Steps.pushStep t k (pushOf v t z P) (next n) m)
@@ -128,7 +128,7 @@ module _ {regions : ℕ} {v : View} {area : List ℕ} {m : Mem} {t : ℕ} {k : �
   -- ---- the exchange
 
   push-won : (P : Push) (z : State) {n : ℕ} → At regions v area m t (working (pushing (pushOf v t z P) (exchange n))) k
-      → FoundState P (v (TaskState t)) z
+      → ReleaseNoted P (v (TaskState t)) z
       → Won v m t (pushItems P) (listOf v t P) (itemAt v t P + 1) (itemAt v t P ∷ m .row (listOf v t P))
       → Both regions v area m (Lists.whenPushed v regions t (v (TaskClass t)) P (pushed (listOf v t P) (itemAt v t P))
       (Head (listOf v t P) := advanced v t (itemAt v t P) ∷ []))
@@ -152,7 +152,7 @@ module _ {regions : ℕ} {v : View} {area : List ℕ} {m : Mem} {t : ℕ} {k : �
 
   pub push-exchange : (P : Push) (z : State) {n : ℕ}
       → At regions v area m t (working (pushing (pushOf v t z P) (exchange n))) k
-      → FoundState P (v (TaskState t)) z
+      → ReleaseNoted P (v (TaskState t)) z
       → PushRelated regions (contentsOf v area) m (slotOf v t) P (exchange n)
       → m .won (listOf v t P) < n + TAGS
       → Both regions v area m (Lists.pushExchange v regions t (v (TaskClass t)) P)
@@ -189,7 +189,7 @@ module _ {regions : ℕ} {v : View} {area : List ℕ} {m : Mem} {t : ℕ} {k : �
 -- a step of a push, wherever it is
 pub push-both : {regions : ℕ} {v : View} {area : List ℕ} {m : Mem} {t : ℕ} {k : ℕ → List ℕ} {φ : Phase} (link : ℕ → ℕ)
     (P : Push) (z : State) → At regions v area m t (working (pushing (pushOf v t z P) φ)) k
-    → FoundState P (v (TaskState t)) z → PushRelated regions (contentsOf v area) m (slotOf v t) P φ
+    → ReleaseNoted P (v (TaskState t)) z → PushRelated regions (contentsOf v area) m (slotOf v t) P φ
     → Recent (m .won (Steps.pushList (pushOf v t z P))) φ
     → Both regions v area m (Stepped.stepAt v link regions t (v (TaskClass t)) (v (TaskPlace t)))
     (Steps.pushStep t k (pushOf v t z P) φ m)

@@ -68,12 +68,12 @@ pub record PopReady (m : Mem) (s : Slot) (ℓ items n : ℕ) : Type 0 where
 pub record PushReady (s : Slot) (x : ℕ) (nx : ℕ → ℕ) : Type 0 where
   pub written : nx x ≡ s .noted .head .item
 
--- the column of the nexts of such items
+-- the column of the nexts of the descriptors, or of the regions
 abbrev pub nexts : Items → Contents → ℕ → ℕ
 nexts descriptor-items a = a .lists .descriptorNext
 nexts region-items a = a .lists .regionNext
 
--- the item in hand
+-- the descriptor in hand, or the region
 abbrev pub inHand : Items → TaskHand → ℕ
 inHand descriptor-items h = h .descriptor
 inHand region-items h = h .region
@@ -105,12 +105,12 @@ plainPush Back c u h z = Plain.back c (h .descriptor)
 plainPush Release c u h z = Plain.release c u (h .descriptor) z (h .region)
 plainPush Offer c u h z = Plain.offer c u (h .descriptor)
 
--- a release has noted the state that it found, for the step after it
-abbrev pub FoundState : Push → ℕ → State → Type 0
-FoundState Retire was z = Unit {0}
-FoundState Back was z = Unit {0}
-FoundState Release was z = was ≡ stateNumber z
-FoundState Offer was z = Unit {0}
+-- a release has noted the state that it found, for the step after it; of the other pushes nothing is asked
+abbrev pub ReleaseNoted : Push → ℕ → State → Type 0
+ReleaseNoted Retire was z = Unit {0}
+ReleaseNoted Back was z = Unit {0}
+ReleaseNoted Release was z = was ≡ stateNumber z
+ReleaseNoted Offer was z = Unit {0}
 
 -- the index by which an anchor names a chain's first block, which is given plus one, or 0 for none: n for none
 abbrev pub firstIndex : ℕ → ℕ → ℕ
@@ -147,7 +147,7 @@ pub data WorkRelated (regions : ℕ) (a : Contents) (m : Mem) (s : Slot) : Work 
   r-a1 : s .place ≡ A1 → WorkRelated regions a m s (a1 (s .class))
   r-popping : (P : Pop) {φ : Phase} → PopRelated regions m s P φ
       → WorkRelated regions a m s (popping (plainPop P (s .class) (s .hand)) φ)
-  r-pushing : (P : Push) (z : State) {φ : Phase} → FoundState P (s .hand .state) z → PushRelated regions a m s P φ
+  r-pushing : (P : Push) (z : State) {φ : Phase} → ReleaseNoted P (s .hand .state) z → PushRelated regions a m s P φ
       → WorkRelated regions a m s (pushing (plainPush P (s .class) (s .unit) (s .hand) z) φ)
   r-a3-read : s .place ≡ A3-READ → WorkRelated regions a m s (a3-read (s .class) (s .hand .descriptor))
   -- the noted anchor is PARTIAL, names a block, and counts 1 to n

@@ -1,4 +1,5 @@
--- What ties the bytes of the stepped run to the plain pool, before and after every event of every run.
+-- What ties the bytes of the stepped run to the plain pool, before and after every event of every run; and what is said
+-- of the noted states beside it.
 use mathlib.Core.Path.{_≡_}
 use mathlib.Core.List.{List}
 use Prim.Native.Nat.{ℕ, _≤_, _<_}

@@ -1,2 +1,2 @@
 // The agreement of the stepped pool with the plain pool: definitions and laws. It has no code, and no crate of code
-// needs it but the stand's program, whose contract speaks of the plain pool.
+// needs it.

@@ -1,4 +1,4 @@
--- Tests that a step or a call makes: what holds of each of their results holds of the result.
+-- Tests that a step or a call makes: what holds of each result holds after the tests.
 use Prim.Native.Nat.{ℕ, _*_, _/_, _≤_, _<_}
 use native.Mathlib.Omega.{arith}
 use native.Mathlib.Decide.{ℕ-discrete, decLt}
@@ -10,7 +10,7 @@ use Rattle.plain.specs.Calls.{Pool, Start, Lengths, StartArea, StartTask
 use Rattle.plain.specs.Calls.{refuse, became, tested, startCall}
 use Rattle.plain.specs.Invariant.{Invariant}
 
--- a test
+-- a test: what holds of both of its results holds of its result
 pub either : {P X : Type 0} (Q : X → Type 0) (d : Dec P) (x y : X) → (P → Q x) → (¬ P → Q y) → Q (if d x y)
 either Q (yes p) x y a b = a p
 either Q (no n) x y a b = b n
@@ -35,7 +35,7 @@ started b lent =
 
 -- tests 1, 2, 3 of a start: it is refused, or begins a new run
 pub by-start-tests : (Q : Pool × Answer → Type 0) (b : Start) (lent : Lengths) (s : Pool)
-    → ((n : ℕ) → 1 ≤ n → n ≤ 5 → Q (refuse n s))
+    → ((n : ℕ) → 1 ≤ n → n ≤ 3 → Q (refuse n s))
     → (StartArea (lent .area) → StartTasks (b .tasks) → Q (started b lent))
     → Q (startCall b lent s)
 by-start-tests Q b lent s no-more h =

@@ -1,7 +1,7 @@
 -- The theorems about the plain pool, for every list of calls.
 -- What needs no invariant, and so holds in every state, stands in two other modules. `step-facts` of Steps: the codes
--- of a step, where 12 and 13 come from, the way to the push back, at most one more won exchange. Of Answers, for a
--- call: `never-14`, `only-12`, `only-13`, `always-12`, `always-13`, `always-back`, `most`.
+-- of a step, where 12 and 13 come from, the way to the push back, at most one more won exchange. Of CallAnswers, for
+-- a call: `never-14`, `only-12`, `only-13`, `always-12`, `always-13`, `always-back`, `most`.
 use mathlib.Core.Path.{_≡_}
 use mathlib.Core.List.{List}
 use Prim.Native.Nat.{ℕ, _≤_, _<_}

@@ -81,7 +81,7 @@ pushList Back c = SPARE-DESCRIPTORS
 pushList Release c = SPARE-REGIONS
 pushList Offer c = c
 
--- its items; the task has the one in hand that it pushes
+-- its items; the task has in hand the one that it pushes
 abbrev pub pushItems : Push → Items
 pushItems Retire = descriptor-items
 pushItems Back = descriptor-items

@@ -31,8 +31,8 @@ tableText t = columnsText ++ rowsText (t .0) (t .1)
 unfoldable pub output : List ℕ → Memories → List ℕ
 output input s = tableText (table onBytes (length input) input 0 0 noneCounted s)
 
--- What the stand's program ensures: in the bytes `out` that it hands to its one write call, before and after, stands
--- at the start the output for its input, on its two memories, which are zero at first; it is r bytes long.
+-- What the stand's program ensures of its buffer, which is `out` before and `out′` after: the first r bytes of `out′`,
+-- which it hands to its one write call, are the output for its input on its two memories, which are zero at first.
 abbrev pub Plays : (input out out′ : List ℕ) → ℕ → Type 0
 Plays input out out′ r = Appended out out′ 0 (output input zeros) r
 
@@ -40,6 +40,6 @@ Plays input out out′ r = Appended out out′ 0 (output input zeros) r
 unfoldable pub plainOutput : List ℕ → List ℕ
 plainOutput input = tableText (table onPlain (length input) input 0 0 noneCounted unstarted)
 
--- the same claim about the plain pool: what stands there is its output for that input
+-- the same claim about the plain pool: these bytes are its output for that input
 abbrev pub PlaysPlain : (input out out′ : List ℕ) → ℕ → Type 0
 PlaysPlain input out out′ r = Appended out out′ 0 (plainOutput input) r

@@ -1,0 +1,2 @@
+-- The list moves, by place.
+pub mod MoveAt
