@@ -1,2 +1,0 @@
--- The list moves, by place.
-pub mod MoveAt
