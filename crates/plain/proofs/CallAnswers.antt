@@ -132,15 +132,21 @@ step-not-14 n no-descriptor e = absurd (omega arith)
 step-not-14 n no-region e = absurd (omega arith)
 step-not-14 n finishes e = absurd (omega arith)
 
+-- A start, a refusal and a beginning answer 11 at most: a call with a larger code is a step.
+past-11 : {Q : Type 0} {n : ℕ} (c : Call) (lent : Lengths) (s : Pool) → 11 < n → plainCall c lent s .1 .code ≡ n
+    → ((t : ℕ) → t < s .tasks → plainCall c lent s ≡ became s (stepOf t (s .mem)) → Q) → Q
+past-11 {Q} {n} c lent s l e g = by (call-is c lent s)
+  where
+    by : CallIs c s (plainCall c lent s) → Q
+    by (starts h w) = absurd (omega arith)
+    by (begins h k w) = absurd (omega arith)
+    by (steps t f l h) = g t l h
+
 -- No call answers 14.
 pub never-14 : (c : Call) (lent : Lengths) (s : Pool) → plainCall c lent s .1 .code ≢ 14
-never-14 c lent s = by (call-is c lent s)
-  where
-    by : CallIs c s (plainCall c lent s) → plainCall c lent s .1 .code ≢ 14
-    by (starts h w) e = absurd (omega arith)
-    by (begins h k w) e = absurd (omega arith)
-    by (steps t f l h) e =
-        step-not-14 (stepOf t (s .mem) .1 .code) (step-facts t (s .mem) .code) (answer-code s h e)
+never-14 c lent s e =
+    past-11 c lent s (omega arith) e (λ t l h.
+    step-not-14 (stepOf t (s .mem) .1 .code) (step-facts t (s .mem) .code) (answer-code s h e))
 
 -- Each call adds at most one won exchange to each list of a started pool.
 pub most : (n : ℕ) (c : Call) (lent : Lengths) (s : Pool) → AtMost n s → AtMost (suc n) (plainCall c lent s .0)
@@ -160,29 +166,21 @@ most n c lent s g = by (call-is c lent s)
 -- A call answers 12 only if it is a step that reads the empty list of spare descriptors.
 pub only-12 : (c : Call) (lent : Lengths) (s : Pool) → plainCall c lent s .1 .code ≡ 12
     → EndsBy12 s (plainCall c lent s .1)
-only-12 c lent s = by (call-is c lent s)
-  where
-    by : CallIs c s (plainCall c lent s) → plainCall c lent s .1 .code ≡ 12 → EndsBy12 s (plainCall c lent s .1)
-    by (starts h w) e = absurd (omega arith)
-    by (begins h k w) e = absurd (omega arith)
-    by (steps t f l h) e =
-        let r = step-facts t (s .mem) .twelve (answer-code s h e) in
-        record { t = t; fits = l; reads = r .0; decided = ap (λ (x : Pool × Answer). x .1 .decided) h ∙ r .1 }
+only-12 c lent s e =
+    past-11 c lent s (omega arith) e (λ t l h.
+    let r = step-facts t (s .mem) .twelve (answer-code s h e) in
+    record { t = t; fits = l; reads = r .0; decided = ap (λ (x : Pool × Answer). x .1 .decided) h ∙ r .1 })
 
 -- A call answers 13 only if it is a step that wins the exchange that pushes a descriptor back.
 pub only-13 : (c : Call) (lent : Lengths) (s : Pool) → plainCall c lent s .1 .code ≡ 13
     → EndsBy13 s (plainCall c lent s .1)
-only-13 c lent s = by (call-is c lent s)
-  where
-    by : CallIs c s (plainCall c lent s) → plainCall c lent s .1 .code ≡ 13 → EndsBy13 s (plainCall c lent s .1)
-    by (starts h w) e = absurd (omega arith)
-    by (begins h k w) e = absurd (omega arith)
-    by (steps t f l h) e =
-        let r = step-facts t (s .mem) .thirteen (answer-code s h e) in
-        record {
-          t = t;
-          d = r .0;
-          fits = l;
-          pushes = r .1;
-          decided = ap (λ (x : Pool × Answer). x .1 .decided) h ∙ r .2;
-        }
+only-13 c lent s e =
+    past-11 c lent s (omega arith) e (λ t l h.
+    let r = step-facts t (s .mem) .thirteen (answer-code s h e) in
+    record {
+      t = t;
+      d = r .0;
+      fits = l;
+      pushes = r .1;
+      decided = ap (λ (x : Pool × Answer). x .1 .decided) h ∙ r .2;
+    })
