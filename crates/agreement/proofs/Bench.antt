@@ -31,15 +31,15 @@ use Rattle.plain.specs.Steps.{Result, stepOf}
 use Rattle.plain.specs.Calls.{Pool, Start, allocate, step, startMem, rising, unstarted}
 use Rattle.plain.specs.Calls as Plain
 use Rattle.plain.proofs.PlaceAlone.{taskOf}
+use Rattle.plain.proofs.CallTests.{passed}
 use Rattle.control.specs.Layout.{TaskPlace, TaskClass}
 use Rattle.control.specs.Places.{A1}
 use Rattle.control.specs.Answers.{codeOf}
 use Rattle.stepped.specs.Outcome.{Memories, Outcome, refuse, accept}
 use Rattle.stepped.specs.Calls.{Lent, lengths}
 use Rattle.stepped.specs.Calls as Stepped
-use Rattle.agreement.specs.Events.{Event, call, whole, Taken, Premises}
+use Rattle.agreement.specs.Events.{Event, call, whole, Premises}
 use Rattle.agreement.specs.Reached.{starting}
-use Rattle.agreement.proofs.Simulation.{taken-is}
 use Rattle.agreement.proofs.Undisturbed.{brief, finishing, taskAnswers, Finishes, told, opens}
 use Rattle.agreement.proofs.AnswersOfRuns.{steppedAnswers, wholeAnswers, answered-from-start, WritesHeld, short}
 
@@ -171,7 +171,7 @@ module _ (area : List ℕ) (b : Start) (t : ℕ) (a : Plain.StartArea (length ar
   abbrev pool : Mem → Pool
   pool m = record { tasks = b .tasks; regions = regions; mem = m }
 
-  passes : (m : Mem) → Taken (lengths (lends area)) t (pool m)
+  passes : (m : Mem) → Plain.Tested (lengths (lends area)) t (pool m)
   passes m = record { control-is = refl; started = T .0; area-is = omega (arith, a); below = l }
 
   starts : whole (starting b area) unstarted ≡ (pool (startMem regions), going nothing)
@@ -188,7 +188,7 @@ module _ (area : List ℕ) (b : Start) (t : ℕ) (a : Plain.StartArea (length ar
       → whole (call (allocate t size) (lends area)) (pool (startMem regions)) ≡ (pool (begun size), going nothing)
   unfolding Plain.plainCall startMem
   begins-so size p q =
-      taken-is (Plain.beginAllocate t size (startMem regions)) (passes (startMem regions))
+      passed (Plain.beginAllocate t size (startMem regions)) (passes (startMem regions))
       ∙ ap (Plain.became (pool (startMem regions)))
       (if-no (ℕ-discrete size 0) _ _ (λ e. absurd (omega arith))
       ∙ if-no (decLt LARGEST-SIZE size) _ _ (λ e. absurd (omega arith)))
@@ -199,7 +199,7 @@ module _ (area : List ℕ) (b : Start) (t : ℕ) (a : Plain.StartArea (length ar
   steps-so zero m = refl
   steps-so (suc n) m =
       ap (λ x. x .1 ∷ wholeAnswers (replicate n (call (step t) (lends area))) (x .0))
-      (taken-is (stepOf t m) (passes m))
+      (passed (stepOf t m) (passes m))
       ∙ ap (λ q. stepOf t m .1 ∷ q) (steps-so n (stepOf t m .0))
 
   -- "partial lists empty", "both spare lists rising from item 0 on top"

@@ -9,7 +9,7 @@ use Rattle.rows.specs.Totals.{total}
 use Rattle.fields.specs.Columns.{Field, View, assigned, Has, firstByte, width, Sound}
 use Rattle.fields.specs.Little.{Bytes}
 use Rattle.fields.proofs.Little.{getLE-lt}
-use Rattle.links.specs.Link.{LinkWrite, _⇒_, linked}
+use Rattle.links.specs.Link.{LinkWrite, _⇒_, withLinks}
 use Rattle.plain.specs.State.{Mem}
 use Rattle.plain.specs.Moves.{Answer}
 use Rattle.plain.specs.Steps.{Result}
@@ -26,7 +26,7 @@ answerOf o = record { code = codeOf (o .answer); value = valueOf (o .answer); de
 
 -- the memories after an outcome, column by column
 abbrev pub afterwards : Outcome → View → List ℕ → Contents
-afterwards o v area = contentsOf (assigned (o .writes) v) (linked (o .links) area)
+afterwards o v area = contentsOf (assigned (o .writes) v) (withLinks (o .links) area)
 
 -- each link is written in a block of an open region that is in no user's hands
 abbrev pub Apart : Mem → List LinkWrite → Type 0

@@ -13,7 +13,7 @@ use Rattle.rows.specs.Totals.{total}
 use Rattle.rows.specs.Weights.{one}
 use Rattle.rows.proofs.Totals.{total-found, total-one, total-two}
 use Rattle.rows.proofs.Weights.{below-is, below-max, when-same}
-use Rattle.classes.specs.Geometry.{Block}
+use Rattle.classes.specs.Geometry.{BlockOf}
 use Rattle.classes.proofs.BlockUnits.{inside}
 use Rattle.classes.proofs.Tables.{units-low}
 use Rattle.links.specs.Link.{LINK-BYTES, _⇒_, link, withLink}
@@ -48,7 +48,7 @@ pub record Valid (m : Mem) (v : ℕ) : Type 0 where
   pub d : ℕ
   pub fits : d < DESCRIPTORS
   pub counts : IsOpen (m .descriptor d .state)
-  pub block : Block (m .descriptor d .region) (m .descriptor d .class) v
+  pub block : BlockOf (m .descriptor d .region) (m .descriptor d .class) v
 
 pub valid : (m : Mem) (v : ℕ) → 1 ≤ total DESCRIPTORS (insideWeight v) (m .descriptor) → Valid m v
 valid m v h =

@@ -11,7 +11,7 @@ use lib.ListN.{length}
 use Rattle.limits.specs.Limits.{CONTROL-BYTES, REGION-BYTES, AREA-BYTES, TASKS, CLASSES, DESCRIPTORS, LARGEST-SIZE}
 use Rattle.limits.specs.Limits.{WORD-MARKS}
 use Rattle.fields.specs.Columns.{View, Write, _:=_}
-use Rattle.links.specs.Link.{LinkWrite, link, linked}
+use Rattle.links.specs.Link.{LinkWrite, link, withLinks}
 use Rattle.words.specs.Head.{itemOf, advancedWord}
 use Rattle.words.specs.Anchor.{EMPTY, anchorOf}
 use Rattle.words.specs.Mark.{isSet}
@@ -39,7 +39,8 @@ use Rattle.agreement.specs.Ends.{WritesNothing, Leaves, oneOf, testRefus
 use Rattle.agreement.specs.Ends.{placeRefusals, stepRefusals, Begins, StepAnswers, StartEnds, BeginEnds, StepEnds}
 use Rattle.agreement.specs.Ends.{FindsEmpty, WinsPush, InPush, placeAfter, IsEnd, BegunOutcome}
 use Rattle.stepped.specs.Calls.{Tested, Lent, lengths}
-use Rattle.agreement.proofs.Ways.{branch, accepted-no, more, tests, passed, Cause, Ending, CallEnding, refused}
+use Rattle.stepped.proofs.CallTests.{branch, tests, passed}
+use Rattle.agreement.proofs.Ways.{accepted-no, more, among-tests, Cause, Ending, CallEnding, refused}
 use Rattle.agreement.proofs.Ways.{going, ended, at-call, sent}
 use Rattle.agreement.proofs.StepWays.{step-at}
 
@@ -56,7 +57,7 @@ begins-no-end ns (Refused n) b i = i
 pub leaves : (o : Outcome) (s : Memories) → WritesNothing o → Leaves (effect o s) s
 leaves o s h n e = (
   ap (λ (ws : List Write). changed ws (s .control)) (h n e .0),
-  ap (λ (ls : List LinkWrite). linked ls (s .area)) (h n e .1),
+  ap (λ (ls : List LinkWrite). withLinks ls (s .area)) (h n e .1),
 )
 
 -- ---- beginnings
@@ -71,12 +72,12 @@ begin-ends (denied h) = record { nothing = λ n e. (refl, refl); answers = h }
 begin-ends begun = record { nothing = λ n e. absurd (accepted-no e); answers = tt }
 
 -- the tests, and "6 the task has a request in hand"
-begin-tests : (P : Outcome → Type 0) (lent : Lengths) (v : View) (t : ℕ) (x : Outcome) (ms : List ℕ)
+begin-tests : (lent : Lengths) (v : View) (t : ℕ) (P : Outcome → Type 0) (x : Outcome) (ms : List ℕ)
     → ((n : ℕ) → oneOf (testRefusals ++ (6 ∷ ms)) n ≡ true → P (refuse n)) → P x
     → P (Calls.tested lent v t (Calls.whenIdle v t x))
 unfolding Calls.whenIdle
-begin-tests P lent v t x ms r k =
-    tests P lent v t _ (λ n h. r n (more testRefusals (6 ∷ ms) n h))
+begin-tests lent v t P x ms r k =
+    tests lent v t P _ (λ n h. r n (more testRefusals (6 ∷ ms) n (among-tests h)))
     (λ T. branch P (ltb (v (TaskPlace t)) PLACES) (λ e. branch P (eqb (v (TaskPlace t)) IDLE) (λ f. k) (λ f. r 6 refl))
     (λ e. r 14 refl))
 
@@ -85,7 +86,7 @@ module _ (lent : Lengths) (v : View) (t : ℕ) where
   unfolding Calls.allocateOutcome Calls.beginAllocate
   allocate-ends size =
       let P = Beginning allocateRefusals in
-      begin-ends (begin-tests P lent v t _ (8 ∷ 9 ∷ []) (λ n h. denied h)
+      begin-ends (begin-tests lent v t P _ (8 ∷ 9 ∷ []) (λ n h. denied h)
       (branch P (eqb size 0) (λ e. denied refl) (λ e. branch P (ltb LARGEST-SIZE size) (λ f. denied refl)
       (λ f. begun))))
 
@@ -98,7 +99,7 @@ module _ (lent : Lengths) (v : View) (t : ℕ) where
       let a = v (Anchor d) in
       let r = v (DescriptorRegion d) in
       let c = v (DescriptorClass d) in
-      begin-ends (begin-tests P lent v t _ (10 ∷ 11 ∷ []) (λ n h. denied h)
+      begin-ends (begin-tests lent v t P _ (10 ∷ 11 ∷ []) (λ n h. denied h)
       (branch P (ltb (regionOf u) (v Regions)) (λ e.
       branch P (eqb entry 0) (λ f. denied refl) (λ f. branch P (leb entry DESCRIPTORS) (λ f.
       branch P (ltb r (v Regions)) (λ g. branch P (eqb r (regionOf u)) (λ h.
@@ -115,7 +116,7 @@ module _ (lent : Lengths) (v : View) (t : ℕ) where
   unfolding Calls.allocateOutcome Calls.beginAllocate
   smallest-class size =
       let P : Outcome → Type 0 = λ o. o .answer ≡ Accepted → BegunOutcome t size o in
-      begin-tests P lent v t _ [] (λ n h e. absurd (accepted-no (sym e)))
+      begin-tests lent v t P _ [] (λ n h e. absurd (accepted-no (sym e)))
       (branch P (eqb size 0) (λ e f. absurd (accepted-no (sym f))) (λ e.
       branch P (ltb LARGEST-SIZE size) (λ f g. absurd (accepted-no (sym g))) (λ f g.
       let z : size ≢ 0 = eqb-false size 0 e in
@@ -191,7 +192,7 @@ module _ (lent : Lengths) (v : View) (link : ℕ → ℕ) (t : ℕ) where
   ending =
       let P = CallEnding v t in
       let c = v (TaskClass t) in
-      tests P lent v t _ (λ n h. refused (more testRefusals (7 ∷ []) n h))
+      tests lent v t P _ (λ n h. refused (more testRefusals (7 ∷ []) n (among-tests h)))
       (λ T. branch P (ltb IDLE (v (TaskPlace t)))
       (λ e. branch P (ltb c CLASSES)
       (λ f. at-call (step-at v link t (ltb-true c CLASSES f) (ltb-true IDLE (v (TaskPlace t)) e)))
@@ -202,7 +203,7 @@ module _ (lent : Lengths) (v : View) (link : ℕ → ℕ) (t : ℕ) where
   not-refused : ((n : ℕ) → o .answer ≢ Refused n) → Tested lent v t
   unfolding Calls.stepOutcome
   not-refused =
-      tests (λ x. ((n : ℕ) → x .answer ≢ Refused n) → Tested lent v t) lent v t _
+      tests lent v t (λ x. ((n : ℕ) → x .answer ≢ Refused n) → Tested lent v t) _
       (λ n h k. absurd (k n refl)) (λ T k. T)
 
   end-passed : (a : Answer) → IsEnd a → o .answer ≡ a → Tested lent v t
@@ -213,7 +214,7 @@ module _ (lent : Lengths) (v : View) (link : ℕ → ℕ) (t : ℕ) where
       → o ≡ Steps.stepAt v link (v Regions) t (v (TaskClass t)) place
   unfolding Calls.stepOutcome Steps.stepOf
   at-place T e l h =
-      passed lent v t _ T
+      passed _ T
       ∙ rw (lt-ltb IDLE (v (TaskPlace t)) (omega arith), lt-ltb (v (TaskClass t)) CLASSES h, e)
 
   -- the step at the place of a task that is not idle is refused by 14 alone

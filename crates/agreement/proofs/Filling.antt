@@ -16,7 +16,7 @@ use Rattle.rows.proofs.Linked.{linked-frame}
 use Rattle.rows.proofs.Weights.{when-same}
 use Rattle.fields.specs.Columns.{View, _:=_}
 use Rattle.classes.specs.Classes.{perRegion}
-use Rattle.classes.specs.Geometry.{unitOf, indexOf, Block}
+use Rattle.classes.specs.Geometry.{unitOf, indexOf, BlockOf}
 use Rattle.classes.proofs.BlockUnits.{block-at, index-below, region-is, unit-again}
 use Rattle.classes.proofs.Tables.{perRegion-high}
 use Rattle.links.specs.Link.{link}
@@ -45,7 +45,7 @@ use Rattle.agreement.proofs.Caching.{top-tested, push-both}
 
 -- a block of a region r that is under way is in the area
 under-region : {regions : ℕ} {v : View} {area : List ℕ} {m : Mem} {t : ℕ} {p : Place} {k : ℕ → List ℕ} {r c u : ℕ}
-    → At regions v area m t p k → Block r c u → 1 ≤ count u (underWay p) → r < regions
+    → At regions v area m t p k → BlockOf r c u → 1 ≤ count u (underWay p) → r < regions
 under-region {u = u} w b o = rw (← (region-is b)) (home-below (w .pair) (home-of (w .pair .turn) u o))
 
 module _ {regions : ℕ} {v : View} {area : List ℕ} {m : Mem} {t : ℕ} {k : ℕ → List ℕ} where
@@ -140,7 +140,7 @@ module _ {regions : ℕ} {v : View} {area : List ℕ} {m : Mem} {t : ℕ} {k : �
       let left = v (TaskLeft t) in
       let next = link area x in
       let o : 1 ≤ count x (x ∷ y ∷ q) = omega (arith, when-same x 1) in
-      let b : Block r c y = counts-block r c y (omega (arith, h y, when-same y 1)) in
+      let b : BlockOf r c y = counts-block r c y (omega (arith, h y, when-same y 1)) in
       let i : next < perRegion c = omega (arith, first-of l, index-below b) in
       let once : count x (y ∷ q) ≡ 0 = omega (arith, mine-under (w .pair) x o .2, when-same x 1) in
       miss _ (eqb left 1) (ne-eqb left 1 (omega arith)) (pass (ltb next (perRegion c)) (lt-ltb next (perRegion c) i)
@@ -170,7 +170,7 @@ module _ {regions : ℕ} {v : View} {area : List ℕ} {m : Mem} {t : ℕ} {k : �
       let n = v (CacheCount t c) in
       let top = v (CacheTop t c) in
       let o : 1 ≤ count x (x ∷ q) = omega (arith, when-same x 1) in
-      let b : Block r c x = counts-block r c x (omega (arith, h x)) in
+      let b : BlockOf r c x = counts-block r c x (omega (arith, h x)) in
       let z : unitOf r c i ≡ x = ap (unitOf r c) (first-of l) ∙ unit-again b in
       let p = placeHolds (w .pair .turn) .1 in
       pass (ltb r regions && ltb i (perRegion c) && oneTo (perRegion c) left && ltb n (perRegion c) && isTop regions c n

@@ -21,10 +21,10 @@ use Rattle.stepped.specs.Start.{startImage}
 use Rattle.stepped.specs.Calls as Calls
 use Rattle.stepped.specs.Calls.{Tested, Lent, lengths, effectIn}
 use Rattle.stepped.proofs.Conjunction.{right-true}
+use Rattle.stepped.proofs.CallTests.{branch, tests}
 use Rattle.agreement.specs.Events.{Event, call, write, stepped}
 use Rattle.agreement.specs.Tied.{FoundStates}
 use Rattle.agreement.specs.Reached.{starting}
-use Rattle.agreement.proofs.Ways.{branch, tests}
 use Rattle.agreement.proofs.StartRelated.{at-state}
 use Rattle.agreement.proofs.Starting.{image-view}
 use Rattle.agreement.proofs.SoundMoves.{Own, Owns, Fit}
@@ -66,7 +66,7 @@ module _ (b : List ℕ) (long : length b ≡ CONTROL-BYTES) (old : FoundStates b
   tested-found : (lent : Lengths) (t : ℕ) (x : Outcome) → (Tested lent (seen b) t → Fit t x)
       → FoundStates (left b (Calls.tested lent (seen b) t x))
   tested-found lent t x fit =
-      tests (λ o. FoundStates (left b o)) lent (seen b) t x (λ n h. old)
+      tests lent (seen b) t (λ o. FoundStates (left b o)) x (λ n h. old)
       (λ T started u l. subst (λ (z : ℕ). z ≤ FULL)
       (sym (seen-changed (x .writes) b (TaskState u) long (fit T .sound) (omega (arith, l))))
       (writes-found t u (x .writes) (fit T .own) (seen b) (old (T .started) u l)))

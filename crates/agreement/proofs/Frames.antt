@@ -15,7 +15,7 @@ use Rattle.rows.proofs.Linked.{linked-frame}
 use Rattle.rows.proofs.Totals.{total-one}
 use Rattle.rows.proofs.Update.{update-all₂}
 use Rattle.rows.proofs.Weights.{when-same}
-use Rattle.links.specs.Link.{link, linked}
+use Rattle.links.specs.Link.{link}
 use Rattle.plain.specs.State.{Mem, Note, Phase, Work, Place, working, Task, region}
 use Rattle.plain.specs.Noted.{Noted, unnoted, pop-noted, push-noted, anchor-noted, entry-noted, noted}
 use Rattle.plain.specs.Held.{holdsDescriptor, holdsRegion, underWay}

@@ -9,7 +9,7 @@ use Rattle.rows.specs.Comparisons.{other, same, same?}
 use Rattle.rows.proofs.Counting.{count-append}
 use Rattle.rows.proofs.Weights.{when-other, when-same}
 use Rattle.classes.specs.Classes.{perRegion}
-use Rattle.classes.specs.Geometry.{Block, indexOf, regionOf, unitOf}
+use Rattle.classes.specs.Geometry.{BlockOf, indexOf, regionOf, unitOf}
 use Rattle.classes.proofs.BlockUnits.{index-below, unit-again}
 use Rattle.links.specs.Link.{link}
 use Rattle.plain.specs.State.{Mem, Place}
@@ -36,7 +36,7 @@ same-group e f r i G = record {
 
 -- where the group's last block is: in the group's region, where its index says
 pub record Last (s : Slot) (l : ℕ) : Type 0 where
-  pub block : Block (s .hand .region) (s .class) l
+  pub block : BlockOf (s .hand .region) (s .class) l
   pub at : unitOf (s .hand .region) (s .class) (s .group .last) ≡ l
 
 -- the task's group is under way at its place
@@ -55,7 +55,7 @@ module _ {regions : ℕ} {a : Contents} {m : Mem} {t : ℕ} {p : Place} {k : ℕ
       )
 
   -- the group's blocks are of its region and the request's class
-  pub of-region : (v : ℕ) → 1 ≤ count v (y ∷ g) → Block (a .slot t .hand .region) (a .slot t .class) v
+  pub of-region : (v : ℕ) → 1 ≤ count v (y ∷ g) → BlockOf (a .slot t .hand .region) (a .slot t .class) v
   of-region v h =
       let f = home-of (w .turn) v (omega (arith, sub v)) in
       let z : regionOf v ≡ regionOf y = elim (same? v y) [
@@ -63,8 +63,8 @@ module _ {regions : ℕ} {a : Contents} {m : Mem} {t : ℕ} {p : Place} {k : ℕ
         | other e ↦ together v (omega (arith, when-other v y 1 e))
       ] in
       let r : m .descriptor (f .d) .region ≡ a .slot t .hand .region = f .region ∙ z ∙ sym (G .region) in
-      subst (λ (c : ℕ). Block (a .slot t .hand .region) c v) (f .class ∙ class)
-      (subst (λ (x : ℕ). Block x (m .descriptor (f .d) .class) v) r (f .block))
+      subst (λ (c : ℕ). BlockOf (a .slot t .hand .region) c v) (f .class ∙ class)
+      (subst (λ (x : ℕ). BlockOf x (m .descriptor (f .d) .class) v) r (f .block))
 
   pub last-at : Last (a .slot t) (G .last)
   last-at =

@@ -11,7 +11,7 @@ use Rattle.fields.specs.Columns.{View}
 use Rattle.words.specs.Anchor.{FULL, anchorOf}
 use Rattle.words.specs.declared.anchor.Anchor.{Anchor}
 use Rattle.classes.specs.Classes.{perRegion}
-use Rattle.classes.specs.Geometry.{Block, unitOf}
+use Rattle.classes.specs.Geometry.{BlockOf, unitOf}
 use Rattle.classes.proofs.BlockUnits.{block-at, index-below, region-is}
 use Rattle.plain.specs.State.{State, stateNumber, Place, Note, Mem, region, Work, working}
 use Rattle.plain.specs.Held.{owed, classAt, underWay, holdsDescriptor, holdsRegion}
@@ -52,9 +52,7 @@ note-in {m} {c} {d} {n} N =
           (N .first),
     )
 
--- a task that noted one of the three states
-module _ (regions : ℕ) (v : View) (area : List ℕ) (m : Mem) (t : ℕ) (k : ℕ → List ℕ)
-    (noted : v (TaskState t) ≤ FULL) where
+module _ (regions : ℕ) (v : View) (area : List ℕ) (m : Mem) (t : ℕ) (k : ℕ → List ℕ) where
   abbrev c : ℕ
   c = v (TaskClass t)
 
@@ -82,7 +80,7 @@ module _ (regions : ℕ) (v : View) (area : List ℕ) (m : Mem) (t : ℕ) (k : �
   region-held w h = region-in-hand (w .turn) r (omega (arith, when-same r 1))
 
   -- a block of the task's region that is under way
-  under-region : {p : Place} {u : ℕ} → Turning p → Block r c u → 1 ≤ count u (underWay p) → r < regions
+  under-region : {p : Place} {u : ℕ} → Turning p → BlockOf r c u → 1 ≤ count u (underWay p) → r < regions
   under-region {u = u} w b o = rw (← (region-is b)) (home-below w (home-of (w .turn) u o))
 
   -- the group that is under way
@@ -157,6 +155,7 @@ module _ (regions : ℕ) (v : View) (area : List ℕ) (m : Mem) (t : ℕ) (k : �
   numbers-at-work w (r-pushing Release z e h) =
       let f = region-held w (omega arith) in
       let i = span h in
+      let n : v (TaskState t) ≤ FULL = omega (arith, number-max z, e) in
       (of-push regions v m t Release h, (omega arith, omega arith), owing z e (omega arith) refl (omega arith))
   numbers-at-work w (r-pushing Offer z e h) =
       let i = span h in
@@ -173,7 +172,7 @@ module _ (regions : ℕ) (v : View) (area : List ℕ) (m : Mem) (t : ℕ) (k : �
       let f = descriptor-held w (omega arith) in
       (no-move (omega arith), (omega arith, omega arith), fills (omega arith) (omega arith))
   numbers-at-work w (r-a4 {x = x} e l n h) =
-      let b : Block r c x = counts-block r c x (omega (arith, h x, when-same x 1)) in
+      let b : BlockOf r c x = counts-block r c x (omega (arith, h x, when-same x 1)) in
       let o : r < regions = under-region w b (omega (arith, when-same x 1)) in
       let i : v (TaskIndex t) < perRegion c = omega (arith, first-of l, index-below b) in
       let f = placeHolds (w .turn) .1 in
@@ -221,6 +220,7 @@ module _ (regions : ℕ) (v : View) (area : List ℕ) (m : Mem) (t : ℕ) (k : �
       )
   numbers-at-work w (r-f4-clear {w = z} e i) =
       let f = region-held w (omega arith) in
+      let n : v (TaskState t) ≤ FULL = omega (arith, number-max z, i) in
       (no-move (omega arith), (omega arith, omega arith), owing z i (omega arith) refl (omega arith))
 
   -- every place

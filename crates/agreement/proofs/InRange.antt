@@ -34,14 +34,13 @@ use Rattle.stepped.specs.Outcome.{Memories}
 use Rattle.agreement.specs.Events.{Event, whole, Premises, Unstarted}
 use Rattle.agreement.specs.Reached.{History, Reached, starting, from-unstarted, from-start, by-event, Along}
 use Rattle.agreement.specs.Reached.{Wherever}
-use Rattle.agreement.specs.InRange.{TaskInRange, Ranged, RangedAfter}
+use Rattle.agreement.specs.InRange.{TaskInRange, Ranged, AllRanged, RangedAfter}
 use Rattle.agreement.proofs.ListTops.{top-le, listed, listed-region, descriptor-in-hand}
 use Rattle.agreement.proofs.NotedAnchors.{note-of, first-max, number-open, number-max}
 use Rattle.agreement.proofs.Couple.{Pair, mine}
 use Rattle.agreement.proofs.TaskBlocks.{under-unit, below-tested, top-max}
 use Rattle.agreement.specs.Tied.{Tied}
 use Rattle.agreement.proofs.Both.{seen-fitting}
-use Rattle.agreement.specs.Tied.{FoundStates}
 use Rattle.agreement.proofs.Reaching.{reached-tied, reached-found, along}
 use Rattle.agreement.proofs.FreeUnderWay.{Freeing, allocates, fills, frees, owes}
 use Rattle.agreement.proofs.HandInRange.{numbers-at}
@@ -55,8 +54,7 @@ module _ (regions : ℕ) (v : View) (area : List ℕ) (m : Mem) (t : ℕ) where
   abbrev d : ℕ
   d = v (TaskDescriptor t)
 
-  module _ {p : Place} {k : ℕ → List ℕ} (w : Pair regions (contentsOf v area) m t p k)
-      (noted : v (TaskState t) ≤ FULL) where
+  module _ {p : Place} {k : ℕ → List ℕ} (w : Pair regions (contentsOf v area) m t p k) where
     abbrev c : ℕ
     c = v (TaskClass t)
 
@@ -101,7 +99,7 @@ module _ (regions : ℕ) (v : View) (area : List ℕ) (m : Mem) (t : ℕ) where
 
     task-in-range : PlaceRelated regions (contentsOf v area) m (slotOf v t) p → TaskInRange regions v t
     task-in-range P =
-        let N = numbers-at regions v area m t k noted w P in
+        let N = numbers-at regions v area m t k w P in
         let F = N .2 in
         record {
           class = mine w .fits;
@@ -150,8 +148,8 @@ module _ {regions : ℕ} (v : View) {area : List ℕ} {m : Mem} (R : Related reg
       })
 
 -- Once a pool is started, the relation between the bytes and the plain pool gives every field's range.
-pub in-range : {s₁ : Memories} {s : Pool} → Tied s₁ s → FoundStates (s₁ .control) → Ranged s₁
-in-range {s₁} {s} S noted started =
+pub in-range : {s₁ : Memories} {s : Pool} → Tied s₁ s → Ranged s₁
+in-range {s₁} {s} S started =
     let v = seen (s₁ .control) in
     let q : 1 ≤ s .tasks = omega (arith, S .tasks) in
     let R = S .related q in
@@ -178,15 +176,14 @@ in-range {s₁} {s} S noted started =
       descriptor-classes = C .descriptors .classNumbers;
       maps = λ r l. omega (arith, C .entries .maps r (omega arith), I .entries r);
       each-task =
-          λ t l. rw e
-          (task-in-range (s .regions) v (s₁ .area) (s .mem) t (pair t l) (noted started t l) (R .slots t l .place));
+          λ t l. rw e (task-in-range (s .regions) v (s₁ .area) (s .mem) t (pair t l) (R .slots t l .place));
     }
 
 -- ---- a run
 
 -- wherever a run has come
-pub reached-ranged : {h : History} {s₁ : Memories} {s : Pool} → Reached h s₁ s → Ranged s₁
-reached-ranged R = in-range (reached-tied R) (reached-found R)
+pub reached-ranged : {h : History} {s₁ : Memories} {s : Pool} → Reached h s₁ s → AllRanged s₁
+reached-ranged R = (in-range (reached-tied R), reached-found R)
 
 -- and after each event that meets its premise
 ranged-after : Wherever RangedAfter

@@ -1,4 +1,5 @@
 -- The agreement of the stepped pool with the plain pool.
+pub mod Parts
 pub mod Slots
 pub mod Sets
 pub mod Bridge

@@ -15,7 +15,7 @@ use Rattle.rows.specs.Linked.{Linked, ends, links, walk}
 use Rattle.rows.proofs.Totals.{total-one, total-two, total-only, total-same}
 use Rattle.rows.proofs.Pigeonhole.{pigeonhole}
 use Rattle.rows.proofs.Linked.{linked-walk}
-use Rattle.classes.specs.Geometry.{unitOf, Block}
+use Rattle.classes.specs.Geometry.{unitOf, BlockOf}
 use Rattle.classes.proofs.BlockUnits.{unit-again, unit-below}
 use Rattle.links.specs.Link.{link}
 use Rattle.plain.specs.State.{State, EMPTY, PARTIAL, FULL, stateNumber, Mem}
@@ -153,7 +153,7 @@ module _ {regions : ℕ} {a : Contents} {m : Mem} (small : regions ≤ REGIONS) 
   own-blocks v j PARTIAL L = L .inside v
   own-blocks v j FULL L = L .inside v
 
-  one-in : (z r c v : ℕ) → m .map r ≡ z → z ≤ DESCRIPTORS → plainClassBy z r m ≡ suc c → Block r c v
+  one-in : (z r c v : ℕ) → m .map r ≡ z → z ≤ DESCRIPTORS → plainClassBy z r m ≡ suc c → BlockOf r c v
       → m .hands v + total TASKS (blockWeight v) (m .task) + count v (plainChainBy z r m) ≡ 1
   one-in zero r c v e l f b = absurd (omega arith)
   one-in (suc d) r c v e l f b = by (opens? (m .descriptor d) r) f
@@ -175,8 +175,8 @@ module _ {regions : ℕ} {a : Contents} {m : Mem} (small : regions ≤ REGIONS) 
       by (yes q) f =
           let D = m .descriptor d in
           let g = number-open (D .state) (not-empty (D .state) (q .1)) in
-          let b′ : Block (D .region) (D .class) v =
-          subst (λ (x : ℕ). Block x (D .class) v) (sym (q .0)) (subst (λ (x : ℕ). Block r x v) (omega arith) b) in
+          let b′ : BlockOf (D .region) (D .class) v =
+          subst (λ (x : ℕ). BlockOf x (D .class) v) (sym (q .0)) (subst (λ (x : ℕ). BlockOf r x v) (omega arith) b) in
           let i : insideWeight v d D ≡ 1 = g (countBlock v (D .region) (D .class)) ∙ block-counts b′ in
           omega (
             arith,
@@ -188,23 +188,23 @@ module _ {regions : ℕ} {a : Contents} {m : Mem} (small : regions ≤ REGIONS) 
             total-only DESCRIPTORS (chainWeight v) (m .descriptor) d l (λ j k n. lone j k n i),
           )
 
-  plain-one : (r c v : ℕ) → r < regions → plainClass m r ≡ suc c → Block r c v
+  plain-one : (r c v : ℕ) → r < regions → plainClass m r ≡ suc c → BlockOf r c v
       → m .hands v + total TASKS (blockWeight v) (m .task) + count v (plainChain m r) ≡ 1
   plain-one r c v l f b = one-in (m .map r) r c v refl (I .entries r) f b
 
   chain-blocks : (z r c v : ℕ) → z ≤ DESCRIPTORS → plainClassBy z r m ≡ suc c → 1 ≤ count v (plainChainBy z r m)
-      → Block r c v
+      → BlockOf r c v
   chain-blocks zero r c v l f h = absurd (omega arith)
   chain-blocks (suc d) r c v l f h = by (opens? (m .descriptor d) r) f h
     where
       by : (q : Dec (Opens (m .descriptor d) r)) → if q (suc (m .descriptor d .class)) 0 ≡ suc c
-          → 1 ≤ count v (if q (m .descriptor d .chain) []) → Block r c v
+          → 1 ≤ count v (if q (m .descriptor d .chain) []) → BlockOf r c v
       by (no q) f h = absurd (omega arith)
       by (yes q) f h =
           let D = m .descriptor d in
           let L = open-holds (D .state) (number-open (D .state) (not-empty (D .state) (q .1))) (I .chains d l) in
-          subst (λ (x : ℕ). Block r x v) (omega arith)
-          (subst (λ (x : ℕ). Block x (D .class) v) (q .0)
+          subst (λ (x : ℕ). BlockOf r x v) (omega arith)
+          (subst (λ (x : ℕ). BlockOf x (D .class) v) (q .0)
           (counts-block (D .region) (D .class) v (omega (arith, L .inside v))))
 
   pub observed : SameObserved regions a m

@@ -17,18 +17,18 @@ use Rattle.plain.specs.Invariant.{Good}
 use Rattle.plain.specs.Held.{held}
 use Rattle.plain.proofs.StartInvariant.{start-inv}
 use Rattle.plain.proofs.Always.{call-good}
+use Rattle.plain.proofs.CallTests.{passed}
 use Rattle.control.specs.Layout.{seen, Regions}
 use Rattle.stepped.specs.Outcome.{Outcome, Memories}
 use Rattle.stepped.specs.Steps as Stepping₁
 use Rattle.stepped.specs.Calls.{Lent, lengths}
 use Rattle.stepped.specs.Calls as Stepped
-use Rattle.agreement.specs.Events.{Event, write, stepped, whole, Taken, Premise, call}
-use Rattle.agreement.specs.Events.{CallPremise}
+use Rattle.agreement.specs.Events.{Event, write, stepped, whole, Premise, call, CallPremise}
 use Rattle.agreement.specs.Agreement.{HandsKept}
 use Rattle.agreement.proofs.Both.{Both, seen-fitting}
 use Rattle.agreement.proofs.Turns.{At}
 use Rattle.agreement.specs.Tied.{Tied}
-use Rattle.agreement.proofs.Simulation.{Alike, tested-alike, taken-is}
+use Rattle.agreement.proofs.Simulation.{Alike, tested-alike}
 use Rattle.agreement.proofs.Starting.{start-alike}
 use Rattle.agreement.proofs.BeginsBoth.{when-idle, allocate-both, free-both}
 use Rattle.agreement.proofs.Stepping.{step-both}
@@ -39,14 +39,14 @@ module _ {s₁ : Memories} {s : Pool} (S : Tied s₁ s) where
   v = seen (s₁ .control)
 
   -- what is asked of a call that passes the tests 1, 4, 2, 5, of the stored number of regions
-  at-regions : {lent : Lengths} {t : ℕ} (F : ℕ → Outcome) (y : Result) → Taken lent t s
+  at-regions : {lent : Lengths} {t : ℕ} (F : ℕ → Outcome) (y : Result) → Plain.Tested lent t s
       → Both (s .regions) v (s₁ .area) (s .mem) (F (s .regions)) y
       → Both (s .regions) v (s₁ .area) (s .mem) (F (v Regions)) y
   at-regions F y T B =
       subst (λ (r : ℕ). Both (s .regions) v (s₁ .area) (s .mem) (F r) y) (sym (S .regions (T .started))) B
 
   -- the task's turn, where it is idle
-  turn : {lent : Lengths} {u : ℕ} → Taken lent u s → (t : ℕ) → t < TASKS → s .mem .task t .place ≡ idle
+  turn : {lent : Lengths} {u : ℕ} → Plain.Tested lent u s → (t : ℕ) → t < TASKS → s .mem .task t .place ≡ idle
       → At (s .regions) v (s₁ .area) (s .mem) t idle (s .mem .task t .cache)
   turn T t l e = record {
     pair = record {
@@ -63,7 +63,7 @@ module _ {s₁ : Memories} {s : Pool} (S : Tied s₁ s) where
     fitting = seen-fitting (s₁ .control) (S .bytes);
   }
 
-  begin-allocate : (lent : Lengths) (t size : ℕ) → Taken lent t s
+  begin-allocate : (lent : Lengths) (t size : ℕ) → Plain.Tested lent t s
       → Both (s .regions) v (s₁ .area) (s .mem) (Stepped.whenIdle v t (Stepped.beginAllocate t size))
       (Plain.whenIdle (s .mem .task t .place) (Plain.beginAllocate t size (s .mem)) (s .mem))
   begin-allocate lent t size T =
@@ -71,7 +71,7 @@ module _ {s₁ : Memories} {s : Pool} (S : Tied s₁ s) where
       let R = S .related (T .started) in
       when-idle R t _ _ (s .mem .task t .place) (R .slots t l .place) (λ e. allocate-both (turn T t l e) size)
 
-  begin-free : (lent : Lengths) (t u : ℕ) → Taken lent t s
+  begin-free : (lent : Lengths) (t u : ℕ) → Plain.Tested lent t s
       → Both (s .regions) v (s₁ .area) (s .mem) (Stepped.whenIdle v t (Stepped.beginFree v (s .regions) t u))
       (Plain.whenIdle (s .mem .task t .place) (Plain.beginFree t u (s .regions) (s .mem)) (s .mem))
   begin-free lent t u T =
@@ -80,9 +80,9 @@ module _ {s₁ : Memories} {s : Pool} (S : Tied s₁ s) where
       when-idle R t _ _ (s .mem .task t .place) (R .slots t l .place) (λ e. free-both (turn T t l e) u)
 
 -- the plain pool's own invariant after a call that passes the tests
-good-after : {lent : Lengths} {t : ℕ} {s : Pool} (y : Result) → Good (Plain.tested t lent s y .0) → Taken lent t s
+good-after : {lent : Lengths} {t : ℕ} {s : Pool} (y : Result) → Good (Plain.tested t lent s y .0) → Plain.Tested lent t s
     → Good (Plain.became s y .0)
-good-after y g T = subst (λ (x : Pool × Answer). Good (x .0)) (taken-is y T) g
+good-after y g T = subst (λ (x : Pool × Answer). Good (x .0)) (passed y T) g
 
 -- what the turn of one call shows of the memories after it
 abbrev pub CallKeeps : Call → Memories → Pool → Memories → Type 0
@@ -111,7 +111,7 @@ call-alike (allocate t size) lent s₁ s S h =
     let y = Plain.whenIdle (s .mem .task t .place) (Plain.beginAllocate t size (s .mem)) (s .mem) in
     tested-alike S (lengths lent) t _ y
     (good-after y (call-good (allocate t size) (lengths lent) s (S .good)))
-    (begin-allocate S (lengths lent) t size) (ℕ-discrete (lent .control) CONTROL-BYTES)
+    (begin-allocate S (lengths lent) t size)
 call-alike (free t u) lent s₁ s S h =
     let v₁ = seen (s₁ .control) in
     let y = Plain.whenIdle (s .mem .task t .place) (Plain.beginFree t u (s .regions) (s .mem)) (s .mem) in
@@ -119,7 +119,6 @@ call-alike (free t u) lent s₁ s S h =
     (good-after y (call-good (free t u) (lengths lent) s (S .good)))
     (λ T. at-regions S (λ r. Stepped.whenIdle v₁ t (Stepped.beginFree v₁ r t u)) y T
     (begin-free S (lengths lent) t u T))
-    (ℕ-discrete (lent .control) CONTROL-BYTES)
 call-alike (step t) lent s₁ s S h =
     let y = Steps.stepOf t (s .mem) in
     tested-alike S (lengths lent) t _ y
@@ -128,7 +127,6 @@ call-alike (step t) lent s₁ s S h =
     (step-both t (omega (arith, T .below, S .good .few)) (S .good .small (T .started))
     (seen-fitting (s₁ .control) (S .bytes))
     (S .related (T .started)) (S .good .inv (T .started)) (h T)))
-    (ℕ-discrete (lent .control) CONTROL-BYTES)
 
 -- one event
 pub alike : (e : Event) (s₁ : Memories) (s : Pool) → Tied s₁ s → Premise e s

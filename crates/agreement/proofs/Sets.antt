@@ -1,5 +1,5 @@
 -- The two memories with one part changed, and with some columns of a part changed. A part's other columns are named in
--- the setters of that part alone, and the other parts in `onLists` to `withArea` alone.
+-- the setters of that part alone, and the other parts in `through` alone.
 use mathlib.Core.List.{List}
 use Prim.Native.Nat.{ℕ}
 use Rattle.rows.specs.Update.{update}
@@ -7,32 +7,39 @@ use Rattle.links.specs.Link.{withLink}
 use Rattle.words.specs.declared.head.Head.{Head}
 use Rattle.words.specs.declared.anchor.Anchor.{Anchor}
 use Rattle.agreement.specs.Contents.{Slot, Lists, Descriptors, Entries, Contents}
+use Rattle.agreement.proofs.Parts.{first, behind}
 
 -- ---- the parts
 
+-- the parts, each with those behind it
+abbrev Parts : Type 0
+Parts = Lists × (Descriptors × (Entries × ((ℕ → Slot) × (List ℕ × Unit {0}))))
+
+-- all of them after a change of one: here alone they are all named, and a further one comes last
+abbrev through : (Parts → Parts) → Contents → Contents
+through f a =
+    let p = f (a .lists, (a .descriptors, (a .entries, (a .slot, (a .area, tt))))) in
+    record { lists = p .0; descriptors = p .1 .0; entries = p .1 .1 .0; slot = p .1 .1 .1 .0; area = p .1 .1 .1 .1 .0 }
+
 -- other lists
 abbrev pub onLists : (Lists → Lists) → Contents → Contents
-onLists f a =
-    record { lists = f (a .lists); descriptors = a .descriptors; entries = a .entries; slot = a .slot; area = a .area }
+onLists f = through (first f)
 
 -- other descriptors
 abbrev pub onDescriptors : (Descriptors → Descriptors) → Contents → Contents
-onDescriptors f a =
-    record { lists = a .lists; descriptors = f (a .descriptors); entries = a .entries; slot = a .slot; area = a .area }
+onDescriptors f = through (behind (first f))
 
 -- another map, other marks
 abbrev pub onEntries : (Entries → Entries) → Contents → Contents
-onEntries f a =
-    record { lists = a .lists; descriptors = a .descriptors; entries = f (a .entries); slot = a .slot; area = a .area }
+onEntries f = through (behind (behind (first f)))
 
 -- other parts of the tasks
 abbrev pub withSlots : (ℕ → Slot) → Contents → Contents
-withSlots S a =
-    record { lists = a .lists; descriptors = a .descriptors; entries = a .entries; slot = S; area = a .area }
+withSlots S = through (behind (behind (behind (first (λ x. S)))))
 
 -- another area
 abbrev pub withArea : List ℕ → Contents → Contents
-withArea b a = record { lists = a .lists; descriptors = a .descriptors; entries = a .entries; slot = a .slot; area = b }
+withArea b = through (behind (behind (behind (behind (first (λ x. b))))))
 
 -- ---- a part with another column
 

@@ -1,72 +1,51 @@
 -- One task's part with some columns changed. The columns of what it noted, has in hand or grouped are named in the
--- setters of that part alone, and the other parts in `toRequest` to `withCaches` alone.
+-- setters of that part alone, and the other parts in `through` alone.
 use Prim.Native.Nat.{ℕ}
 use Rattle.rows.specs.Update.{update}
 use Rattle.words.specs.declared.head.Head.{Head}
 use Rattle.words.specs.declared.anchor.Anchor.{Anchor}
 use Rattle.agreement.specs.Contents.{TaskNotes, TaskHand, TaskGroup, TaskCaches, Slot}
+use Rattle.agreement.proofs.Parts.{first, behind}
 
 -- ---- the parts
 
+-- the parts, each with those behind it: first the place, the class and the unit of the request
+abbrev SlotParts : Type 0
+SlotParts = (ℕ × (ℕ × ℕ)) × (TaskNotes × (TaskHand × (TaskGroup × (TaskCaches × Unit {0}))))
+
+-- all of them after a change of one: here alone they are all named, and a further one comes last
+abbrev through : (SlotParts → SlotParts) → Slot → Slot
+through f s =
+    let p = f ((s .place, (s .class, s .unit)), (s .noted, (s .hand, (s .group, (s .caches, tt))))) in
+    record {
+      place = p .0 .0;
+      class = p .0 .1 .0;
+      unit = p .0 .1 .1;
+      noted = p .1 .0;
+      hand = p .1 .1 .0;
+      group = p .1 .1 .1 .0;
+      caches = p .1 .1 .1 .1 .0;
+    }
+
 -- a request begun: place, class and unit
 abbrev pub toRequest : ℕ → ℕ → ℕ → Slot → Slot
-toRequest n c u s = record {
-  place = n;
-  class = c;
-  unit = u;
-  noted = s .noted;
-  hand = s .hand;
-  group = s .group;
-  caches = s .caches;
-}
+toRequest n c u = through (first (λ x. (n, (c, u))))
 
 -- other notes
 abbrev withNotes : TaskNotes → Slot → Slot
-withNotes n s = record {
-  place = s .place;
-  class = s .class;
-  unit = s .unit;
-  noted = n;
-  hand = s .hand;
-  group = s .group;
-  caches = s .caches;
-}
+withNotes n = through (behind (first (λ x. n)))
 
 -- other things in hand
 abbrev withHand : TaskHand → Slot → Slot
-withHand h s = record {
-  place = s .place;
-  class = s .class;
-  unit = s .unit;
-  noted = s .noted;
-  hand = h;
-  group = s .group;
-  caches = s .caches;
-}
+withHand h = through (behind (behind (first (λ x. h))))
 
 -- another group
 abbrev withGroup : TaskGroup → Slot → Slot
-withGroup g s = record {
-  place = s .place;
-  class = s .class;
-  unit = s .unit;
-  noted = s .noted;
-  hand = s .hand;
-  group = g;
-  caches = s .caches;
-}
+withGroup g = through (behind (behind (behind (first (λ x. g)))))
 
 -- other caches
 abbrev pub withCaches : TaskCaches → Slot → Slot
-withCaches k s = record {
-  place = s .place;
-  class = s .class;
-  unit = s .unit;
-  noted = s .noted;
-  hand = s .hand;
-  group = s .group;
-  caches = k;
-}
+withCaches k = through (behind (behind (behind (behind (first (λ x. k))))))
 
 -- ---- the columns
 

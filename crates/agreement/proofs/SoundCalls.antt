@@ -27,9 +27,9 @@ use Rattle.stepped.specs.Ranges.{isAnchor}
 use Rattle.stepped.specs.Steps as Steps
 use Rattle.stepped.specs.Calls as Calls
 use Rattle.stepped.specs.Calls.{Tested}
+use Rattle.stepped.proofs.CallTests.{branch, tests}
 use Rattle.agreement.specs.Ends.{placeAfter}
 use Rattle.agreement.proofs.Both.{Fitting, seen-fitting}
-use Rattle.agreement.proofs.Ways.{branch, tests}
 use Rattle.agreement.proofs.SoundMoves.{Own, Owns, Fit, none, test}
 use Rattle.agreement.proofs.SoundSteps.{step-fit}
 
@@ -102,7 +102,7 @@ module _ (lent : Lengths) (link : ℕ → ℕ) (t : ℕ) (b : List ℕ) (bytes :
   unfolding Calls.stepOutcome
   step-seen g has =
       let P : Outcome → Type 0 = λ x. seen (changed (x .writes) b) g ≡ assigned (x .writes) (seen b) g in
-      tests P lent (seen b) t _ (λ n h. refl)
+      tests lent (seen b) t P _ (λ n h. refl)
       (λ T. seen-changed (Steps.stepOf (seen b) link (seen b Regions) t .writes) b g (sym long ∙ T .control-is)
       (step-fit (seen-fitting b bytes) link T .sound) (has T))
 
@@ -137,7 +137,7 @@ module _ {t u : ℕ} (other : u ≢ t) where
 
     tested-stays : (x : Outcome) → (Tested lent (seen b) t → Fit t x)
         → Stays (Calls.tested lent (seen b) t x)
-    tested-stays x f = tests Stays lent (seen b) t x (λ n h. refl) (λ T. stays x (sym long ∙ T .control-is) (f T))
+    tested-stays x f = tests lent (seen b) t Stays x (λ n h. refl) (λ T. stays x (sym long ∙ T .control-is) (f T))
 
     pub step-others : (link : ℕ → ℕ) → Stays (Calls.stepOutcome lent (seen b) link t)
     unfolding Calls.stepOutcome

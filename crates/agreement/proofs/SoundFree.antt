@@ -21,8 +21,8 @@ use Rattle.control.specs.Layout.{GroupCount}
 use Rattle.stepped.specs.Ranges.{oneTo, isBlock, isTop, isAnchor, hasFirst, hasRoom}
 use Rattle.stepped.specs.Free as Free
 use Rattle.stepped.proofs.Conjunction.{both, left-true, right-true}
+use Rattle.stepped.proofs.CallTests.{branch}
 use Rattle.agreement.proofs.Both.{Fitting}
-use Rattle.agreement.proofs.Ways.{branch}
 use Rattle.agreement.proofs.SoundMoves as Moves
 use Rattle.agreement.proofs.SoundMoves.{Fit, test}
 use Rattle.agreement.proofs.SoundAllocate.{block-max, top-max}

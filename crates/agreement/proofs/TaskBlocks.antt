@@ -15,7 +15,7 @@ use Rattle.rows.proofs.Linked.{linked-frame}
 use Rattle.rows.proofs.Totals.{total-one}
 use Rattle.rows.proofs.Update.{update-all₂}
 use Rattle.rows.proofs.Weights.{when-same}
-use Rattle.classes.specs.Geometry.{Block, regionOf}
+use Rattle.classes.specs.Geometry.{BlockOf, regionOf}
 use Rattle.classes.proofs.BlockUnits.{block-first, region-is}
 use Rattle.links.specs.Link.{link, withLink}
 use Rattle.plain.specs.State.{Mem, Place}
@@ -34,7 +34,7 @@ use Rattle.agreement.proofs.Couple
 use Rattle.agreement.proofs.Couple.{Pair, agrees, mine, own-block, region-below}
 
 -- a block of a region of the area passes the test of a block
-pub block-tested : {regions r c v : ℕ} → Block r c v → r < regions → Ranges.isBlock regions c v ≡ true
+pub block-tested : {regions r c v : ℕ} → BlockOf r c v → r < regions → Ranges.isBlock regions c v ≡ true
 block-tested {r = r} {c = c} {v = v} b l = both-true (lt-ltb (regionOf v) _ (rw (region-is b) l)) (block-first b)
 
 module _ {regions : ℕ} {a : Contents} {m : Mem} {t : ℕ} {p : Place} {k : ℕ → List ℕ} (w : Pair regions a m t p k) where

@@ -11,10 +11,10 @@ use Rattle.rows.specs.Counting.{count}
 use Rattle.rows.specs.Totals.{total}
 use Rattle.rows.proofs.Totals.{total-one}
 use Rattle.fields.specs.Columns.{View}
-use Rattle.links.specs.Link.{link, withLink, LinkWrite, _⇒_, linked, LINK-BYTES}
+use Rattle.links.specs.Link.{link, withLink, LinkWrite, _⇒_, withLinks, LINK-BYTES}
 use Rattle.links.proofs.Links.{link-byte, byte-other}
 use Rattle.classes.specs.Classes.{block}
-use Rattle.classes.specs.Geometry.{regionOf, Block}
+use Rattle.classes.specs.Geometry.{regionOf, BlockOf}
 use Rattle.classes.proofs.BlockUnits.{inside, apart, region-is}
 use Rattle.classes.proofs.Tables.{units-low}
 use Rattle.plain.specs.State.{Mem}
@@ -30,11 +30,11 @@ use Rattle.agreement.proofs.Couple.{Valid, valid, same-class}
 use Rattle.agreement.proofs.Both.{Apart}
 
 -- two different blocks of open regions: a byte of one is none of the other's link
-away : {r c u r′ c′ v : ℕ} → Block r c u → Block r′ c′ v → (r ≡ r′ → c ≡ c′) → v ≢ u → (at : ℕ) → UNIT-BYTES * u ≤ at
+away : {r c u r′ c′ v : ℕ} → BlockOf r c u → BlockOf r′ c′ v → (r ≡ r′ → c ≡ c′) → v ≢ u → (at : ℕ) → UNIT-BYTES * u ≤ at
     → at < UNIT-BYTES * u + block c
     → UNIT-BYTES * v ≤ at → UNIT-BYTES * v + LINK-BYTES ≤ at
 away {r} {c} {u} {r′} {c′} {v} b d same n at p q l = elim (ℕ-discrete r r′) [
-  | yes e ↦ (let f : Block r c v = rw (same e, e) d in elim (decLt u v) [
+  | yes e ↦ (let f : BlockOf r c v = rw (same e, e) d in elim (decLt u v) [
     | yes k ↦ absurd (omega (arith, apart b f k))
     | no k ↦ (let h : v < u = omega arith in omega (arith, apart f b h, units-low c))
   ])
@@ -106,7 +106,7 @@ module _ {regions : ℕ} {m : Mem} (I : Invariant regions m) (u at : ℕ) (held 
 
   -- ---- the pool's link writes leave the byte
 
-  pub byte-kept : (ls : List LinkWrite) (area : List ℕ) → Apart m ls → getD (linked ls area) at 0 ≡ getD area at 0
+  pub byte-kept : (ls : List LinkWrite) (area : List ℕ) → Apart m ls → getD (withLinks ls area) at 0 ≡ getD area at 0
   byte-kept [] area h = refl
   byte-kept ((x ⇒ y) ∷ ls) area h =
       byte-kept ls (withLink area x y) (h .1)

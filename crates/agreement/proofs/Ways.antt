@@ -1,19 +1,17 @@
--- The tests that every call but a start passes first, and the ways in which a step can end, whatever the two memories
--- hold.
-use Prim.Native.Nat.{ℕ, _*_}
+-- The numbers of the tests that every call but a start passes first, and the ways in which a step can end, whatever the
+-- two memories hold.
+use Prim.Native.Nat.{ℕ}
 use mathlib.Core.Path.{_≡_, refl, sym, subst, _∙_}
-use mathlib.Core.Logic.{_≢_, _⊎_, inr}
+use mathlib.Core.Logic.{_⊎_, inr}
 use mathlib.Core.Bool.{Bool, true, false, cond, _||_, false≢true}
 use mathlib.Core.List.{List, [], _∷_, _++_}
-use native.Mathlib.Omega.{arith}
-use borrow.Author.Tests.{eq-eqb, ne-eqb, le-leb, lt-ltb, eqb-true, eqb-false, leb-true, ltb-true}
-use lib.Dec.{eqb, leb, ltb}
-use Rattle.limits.specs.Limits.{CONTROL-BYTES, REGIONS, REGION-BYTES, TASKS}
+use borrow.Author.Tests.{eq-eqb, eqb-true}
+use lib.Dec.{eqb}
 use Rattle.fields.specs.Columns.{View, Write, _:=_, assign, assigned}
 use Rattle.links.specs.Link.{LinkWrite}
 use Rattle.plain.specs.Moves.{Decided}
 use Rattle.plain.specs.Calls.{Lengths}
-use Rattle.control.specs.Layout.{TaskPlace, Tasks, Regions}
+use Rattle.control.specs.Layout.{TaskPlace}
 use Rattle.control.specs.Places.{IDLE}
 use Rattle.control.specs.declared.answer.Answer.{Answer}
 use Rattle.control.specs.declared.answer.Answer.the-variants.{Accepted, Allocated, Freed, NoDescriptor, NoRegion}
@@ -21,17 +19,11 @@ use Rattle.control.specs.declared.answer.Answer.the-variants.{Refused}
 use Rattle.control.specs.declared.moves.Pop.the-variants.{Spare, Region}
 use Rattle.control.specs.declared.moves.Push.the-variants.{Back}
 use Rattle.stepped.specs.Outcome.{Outcome, refuse, bad, accept, over}
-use Rattle.stepped.specs.Ranges.{oneTo}
-use Rattle.stepped.specs.Calls as Calls
-use Rattle.stepped.specs.Calls.{Tested}
+use Rattle.stepped.specs.Calls.{FirstFails, control-fails, tasks-fail, not-started, regions-fail, area-fails}
+use Rattle.stepped.specs.Calls.{task-fails}
 use Rattle.agreement.specs.Ends.{oneOf, testRefusals, placeRefusals, stepRefusals, Begins, FindsEmpty, WinsPush}
 use Rattle.agreement.specs.Ends.{InPush}
-use Rattle.stepped.proofs.Conjunction.{left-true, right-true}
-
--- a test: what holds of both ways on holds of what follows
-pub branch : {A : Type 0} (P : A → Type 0) {x y : A} (b : Bool) → (b ≡ true → P x) → (b ≡ false → P y) → P (cond b x y)
-branch P true h k = h refl
-branch P false h k = k refl
+use Rattle.stepped.proofs.CallTests.{branch}
 
 -- ---- answers
 
@@ -58,42 +50,14 @@ only m n h = alone (eqb n m) (eqb-true n m) h
 
 -- ---- the tests 1, 4, 2, 5
 
--- what holds of a refusal by the tests, and of what follows them, holds of the call
-pub tests : (P : Outcome → Type 0) (lent : Lengths) (v : View) (t : ℕ) (x : Outcome)
-    → ((n : ℕ) → oneOf testRefusals n ≡ true → P (refuse n)) → (Tested lent v t → P x)
-    → P (Calls.tested lent v t x)
-unfolding Calls.tested
-tests P lent v t x r k =
-    branch P (eqb (lent .control) CONTROL-BYTES) (λ e.
-    branch P (leb (v Tasks) TASKS) (λ f.
-    branch P (eqb (v Tasks) 0) (λ g. r 4 refl) (λ g.
-    branch P (oneTo REGIONS (v Regions)) (λ h.
-    branch P (eqb (lent .area) (REGION-BYTES * v Regions)) (λ i.
-    branch P (ltb t (v Tasks)) (λ j.
-    let z : v Tasks ≢ 0 = eqb-false (v Tasks) 0 g in
-    k (record {
-      control-is = eqb-true (lent .control) CONTROL-BYTES e;
-      started = omega arith;
-      tasks = leb-true (v Tasks) TASKS f;
-      some = leb-true 1 (v Regions) (left-true (leb 1 (v Regions)) (leb (v Regions) REGIONS) h);
-      regions = leb-true (v Regions) REGIONS (right-true (leb 1 (v Regions)) (leb (v Regions) REGIONS) h);
-      area-is = eqb-true (lent .area) (REGION-BYTES * v Regions) i;
-      below = ltb-true t (v Tasks) j;
-    })) (λ j. r 5 refl)) (λ i. r 2 refl)) (λ h. r 14 refl))) (λ f. r 14 refl)) (λ e. r 1 refl)
-
--- a call that passes them does what follows
-pub passed : (lent : Lengths) (v : View) (t : ℕ) (x : Outcome) → Tested lent v t
-    → Calls.tested lent v t x ≡ x
-unfolding Calls.tested
-passed lent v t x T = rw (
-  eq-eqb (lent .control) CONTROL-BYTES (T .control-is),
-  le-leb (v Tasks) TASKS (T .tasks),
-  ne-eqb (v Tasks) 0 (omega arith),
-  le-leb 1 (v Regions) (T .some),
-  le-leb (v Regions) REGIONS (T .regions),
-  eq-eqb (lent .area) (REGION-BYTES * v Regions) (T .area-is),
-  lt-ltb t (v Tasks) (T .below),
-)
+-- the first that fails refuses by one of the tests' numbers
+pub among-tests : {lent : Lengths} {v : View} {t n : ℕ} → FirstFails lent v t n → oneOf testRefusals n ≡ true
+among-tests (control-fails h) = refl
+among-tests (tasks-fail c h) = refl
+among-tests (not-started c h) = refl
+among-tests (regions-fail c some few h) = refl
+among-tests (area-fails c some few low high h) = refl
+among-tests (task-fails c some few low high a h) = refl
 
 -- ---- the ways out of a step
 

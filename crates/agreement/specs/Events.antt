@@ -56,13 +56,6 @@ whole (write at b) s = (s, going nothing)
 
 -- ---- the premises
 
--- a step that passes the tests 1, 4, 2, 5
-pub record Taken (lent : Lengths) (t : ℕ) (s : Pool) : Type 0 where
-  pub control-is : lent .control ≡ CONTROL-BYTES
-  pub started : 1 ≤ s .tasks
-  pub area-is : lent .area ≡ REGION-BYTES * s .regions
-  pub below : t < s .tasks
-
 -- "no head changes 2^32 times or more between a task's read and its exchange" (the demands): asked of a head exchange
 -- alone. `won` is the list's number of won exchanges, and n the one that the task noted; they are the plain pool's, for
 -- the memories have only the tag, which wraps.
@@ -93,12 +86,12 @@ pub record InHands (at : ℕ) (s : Pool) : Type 0 where
   pub from : UNIT-BYTES * unit ≤ at
   pub to : at < UNIT-BYTES * unit + block (classThere unit s)
 
--- of calls a step alone has a premise
+-- of calls a step alone has a premise, and only where it passes the tests 1, 4, 2, 5
 abbrev pub CallPremise : Call → Lengths → Pool → Type 0
 CallPremise (start b) lent s = Unit {0}
 CallPremise (allocate t size) lent s = Unit {0}
 CallPremise (free t u) lent s = Unit {0}
-CallPremise (step t) lent s = Taken lent t s → Near (s .mem .won) (noted (s .mem .task t .place))
+CallPremise (step t) lent s = Plain.Tested lent t s → Near (s .mem .won) (noted (s .mem .task t .place))
 
 -- the premise of an event, in the plain pool before it
 abbrev pub Premise : Event → Pool → Type 0

@@ -24,6 +24,7 @@ use Rattle.stepped.specs.Lists.{howMany, popPlace, popItems, pushPlace, pushIte
 use Rattle.stepped.specs.Outcome.{Memories}
 use Rattle.plain.specs.Calls.{Pool}
 use Rattle.agreement.specs.Events.{Event, stepped}
+use Rattle.agreement.specs.Tied.{FoundStates}
 
 -- 1 to most
 abbrev pub OneTo : ℕ → ℕ → Type 0
@@ -61,8 +62,9 @@ pub record HandInRange (regions : ℕ) (v : View) (t : ℕ) : Type 0 where
   pub region-filled : AtPlaces v t A4 A8 (v (TaskRegion t) < regions)
   pub region-grouped : AtPlaces v t F2 F2 (1 ≤ v (GroupCount t) → v (TaskRegion t) < regions)
   pub region-group : AtPlaces v t F3-READ F4-CLEAR (v (TaskRegion t) < regions)
-  -- the state in which its last free found the anchor, 0 before: it is in its range at every place
-  pub state : v (TaskState t) ≤ FULL
+  -- the state in which a free found the anchor, where it is still to be read
+  pub state-released : AtPlaces v t PUSH-RELEASE (PUSH-RELEASE + TO-EXCHANGE) (v (TaskState t) ≤ FULL)
+  pub state-cleared : AtPlaces v t F4-CLEAR F4-CLEAR (v (TaskState t) ≤ FULL)
 
 -- what it noted of an anchor, and the blocks that it moves or groups
 pub record ChainsInRange (v : View) (t : ℕ) : Type 0 where
@@ -144,6 +146,10 @@ pub record InRange (v : View) : Type 0 where
 abbrev pub Ranged : Memories → Type 0
 Ranged s = 1 ≤ seen (s .control) Tasks → InRange (seen (s .control))
 
+-- the same, and each task's noted state is in its range at every place, whether it is still to be read or not
+abbrev pub AllRanged : Memories → Type 0
+AllRanged s = Ranged s × FoundStates (s .control)
+
 -- after an event on the memories s₁
 abbrev pub RangedAfter : Event → Memories → Pool → Type 0
-RangedAfter e s₁ s = Ranged (stepped e s₁ .0)
+RangedAfter e s₁ s = AllRanged (stepped e s₁ .0)

@@ -13,7 +13,7 @@ use Rattle.rows.specs.Counting.{count}
 use Rattle.rows.specs.Totals.{total}
 use Rattle.rows.specs.Linked.{walk}
 use Rattle.classes.specs.Classes.{perRegion}
-use Rattle.classes.specs.Geometry.{unitOf, Block}
+use Rattle.classes.specs.Geometry.{unitOf, BlockOf}
 use Rattle.words.specs.Anchor.{EMPTY}
 use Rattle.links.specs.Link.{link}
 use Rattle.plain.specs.State.{Mem}
@@ -155,12 +155,12 @@ pub record SameObserved (regions : ℕ) (a : Contents) (m : Mem) : Type 0 where
   -- the holder of the block v of the region r, and, beyond what is asked, of every unit with regard to every region
   pub holders : (r v : ℕ) → r < regions → v < UNITS → holderIn a r v ≡ plainHolder m r v
   -- "each block of an open region is in exactly one place": counted in the memories, and in the plain pool
-  pub one-place : (r c v : ℕ) → r < regions → classBy (a .entries .map r) r a ≡ suc c → Block r c v
+  pub one-place : (r c v : ℕ) → r < regions → classBy (a .entries .map r) r a ≡ suc c → BlockOf r c v
       → a .entries .mark v + total TASKS (λ t s. withTask a t v) (a .slot) + count v (chainBy (a .entries .map r) r a)
       ≡ 1
-  pub plain-one-place : (r c v : ℕ) → r < regions → plainClass m r ≡ suc c → Block r c v
+  pub plain-one-place : (r c v : ℕ) → r < regions → plainClass m r ≡ suc c → BlockOf r c v
       → m .hands v + total TASKS (blockWeight v) (m .task) + count v (plainChain m r) ≡ 1
   -- an open region's chain has blocks of this region and class alone, so that no block stands in another region's chain
-  pub own-blocks : (r c v : ℕ) → r < regions → plainClass m r ≡ suc c → 1 ≤ count v (plainChain m r) → Block r c v
+  pub own-blocks : (r c v : ℕ) → r < regions → plainClass m r ≡ suc c → 1 ≤ count v (plainChain m r) → BlockOf r c v
   -- what is in a user's hands is a block of an open region
   pub held : (v : ℕ) → 1 ≤ m .hands v → (d : ℕ) × OpenBlock m v d

@@ -8,7 +8,7 @@ use Rattle.limits.specs.Limits.{DESCRIPTOR-LISTS, LISTS}
 use Rattle.rows.specs.Counting.{count}
 use Rattle.rows.specs.Linked.{Linked}
 use Rattle.classes.specs.Classes.{perRegion}
-use Rattle.classes.specs.Geometry.{indexOf, regionOf, Block}
+use Rattle.classes.specs.Geometry.{indexOf, regionOf, BlockOf}
 use Rattle.words.specs.Anchor.{PARTIAL}
 use Rattle.words.specs.declared.head.Head.{Head}
 use Rattle.words.specs.declared.anchor.Anchor.{Anchor}
@@ -120,7 +120,7 @@ firstIndex c (suc x) = indexOf c x
 -- the first block, if there is one, is a block of the region and the class
 abbrev pub FirstIn : ℕ → ℕ → ℕ → Type 0
 FirstIn r c zero = Unit {0}
-FirstIn r c (suc x) = Block r c x
+FirstIn r c (suc x) = BlockOf r c x
 
 -- A noted anchor: state, first block and length are those of the plain pool's note; it may be stale for ever.
 pub record NoteRelated (m : Mem) (c d : ℕ) (n : Note) (a : Anchor) : Type 0 where

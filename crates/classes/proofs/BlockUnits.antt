@@ -9,27 +9,27 @@ use lib.Dec.{ltb, eqb}
 use borrow.Author.Tests.{eq-eqb, lt-ltb, eqb-true, ltb-true}
 use Rattle.limits.specs.Limits.{UNIT-BYTES, REGION-BYTES, REGION-UNITS, REGIONS, UNITS}
 use Rattle.classes.specs.Classes.{units, block, perRegion}
-use Rattle.classes.specs.Geometry.{unitOf, regionOf, indexOf, isFirst, Block}
+use Rattle.classes.specs.Geometry.{unitOf, regionOf, indexOf, isFirst, BlockOf}
 use Rattle.classes.proofs.Tables.{units-low, fits}
 
 -- block i of region r is a block
-abbrev pub block-at : (r c i : ℕ) → i < perRegion c → Block r c (unitOf r c i)
+abbrev pub block-at : (r c i : ℕ) → i < perRegion c → BlockOf r c (unitOf r c i)
 block-at r c i h = record { at = i; below = h; is = refl }
 
 -- a block stays in its region
-pub inside : {r c u : ℕ} → Block r c u → (REGION-UNITS * r ≤ u) × (u + units c ≤ REGION-UNITS * r + REGION-UNITS)
+pub inside : {r c u : ℕ} → BlockOf r c u → (REGION-UNITS * r ≤ u) × (u + units c ≤ REGION-UNITS * r + REGION-UNITS)
 inside {c = c} b = omega (arith, mul-le-mul-left (units c) (b .below), b .is, fits c)
 
 -- .. and its bytes in the area
-pub in-area : {r c u : ℕ} (regions : ℕ) → Block r c u → r < regions → UNIT-BYTES * u + block c ≤ REGION-BYTES * regions
+pub in-area : {r c u : ℕ} (regions : ℕ) → BlockOf r c u → r < regions → UNIT-BYTES * u + block c ≤ REGION-BYTES * regions
 in-area regions b h = omega (arith, inside b)
 
 -- its name is one of 0 to 8,191, as the area has at most 16 regions
-pub unit-below : {r c u : ℕ} → Block r c u → r < REGIONS → u < UNITS
+pub unit-below : {r c u : ℕ} → BlockOf r c u → r < REGIONS → u < UNITS
 unit-below {c = c} b h = omega (arith, inside b, units-low c)
 
 -- two blocks of one region do not overlap
-pub apart : {r c u v : ℕ} → Block r c u → Block r c v → u < v → u + units c ≤ v
+pub apart : {r c u v : ℕ} → BlockOf r c u → BlockOf r c v → u < v → u + units c ≤ v
 apart {c = c} b d h = elim (decLt (b .at) (d .at)) [
   | yes e ↦ omega (arith, mul-le-mul-left (units c) e, b .is, d .is)
   | no e ↦ (let f : d .at ≤ b .at = omega arith in
@@ -37,23 +37,23 @@ apart {c = c} b d h = elim (decLt (b .at) (d .at)) [
 ]
 
 -- the units that stand before a block in its region
-offset-is : {r c u : ℕ} (b : Block r c u) → u % REGION-UNITS ≡ units c * b .at
+offset-is : {r c u : ℕ} (b : BlockOf r c u) → u % REGION-UNITS ≡ units c * b .at
 offset-is {c = c} b = omega (arith, inside b, units-low c, b .is)
 
 -- a block's first unit gives its region
-pub region-is : {r c u : ℕ} → Block r c u → regionOf u ≡ r
+pub region-is : {r c u : ℕ} → BlockOf r c u → regionOf u ≡ r
 region-is {c = c} b = omega (arith, inside b, units-low c)
 
 -- .. and its index
-pub index-is : {r c u : ℕ} (b : Block r c u) → indexOf c u ≡ b .at
+pub index-is : {r c u : ℕ} (b : BlockOf r c u) → indexOf c u ≡ b .at
 index-is {c = c} b = rw (offset-is b) (mul-div-cancel-left (b .at) (units-low c))
 
 -- which is below n
-pub index-below : {r c u : ℕ} → Block r c u → indexOf c u < perRegion c
+pub index-below : {r c u : ℕ} → BlockOf r c u → indexOf c u < perRegion c
 index-below b = rw (index-is b) (b .below)
 
 -- from a unit to its index and back
-pub unit-again : {r c u : ℕ} → Block r c u → unitOf r c (indexOf c u) ≡ u
+pub unit-again : {r c u : ℕ} → BlockOf r c u → unitOf r c (indexOf c u) ≡ u
 unit-again b = rw (index-is b) (sym (b .is))
 
 -- from a region and an index to the unit, and back to the region
@@ -73,7 +73,7 @@ same-block r q c i k h j e = (
 )
 
 -- the test of a first unit passes only at a block
-pub first-block : (c u : ℕ) → isFirst c u ≡ true → Block (regionOf u) c u
+pub first-block : (c u : ℕ) → isFirst c u ≡ true → BlockOf (regionOf u) c u
 unfolding isFirst
 first-block c u e =
     let t = and-eq-true-iff (eqb (u % REGION-UNITS % units c) 0) (ltb (indexOf c u) (perRegion c)) .0 e in
@@ -85,7 +85,7 @@ first-block c u e =
     }
 
 -- .. and at every block
-pub block-first : {r c u : ℕ} → Block r c u → isFirst c u ≡ true
+pub block-first : {r c u : ℕ} → BlockOf r c u → isFirst c u ≡ true
 unfolding isFirst
 block-first {c = c} {u} b =
     let z : u % REGION-UNITS % units c ≡ 0 = rw (offset-is b) (mul-mod-right (units c) (b .at)) in

@@ -23,7 +23,7 @@ unfoldable pub isFirst : ℕ → ℕ → Bool
 isFirst c u = eqb (u % REGION-UNITS % units c) 0 && ltb (indexOf c u) (perRegion c)
 
 -- u names a block of class c in region r: the one at an index below n
-pub record Block (r c u : ℕ) : Type 0 where
+pub record BlockOf (r c u : ℕ) : Type 0 where
   pub at : ℕ
   pub below : at < perRegion c
   pub is : u ≡ unitOf r c at

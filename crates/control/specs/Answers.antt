@@ -23,10 +23,14 @@ valueOf NoDescriptor = 0
 valueOf NoRegion = 0
 valueOf (Refused n) = 0
 
--- the answer as one number for C: the code, and 256 times the value
+-- every code is below this number
+abbrev pub CODES : ℕ
+CODES = 256
+
+-- the answer as one number for C: the code, and CODES times the value
 abbrev pub numberOf : Answer → ℕ
 numberOf Accepted = 0
-numberOf (Allocated u) = 20 + 256 * u
+numberOf (Allocated u) = 20 + CODES * u
 numberOf Freed = 20
 numberOf NoDescriptor = 12
 numberOf NoRegion = 13

@@ -2,6 +2,9 @@
 ghost use mathlib.Core.Path.{_≡_};
 ghost use Rattle.control.specs.Answers.{numberOf};
 
+// Every code is below this number.
+pub const CODES: u64 = 256;
+
 pub enum Answer {
     // Accepted, or still under way.
     Accepted,
@@ -17,13 +20,13 @@ pub enum Answer {
     Refused(u8),
 }
 
-// The answer as one number for C: the code, and 256 times the value.
+// The answer as one number for C: the code, and CODES times the value.
 pub fn number(a: Answer) -> u64
     ensures { λ r. ⌜ r ≡ numberOf a ⌝ }
 {
     match a {
         Answer::Accepted => 0,
-        Answer::Allocated(unit) => 20 + 256 * (unit as u64),
+        Answer::Allocated(unit) => 20 + CODES * (unit as u64),
         Answer::Freed => 20,
         Answer::NoDescriptor => 12,
         Answer::NoRegion => 13,

@@ -10,16 +10,16 @@ use Rattle.limits.specs.Limits.{TASKS}
 use Rattle.fields.specs.Columns.{View}
 use Rattle.plain.specs.Calls.{Call, Start, start, allocate, free, step, Lengths}
 use Rattle.control.specs.Layout.{Tasks, seen}
-use Rattle.control.specs.Answers.{codeOf, numberOf}
+use Rattle.control.specs.Answers.{CODES, codeOf, numberOf}
 use Rattle.control.specs.declared.answer.Answer.{Answer}
 use Rattle.control.specs.declared.answer.Answer.the-variants.{Accepted, Allocated, Freed, NoDescriptor, NoRegion}
 use Rattle.control.specs.declared.answer.Answer.the-variants.{Refused}
 use Rattle.stepped.specs.Outcome.{Outcome, refuse, Effect, effect, Memories}
 use Rattle.stepped.specs.Calls.{effectOf, lengths, lending}
 use Rattle.stepped.specs.Calls as Calls
+use Rattle.stepped.proofs.CallTests.{tests}
 use Rattle.agreement.specs.Ends.{Begins, startRefusals, oneOf}
 use Rattle.agreement.specs.Events.{ran, stepped}
-use Rattle.agreement.proofs.Ways.{tests}
 use Rattle.agreement.proofs.Ends.{start-ends}
 use Rattle.agreement.proofs.Lent.{other-control, other-area, start-elsewhere}
 use Rattle.pool.specs.Call.{EffectIs}
@@ -64,7 +64,7 @@ refused-alike s lent t x y (inl h) = (1, (other-control _ _ _ _ h, other-control
 refused-alike s lent t x y (inr h) =
     let l = lengths (lending lent) in
     let v = seen (s .control) in
-    let R = tests (λ z. (n : ℕ) × (z ≡ refuse n)) l v t (refuse 5) (λ n g. (n, refl)) (λ T. (5, refl)) in
+    let R = tests l v t (λ z. (n : ℕ) × (z ≡ refuse n)) (refuse 5) (λ n g. (n, refl)) (λ T. (5, refl)) in
     let unseen : (z : Outcome) → Calls.tested l v t z ≡ Calls.tested l v t (refuse 5) =
     λ z. ⊎-elim (λ g. other-area l v t z (refuse 5) g) (λ g. not-started l v t z (refuse 5) g) (h .1) in (
       R .0,
@@ -77,7 +77,7 @@ refused-alike s lent t x y (inr h) =
 module _ (s lent left : Memories) (r : ℕ) where
   -- two outcomes that refuse by the same number: the pool's memories stay, and the answers are the same
   both-refused : {o o′ : Outcome} {n : ℕ} → o ≡ refuse n → o′ ≡ refuse n → r ≡ numberOf (o′ .answer)
-      → codeOf (o′ .answer) < 256
+      → codeOf (o′ .answer) < CODES
       → (ran (effect o s) .0 ≡ s) × Number r (ran (effect o s) .1)
   both-refused {o} {o′} {n} p q e l = (
     ap (λ (z : Outcome). ran (effect z s) .0) p,

@@ -21,8 +21,9 @@ use Rattle.stepped.specs.Lists as Lists
 use Rattle.stepped.specs.Steps as Steps
 use Rattle.stepped.specs.Calls as Calls
 use Rattle.agreement.specs.Ends.{InPush, placeAfter}
-use Rattle.agreement.proofs.Ways.{branch, tests, Keeps, sent}
+use Rattle.agreement.proofs.Ways.{Keeps, sent}
 use Rattle.stepped.proofs.MovePlaces.{push-steps}
+use Rattle.stepped.proofs.CallTests.{branch, tests}
 
 module _ (v : View) (t : ℕ) where
   -- the request ended with 13, or the task is in the push
@@ -83,7 +84,7 @@ pub stays-back : (lent : Lengths) (v : View) (link : ℕ → ℕ) (t : ℕ) → 
     → Stays v t (Calls.stepOutcome lent v link t)
 unfolding Calls.stepOutcome Steps.stepOf
 stays-back lent v link t here =
-    tests (Stays v t) lent v t _ (λ n h. inr here)
+    tests lent v t (Stays v t) _ (λ n h. inr here)
     (λ T. branch (Stays v t) (ltb IDLE (v (TaskPlace t)))
     (λ e. branch (Stays v t) (ltb (v (TaskClass t)) CLASSES) (λ f. at-place v t link (v Regions) (v (TaskClass t)) here)
     (λ f. inr here))

@@ -14,7 +14,7 @@ use Rattle.control.specs.Places.{IDLE, PLACES}
 use Rattle.limits.specs.Limits.{CONTROL-BYTES}
 use Rattle.fields.specs.Columns.{View}
 use Rattle.fields.specs.Little.{Bytes}
-use Rattle.links.specs.Link.{link, linked}
+use Rattle.links.specs.Link.{link, withLinks}
 use Rattle.classes.specs.Sizes.{classOf}
 use Rattle.plain.specs.Calls.{Pool, Call, Start, start, allocate, free, step, unstarted, Lengths}
 use Rattle.plain.specs.Calls as Plain
@@ -26,22 +26,23 @@ use Rattle.stepped.specs.Steps.{stepAt}
 use Rattle.stepped.specs.Outcome.{Outcome, Memories}
 use Rattle.stepped.specs.Calls as Calls
 use Rattle.stepped.specs.Calls.{Tested, lending, effectOf, lengths}
+use Rattle.stepped.proofs.CallTests.{tests, branch}
 use Rattle.agreement.specs.Ends.{oneOf, StepAnswers, FindsEmpty, WinsPush, InPush, placeAfter, allocateRefusals}
 use Rattle.agreement.specs.Ends.{placeRefusals}
 use Rattle.agreement.specs.Ends.{stepRefusals}
 use Rattle.agreement.specs.Events.{stepped, whole, Premises, Unstarted}
 use Rattle.agreement.specs.Events as Events
 use Rattle.agreement.specs.Agreement.{Agrees, Unchanged, Untouched, AgreesAt}
-use Rattle.agreement.proofs.Ways.{only, tests, branch}
+use Rattle.agreement.proofs.Ways.{only}
 use Rattle.agreement.proofs.Ends.{allocate-ends, step-ends, effect-leaves, smallest-class, place-answers, no-descriptor}
 use Rattle.agreement.proofs.Ends.{no-region, put-back}
 use Rattle.agreement.proofs.SoundCalls.{step-place, step-others, allocate-others, free-others}
 use Rattle.agreement.specs.Reached.{happened, Reached, from-unstarted, from-start}
 use Rattle.agreement.proofs.Theorem.{reached-agrees, agreement-from-start}
-use Rattle.demands.specs.AnswerKinds.{Refusal, Ended, OfAnother, Begun}
+use Rattle.demands.specs.AnswerKinds.{Refusal, EndsRequest, OfAnother, Begun}
 use Rattle.demands.specs.Tests.{firstFailed, Passes, startTests, callTests, requestTests, allocateTests}
 use Rattle.demands.specs.Tests.{freeTests, stepTests}
-use Rattle.demands.specs.Acts.{Act, on-own, on-other, write, Contract, Happens, Run, eventOfCall, eventOfAct}
+use Rattle.demands.specs.Acts.{Act, on-own, on-other, write, Contract, Happens, AllHappen, eventOfCall, eventOfAct}
 use Rattle.demands.specs.Acts.{eventsOfActs, Answered}
 use Rattle.demands.specs.Acts.{OtherLeft, Tells, Told, WhereverActs}
 use Rattle.demands.proofs.NumberTells.{refused, accepted, ends-told, end-told}
@@ -67,7 +68,7 @@ no-links : (lent : Lengths) (v : View) (t size : ℕ) → Calls.allocateOutcome 
 unfolding Calls.allocateOutcome Calls.whenIdle Calls.beginAllocate
 no-links lent v t size =
     let P : Outcome → Type 0 = λ o. o .links ≡ [] in
-    tests P lent v t _ (λ n h. refl)
+    tests lent v t P _ (λ n h. refl)
     (λ T. branch P (ltb (v (TaskPlace t)) PLACES)
     (λ e. branch P (eqb (v (TaskPlace t)) IDLE)
     (λ f. branch P (eqb size 0) (λ g. refl) (λ g. branch P (ltb LARGEST-SIZE size) (λ h. refl) (λ h. refl)))
@@ -144,7 +145,7 @@ module _ (lent left : Memories) (r : ℕ) where
         control-is = C .control-is ∙ ap (λ ws. changed ws (lent .control)) (B .writes);
         area-is =
             C .area-is
-            ∙ ap (λ ls. linked ls (lent .area)) (no-links long (seen (lent .control)) t size);
+            ∙ ap (λ ls. withLinks ls (lent .area)) (no-links long (seen (lent .control)) t size);
       }
 
   -- the step of the call, by the definitions
@@ -194,10 +195,10 @@ module _ (lent left : Memories) (r : ℕ) where
           (stays-back long (seen (lent .control)) (link (lent .area)) t here)
 
       -- "12 and 13 .. are a request's end .. and leave the task idle", and so does a finish.
-      pub ends-idle : Ended r → seen (left .control) (TaskPlace t) ≡ IDLE
+      pub ends-idle : EndsRequest r → seen (left .control) (TaskPlace t) ≡ IDLE
       ends-idle h =
           let E = step-ends long (seen (lent .control)) (link (lent .area)) t in
-          left-place ∙ E .idle (end-told (o .answer) (E .answers) (subst Ended answer-number h))
+          left-place ∙ E .idle (end-told (o .answer) (E .answers) (subst EndsRequest answer-number h))
 
 -- No call of another task moves a task: between two of its own calls it is where it was, until the next start.
 pub others-stay : (k : Call) (lent left : Memories) (r : ℕ) → Contract k lent left r → Bytes (lent .control)
@@ -243,7 +244,7 @@ reached-tells h s p R a H P = tells-by a s p H (reached-agrees h s p R (eventOfA
 -- the same moves at the same calls, give the same code and value, never 14, and have after every call the same lists,
 -- chains and holders; each block of an open region is in exactly one place." Here the stepped run is made of the
 -- contracts of the exported functions. From any control memory that is not started.
-pub run-told : (acts : List Act) (s : Memories) → Unstarted s → Run acts s → Premises (eventsOfActs acts s) unstarted
+pub run-told : (acts : List Act) (s : Memories) → Unstarted s → AllHappen acts s → Premises (eventsOfActs acts s) unstarted
     → Told acts s unstarted
 run-told acts s U R P = along-acts Tells reached-tells (from-unstarted U) acts R P
 
@@ -274,7 +275,7 @@ start-reaches s p b control l a t =
 -- The same from a start on any memories, whose lengths and number of tasks are right; it is accepted.
 pub run-told-from-start : (acts : List Act) (s left : Memories) (b : Start) (r : ℕ) (p : Pool)
     → length (s .control) ≡ CONTROL-BYTES → Plain.StartArea (length (s .area)) → Plain.StartTasks (b .tasks)
-    → Run (on-own (start b) left r ∷ acts) s → Premises (eventsOfActs acts left) (whole (eventOfCall (start b) s) p .0)
+    → AllHappen (on-own (start b) left r ∷ acts) s → Premises (eventsOfActs acts left) (whole (eventOfCall (start b) s) p .0)
     → (r ≡ 0) × Told (on-own (start b) left r ∷ acts) s p
 run-told-from-start acts s left b r p l a t R P =
     let e = eventOfCall (start b) s in

@@ -1,5 +1,5 @@
 -- What the number that a call answers tells of its answer.
-use mathlib.Core.Path.{_≡_, refl, sym, ap, _∙_}
+use mathlib.Core.Path.{_≡_, refl, sym, ap, subst, _∙_}
 use mathlib.Core.Logic.{_≢_, _⊎_, ⊎-elim, inl, inr}
 use mathlib.Core.Bool.{Bool, true, false, _&&_, _||_, false≢true}
 use mathlib.Core.List.{List, [], _∷_}
@@ -11,7 +11,7 @@ use Rattle.links.specs.Link.{link}
 use Rattle.plain.specs.Moves.{Decided}
 use Rattle.plain.specs.Calls.{Call, start, allocate, free, step}
 use Rattle.control.specs.Layout.{seen}
-use Rattle.control.specs.Answers.{codeOf, valueOf, numberOf}
+use Rattle.control.specs.Answers.{CODES, codeOf, valueOf, numberOf}
 use Rattle.control.specs.declared.answer.Answer.{Answer}
 use Rattle.control.specs.declared.answer.Answer.the-variants.{Accepted, Allocated, Freed, NoDescriptor, NoRegion}
 use Rattle.control.specs.declared.answer.Answer.the-variants.{Refused}
@@ -22,44 +22,41 @@ use Rattle.stepped.specs.Outcome.{Memories}
 use Rattle.stepped.specs.Calls.{effectOf, lending, lengths}
 use Rattle.stepped.proofs.Conjunction.{left-true, right-true}
 use Rattle.agreement.proofs.Ends.{start-ends, allocate-ends, free-ends, step-ends}
-use Rattle.demands.specs.AnswerKinds.{Refusal, Ended}
+use Rattle.demands.specs.AnswerKinds.{Refusal, EndsRequest}
 use Rattle.demands.specs.Acts.{Number}
 
--- ---- the codes are below 256, so that the number tells code and value
+-- ---- the codes are below CODES, so that the number tells code and value
 
 small : List ℕ → Bool
 small [] = true
-small (m ∷ ms) = ltb m 256 && small ms
+small (m ∷ ms) = ltb m CODES && small ms
 
 pick : (a b : Bool) → (a || b) ≡ true → (a ≡ true) ⊎ (b ≡ true)
 pick true b h = inl refl
 pick false b h = inr h
 
-among : (ns : List ℕ) (n : ℕ) → small ns ≡ true → oneOf ns n ≡ true → n < 256
+among : (ns : List ℕ) (n : ℕ) → small ns ≡ true → oneOf ns n ≡ true → n < CODES
 unfolding small
 among [] n s h = absurd (false≢true h)
 among (m ∷ ms) n s h =
-    ⊎-elim (λ e. omega (arith, eqb-true n m e, ltb-true m 256 (left-true (ltb m 256) (small ms) s)))
-    (λ e. among ms n (right-true (ltb m 256) (small ms) s) e) (pick (eqb n m) (oneOf ms n) h)
+    ⊎-elim (λ e. omega (arith, eqb-true n m e, ltb-true m CODES (left-true (ltb m CODES) (small ms) s)))
+    (λ e. among ms n (right-true (ltb m CODES) (small ms) s) e) (pick (eqb n m) (oneOf ms n) h)
 
-begins-small : (ns : List ℕ) → small ns ≡ true → (a : Answer) → Begins ns a → codeOf a < 256
-begins-small ns s Accepted b = omega arith
-begins-small ns s (Allocated u) b = omega arith
-begins-small ns s Freed b = omega arith
-begins-small ns s NoDescriptor b = omega arith
-begins-small ns s NoRegion b = omega arith
-begins-small ns s (Refused n) b = among ns n s b
+-- a refusal is by one of the numbers, which are small
+answer-small : (ns : List ℕ) → small ns ≡ true → (a : Answer) → ((n : ℕ) → a ≡ Refused n → oneOf ns n ≡ true)
+    → codeOf a < CODES
+answer-small ns s Accepted h = omega arith
+answer-small ns s (Allocated u) h = omega arith
+answer-small ns s Freed h = omega arith
+answer-small ns s NoDescriptor h = omega arith
+answer-small ns s NoRegion h = omega arith
+answer-small ns s (Refused n) h = among ns n s (h n refl)
 
-step-small : (ns : List ℕ) → small ns ≡ true → (a : Answer) → StepAnswers ns a → codeOf a < 256
-step-small ns s Accepted b = omega arith
-step-small ns s (Allocated u) b = omega arith
-step-small ns s Freed b = omega arith
-step-small ns s NoDescriptor b = omega arith
-step-small ns s NoRegion b = omega arith
-step-small ns s (Refused n) b = among ns n s b
+begins-small : (ns : List ℕ) → small ns ≡ true → (a : Answer) → Begins ns a → codeOf a < CODES
+begins-small ns s a b = answer-small ns s a (λ n e. subst (Begins ns) e b)
 
 -- the code of every exported call
-pub code-small : (k : Call) (s : Memories) → codeOf (effectOf k s .answer) < 256
+pub code-small : (k : Call) (s : Memories) → codeOf (effectOf k s .answer) < CODES
 unfolding small
 code-small (start b) s =
     begins-small startRefusals refl (effectOf (start b) s .answer) (start-ends b (lending s) s .answers)
@@ -70,14 +67,15 @@ code-small (free t u) s =
     begins-small freeRefusals refl (effectOf (free t u) s .answer)
     (free-ends (lengths (lending s)) (seen (s .control)) t u .answers)
 code-small (step t) s =
-    step-small stepRefusals refl (effectOf (step t) s .answer)
-    (step-ends (lengths (lending s)) (seen (s .control)) (link (s .area)) t .answers)
+    answer-small stepRefusals refl (effectOf (step t) s .answer)
+    (λ n e. subst (StepAnswers stepRefusals) e
+    (step-ends (lengths (lending s)) (seen (s .control)) (link (s .area)) t .answers))
 
 -- a number r that is that of the answer b, which a is, tells its code and its value
-pub told-as : (a b : Answer) (d : Decided) {r : ℕ} → r ≡ numberOf b → b ≡ a → codeOf b < 256
+pub told-as : (a b : Answer) (d : Decided) {r : ℕ} → r ≡ numberOf b → b ≡ a → codeOf b < CODES
     → Number r (record { code = codeOf a; value = valueOf a; decided = d })
 told-as a b d {r} e p l =
-    let n : r ≡ codeOf b + 256 * valueOf b = e ∙ number-is b in
+    let n : r ≡ codeOf b + CODES * valueOf b = e ∙ number-is b in
     let c : codeOf b ≡ codeOf a = ap codeOf p in
     let v : valueOf b ≡ valueOf a = ap valueOf p in
     record { code = omega (arith, n, c, l); value = omega (arith, n, v, l) }
@@ -115,7 +113,7 @@ ends-told NoRegion g = (λ e. absurd (omega arith), λ e. refl)
 ends-told (Refused n) g = (λ e. absurd (not-among 12 g refl e), λ e. absurd (not-among 13 g refl e))
 
 -- the numbers of a request's end tell that it has ended
-pub end-told : (a : Answer) → StepAnswers stepRefusals a → Ended (numberOf a) → IsEnd a
+pub end-told : (a : Answer) → StepAnswers stepRefusals a → EndsRequest (numberOf a) → IsEnd a
 unfolding small
 end-told Accepted g e =
     ⊎-elim (λ h. absurd (omega (arith, h)))

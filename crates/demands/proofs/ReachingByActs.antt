@@ -5,7 +5,7 @@ use Rattle.plain.specs.Calls.{Pool}
 use Rattle.stepped.specs.Outcome.{Memories}
 use Rattle.agreement.specs.Events.{whole, Premise, Premises}
 use Rattle.agreement.specs.Reached.{History, happened, Reached, by-event}
-use Rattle.demands.specs.Acts.{Act, Happens, Run, afterAct, eventOfAct, eventsOfActs, AlongActs, WhereverActs}
+use Rattle.demands.specs.Acts.{Act, Happens, AllHappen, afterAct, eventOfAct, eventsOfActs, AlongActs, WhereverActs}
 use Rattle.demands.proofs.Acting.{shows}
 
 -- an act leaves what its event reaches
@@ -19,7 +19,7 @@ by-act {h} {s} {p} R a H P =
 -- What holds of every act wherever a run has come holds along every list of acts behind it whose events meet the
 -- premises.
 pub along-acts : (P : Act → Memories → Pool → Type 0) → WhereverActs P → {h : History} {s : Memories} {p : Pool}
-    → Reached h s p → (acts : List Act) → Run acts s → Premises (eventsOfActs acts s) p → AlongActs P acts s p
+    → Reached h s p → (acts : List Act) → AllHappen acts s → Premises (eventsOfActs acts s) p → AlongActs P acts s p
 along-acts P f R [] run premises = tt
 along-acts P f {h} {s} {p} R (a ∷ rest) run premises =
     (f h s p R a (run .0) (premises .0), along-acts P f (by-act R a (run .0) (premises .0)) rest (run .1) (premises .1))

@@ -10,6 +10,7 @@ use Rattle.limits.specs.Limits.{CONTROL-BYTES, REGION-BYTES}
 use Rattle.plain.specs.Moves.{Answer}
 use Rattle.plain.specs.Calls.{Pool, Call, start, allocate, free, step}
 use Rattle.control.specs.Layout.{Tasks, Regions, seen}
+use Rattle.control.specs.Answers.{CODES}
 use Rattle.stepped.specs.Outcome.{Memories}
 use Rattle.stepped.specs.Calls.{lending}
 use Rattle.agreement.specs.Events.{Event, stepped, whole, Premise}
@@ -66,9 +67,9 @@ afterAct (on-other k lent left number) s = afterOther k left number s
 afterAct (write at b) s = record { control = s .control; area = set (s .area) at b }
 
 -- acts one after the other, from the memories s
-abbrev pub Run : List Act → Memories → Type 0
-Run [] s = Unit {0}
-Run (a ∷ rest) s = Happens a s × Run rest (afterAct a s)
+abbrev pub AllHappen : List Act → Memories → Type 0
+AllHappen [] s = Unit {0}
+AllHappen (a ∷ rest) s = Happens a s × AllHappen rest (afterAct a s)
 
 -- ---- the whole run beside it
 
@@ -87,10 +88,10 @@ abbrev pub eventsOfActs : List Act → Memories → List Event
 eventsOfActs [] s = []
 eventsOfActs (a ∷ rest) s = eventOfAct a s ∷ eventsOfActs rest (afterAct a s)
 
--- the code, and 256 times the value: the number tells those of y
+-- the code, and CODES times the value: the number tells those of y
 pub record Number (number : ℕ) (y : Answer) : Type 0 where
-  pub code : number % 256 ≡ y .code
-  pub value : number / 256 ≡ y .value
+  pub code : number % CODES ≡ y .code
+  pub value : number / CODES ≡ y .value
 
 -- the number that a call answered is that of y; a user's write answers nothing
 abbrev pub Answered : Act → Answer → Type 0

@@ -5,6 +5,7 @@ use mathlib.Core.List.{List, [], _∷_}
 use Prim.Native.Nat.{ℕ, _%_, _≤_, _<_}
 use Rattle.limits.specs.Limits.{CLASSES}
 use Rattle.control.specs.Places.{A1}
+use Rattle.control.specs.Answers.{CODES}
 use Rattle.fields.specs.Columns.{_:=_}
 use Rattle.classes.specs.Classes.{block}
 use Rattle.control.specs.Layout.{changed, TaskPlace, TaskClass}
@@ -15,8 +16,8 @@ abbrev pub Refusal : ℕ → Type 0
 Refusal r = (1 ≤ r) × (r ≤ 14) × (r ≢ 12) × (r ≢ 13)
 
 -- "12 and 13 .. are a request's end", and so is "20 finished"
-abbrev pub Ended : ℕ → Type 0
-Ended r = (r ≡ 12) ⊎ ((r ≡ 13) ⊎ (r % 256 ≡ 20))
+abbrev pub EndsRequest : ℕ → Type 0
+EndsRequest r = (r ≡ 12) ⊎ ((r ≡ 13) ⊎ (r % CODES ≡ 20))
 
 -- a call of another task than u; a start is a call of none
 abbrev pub OfAnother : ℕ → Call → Type 0

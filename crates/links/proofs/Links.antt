@@ -11,7 +11,7 @@ use Rattle.fields.proofs.Little.{getLE-same, getLE-lt, length-setLE, bytes-setL
 use borrow.Rule.Slice.PartMut.{midOf, putMid}
 use Rattle.fields.proofs.LentPart.{setLE-part}
 use Rattle.fields.proofs.Elsewhere.{getLE-other, getLE-set-other, getD-other}
-use Rattle.links.specs.Link.{LINK-BYTES, link, withLink, LinkWrite, _⇒_, linked}
+use Rattle.links.specs.Link.{LINK-BYTES, link, withLink, LinkWrite, _⇒_, withLinks}
 
 -- a link that was written is read back
 pub link-same : (area : List ℕ) (u x : ℕ) → UNIT-BYTES * u + LINK-BYTES ≤ length area → x < 256 ^ LINK-BYTES
@@ -45,13 +45,13 @@ link-part area r k u x e h =
     rw m (setLE-part area (REGION-BYTES * r) k (UNIT-BYTES * u) LINK-BYTES x (omega arith))
 
 -- link writes keep the area's length
-pub length-linked : (ls : List LinkWrite) (area : List ℕ) → length (linked ls area) ≡ length area
+pub length-linked : (ls : List LinkWrite) (area : List ℕ) → length (withLinks ls area) ≡ length area
 length-linked [] area = refl
 length-linked ((u ⇒ x) ∷ ls) area =
     length-linked ls (withLink area u x) ∙ length-setLE area (UNIT-BYTES * u) LINK-BYTES x
 
 -- link writes leave bytes
-pub bytes-linked : (ls : List LinkWrite) (area : List ℕ) → Bytes area → Bytes (linked ls area)
+pub bytes-linked : (ls : List LinkWrite) (area : List ℕ) → Bytes area → Bytes (withLinks ls area)
 bytes-linked [] area h = h
 bytes-linked ((u ⇒ x) ∷ ls) area h =
     bytes-linked ls (withLink area u x) (bytes-setLE area (UNIT-BYTES * u) LINK-BYTES x h)

@@ -22,6 +22,6 @@ pub data LinkWrite : Type 0 where
 
 infix 68 _⇒_
 -- the area after a list of link writes, in their order
-abbrev pub linked : List LinkWrite → List ℕ → List ℕ
-linked [] area = area
-linked ((u ⇒ x) ∷ ls) area = linked ls (withLink area u x)
+abbrev pub withLinks : List LinkWrite → List ℕ → List ℕ
+withLinks [] area = area
+withLinks ((u ⇒ x) ∷ ls) area = withLinks ls (withLink area u x)

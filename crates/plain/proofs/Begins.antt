@@ -12,7 +12,7 @@ use Rattle.rows.specs.Counting.{count}
 use Rattle.rows.specs.Totals.{total}
 use Rattle.rows.proofs.Weights.{when-same, when-other, when-max, when-zero, weight-update}
 use Rattle.rows.proofs.Totals.{total-le, total-one}
-use Rattle.classes.specs.Geometry.{regionOf, Block}
+use Rattle.classes.specs.Geometry.{regionOf, BlockOf}
 use Rattle.classes.proofs.Sizes.{is-class}
 use Rattle.plain.specs.State.{idle, f1, Task, Mem, working}
 use Rattle.plain.specs.Calls.{beginAllocate, Opens, opens?, First, first?, freeIn, freeEntry}
@@ -52,7 +52,7 @@ module _ {area : ℕ} {m : Mem} (I : Invariant area m) (d u : ℕ) (l : d < DESC
   is-block : 1 ≤ total DESCRIPTORS (insideClassWeight (m .descriptor d .class) u) (m .descriptor)
   is-block =
       let D = m .descriptor d in
-      let B : Block (D .region) (D .class) u = rw (b .0 .0) (first-is-block (D .class) u (b .1)) in
+      let B : BlockOf (D .region) (D .class) u = rw (b .0 .0) (first-is-block (D .class) u (b .1)) in
       omega (
         arith,
         total-one DESCRIPTORS (insideClassWeight (D .class) u) (m .descriptor) d l,

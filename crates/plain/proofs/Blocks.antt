@@ -11,7 +11,7 @@ use Rattle.rows.specs.Weights.{one}
 use Rattle.rows.specs.Counting.{count}
 use Rattle.rows.proofs.Weights.{when-same, when-other}
 use Rattle.classes.specs.Classes.{units, perRegion}
-use Rattle.classes.specs.Geometry.{unitOf, regionOf, indexOf, Block}
+use Rattle.classes.specs.Geometry.{unitOf, regionOf, indexOf, BlockOf}
 use Rattle.classes.proofs.Tables.{units-low}
 use Rattle.classes.proofs.BlockUnits.{region-is, index-below, unit-again}
 use Rattle.plain.specs.Calls.{First}
@@ -54,7 +54,7 @@ among-them r c (suc k) i a h l = elim (same? i a) [
 ]
 
 -- What stands there is a block.
-only-blocks : (r c v k i : ℕ) → i + k ≤ perRegion c → 1 ≤ count v (blocksFrom r c i k) → Block r c v
+only-blocks : (r c v k i : ℕ) → i + k ≤ perRegion c → 1 ≤ count v (blocksFrom r c i k) → BlockOf r c v
 only-blocks r c v zero i l h = absurd (omega arith)
 only-blocks r c v (suc k) i l h = elim (same? v (unitOf r c i)) [
   | same e ↦ record { at = i; below = omega arith; is = e }
@@ -69,20 +69,20 @@ unfolding countBlock
 isBlock-row v r c = refl
 
 -- A block counts 1.
-pub block-counts : {r c v : ℕ} → Block r c v → countBlock v r c ≡ 1
+pub block-counts : {r c v : ℕ} → BlockOf r c v → countBlock v r c ≡ 1
 unfolding countBlock
 block-counts {r} {c} b =
     rw (b .is) (among-them r c (perRegion c) 0 (b .at) (omega arith) (omega (arith, b .below)))
 
 -- What counts is a block.
-pub counts-block : (r c v : ℕ) → 1 ≤ countBlock v r c → Block r c v
+pub counts-block : (r c v : ℕ) → 1 ≤ countBlock v r c → BlockOf r c v
 unfolding countBlock
 counts-block r c v h = only-blocks r c v (perRegion c) 0 (omega arith) h
 
 -- It counts at most 1, and only in the region that the unit lies in.
 pub isBlock-region : (r c v : ℕ) → countBlock v r c ≤ one (regionOf v) r
 isBlock-region r c v = elim (order? 0 (countBlock v r c)) [
-  | before h ↦ (let b : Block r c v = counts-block r c v h in
+  | before h ↦ (let b : BlockOf r c v = counts-block r c v h in
       rw (region-is b) (omega (arith, when-same r 1, block-counts b)))
   | after h ↦ omega arith
 ]
@@ -90,11 +90,11 @@ isBlock-region r c v = elim (order? 0 (countBlock v r c)) [
 -- ---- the first unit of a block
 
 -- What test 10 of a free finds to be the first unit of a block is a block, ..
-pub first-is-block : (c u : ℕ) → First c u → Block (regionOf u) c u
+pub first-is-block : (c u : ℕ) → First c u → BlockOf (regionOf u) c u
 first-is-block c u f =
     record { at = indexOf c u; below = f .1; is = omega (arith, div-add-mod (u % REGION-UNITS) (units c), f .0) }
 
 -- .. and it finds every block to be one.
-pub block-is-first : {r c u : ℕ} → Block r c u → First c u
+pub block-is-first : {r c u : ℕ} → BlockOf r c u → First c u
 block-is-first {r} {c} {u} b =
     (omega (arith, div-add-mod (u % REGION-UNITS) (units c), unit-again b, region-is b), index-below b)

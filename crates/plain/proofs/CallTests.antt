@@ -1,13 +1,15 @@
 -- Tests that a step or a call makes: what holds of each result holds after the tests.
+use mathlib.Core.Path.{_≡_, _∙_}
 use Prim.Native.Nat.{ℕ, _*_, _/_, _≤_, _<_}
 use native.Mathlib.Omega.{arith}
 use native.Mathlib.Decide.{ℕ-discrete, decLt}
 use Rattle.limits.specs.Limits.{CONTROL-BYTES, REGION-BYTES}
 use Rattle.rows.specs.Branch.{if}
+use Rattle.rows.proofs.Branch.{if-yes, if-no}
 use Rattle.plain.specs.Moves.{Answer, nothing, going}
 use Rattle.plain.specs.Steps.{Result}
 use Rattle.plain.specs.Calls.{Pool, Start, Lengths, StartArea, StartTasks, startArea?, startTasks?, startMem}
-use Rattle.plain.specs.Calls.{refuse, became, tested, startCall}
+use Rattle.plain.specs.Calls.{refuse, became, tested, Tested, startCall}
 use Rattle.plain.specs.Invariant.{Invariant}
 
 -- a test: what holds of both of its results holds of its result
@@ -26,6 +28,14 @@ by-tests Q t lent s x no-more h =
     (λ c. either Q (decLt t (s .tasks)) _ _ h (λ d. no-more 5 (omega arith)))
     (λ c. no-more 2 (omega arith))))
     (λ a. no-more 1 (omega arith))
+
+-- a call that passes them does what follows
+pub passed : {lent : Lengths} {t : ℕ} {s : Pool} (x : Result) → Tested lent t s → tested t lent s x ≡ became s x
+passed {lent} {t} {s} x T =
+    if-yes (ℕ-discrete (lent .control) CONTROL-BYTES) _ _ (T .control-is)
+    ∙ if-no (ℕ-discrete (s .tasks) 0) _ _ (λ e. absurd (omega (arith, T .started)))
+    ∙ if-yes (ℕ-discrete (lent .area) (REGION-BYTES * s .regions)) _ _ (T .area-is)
+    ∙ if-yes (decLt t (s .tasks)) _ _ (T .below)
 
 -- the pool after an accepted start
 abbrev pub started : Start → Lengths → Pool × Answer

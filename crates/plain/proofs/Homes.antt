@@ -8,7 +8,7 @@ use Rattle.rows.specs.Counting.{count}
 use Rattle.rows.specs.Totals.{total}
 use Rattle.rows.proofs.Weights.{when-same, when-max, when-is, below-max}
 use Rattle.rows.proofs.Totals.{total-le, total-one, total-found}
-use Rattle.classes.specs.Geometry.{regionOf, Block}
+use Rattle.classes.specs.Geometry.{regionOf, BlockOf}
 use Rattle.classes.proofs.BlockUnits.{region-is}
 use Rattle.plain.specs.State.{Mem}
 use Rattle.plain.specs.Blocks.{countBlock}
@@ -26,7 +26,7 @@ pub record Home (m : Mem) (c v : ℕ) : Type 0 where
   pub counts : IsOpen (m .descriptor d .state)
   pub class : m .descriptor d .class ≡ c
   pub region : m .descriptor d .region ≡ regionOf v
-  pub block : Block (m .descriptor d .region) (m .descriptor d .class) v
+  pub block : BlockOf (m .descriptor d .region) (m .descriptor d .class) v
   pub named : m .map (regionOf v) ≡ suc d
 
 module _ {area : ℕ} {m : Mem} (I : Invariant area m) where
@@ -37,7 +37,7 @@ module _ {area : ℕ} {m : Mem} (I : Invariant area m) where
       let D = m .descriptor (f .at) in
       let g = open-counts (D .state) (when c (D .class) (countBlock v (D .region) (D .class))) (f .has) in
       let s = when-is c (D .class) (countBlock v (D .region) (D .class)) (g .0) in
-      let b : Block (D .region) (D .class) v = counts-block (D .region) (D .class) v (s .1) in
+      let b : BlockOf (D .region) (D .class) v = counts-block (D .region) (D .class) v (s .1) in
       record {
         d = f .at;
         fits = f .fits;

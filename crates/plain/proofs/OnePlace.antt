@@ -10,7 +10,7 @@ use Rattle.rows.specs.Counting.{count}
 use Rattle.rows.specs.Totals.{total}
 use Rattle.rows.proofs.Weights.{when-same, when-other, when-max, below-max, below-is}
 use Rattle.rows.proofs.Totals.{total-one, total-two, total-zero, total-only, total-found}
-use Rattle.classes.specs.Geometry.{regionOf, Block}
+use Rattle.classes.specs.Geometry.{regionOf, BlockOf}
 use Rattle.classes.proofs.BlockUnits.{region-is}
 use Rattle.plain.specs.State.{Mem}
 use Rattle.plain.specs.Blocks.{countBlock}
@@ -77,7 +77,7 @@ module _ {area : ℕ} {m : Mem} (I : Invariant area m) where
       let f = total-found DESCRIPTORS (insideWeight v) (m .descriptor) h in
       let D = m .descriptor (f .at) in
       let g = open-counts (D .state) (countBlock v (D .region) (D .class)) (f .has) in
-      let b : Block (D .region) (D .class) v = counts-block (D .region) (D .class) v (g .0) in (
+      let b : BlockOf (D .region) (D .class) v = counts-block (D .region) (D .class) v (g .0) in (
         f .at,
         record {
           entry = rw (region-is b) (open-holds (D .state) (g .1) (I .maps (f .at) (f .fits)));

@@ -164,6 +164,13 @@ tested t lent s x =
     (refuse 2 s)))
     (refuse 1 s)
 
+-- the tests 1, 4, 2, 5 pass
+pub record Tested (lent : Lengths) (t : ℕ) (s : Pool) : Type 0 where
+  pub control-is : lent .control ≡ CONTROL-BYTES
+  pub started : 1 ≤ s .tasks
+  pub area-is : lent .area ≡ REGION-BYTES * s .regions
+  pub below : t < s .tasks
+
 -- "A start may come at any time and begins a new run"
 abbrev pub startCall : Start → Lengths → Pool → Pool × Answer
 startCall b lent s =

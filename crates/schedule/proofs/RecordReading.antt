@@ -8,7 +8,7 @@ use lib.ListN.{length, getD}
 use Rattle.fields.specs.Little.{getLE}
 use Rattle.schedule.specs.declared.record.Record.the-variants.{Start, Allocate, Free, Step, Run, Bad}
 use Rattle.schedule.specs.Records.{START-KIND, ALLOCATE-KIND, FREE-KIND, STEP-KIND, RUN-KIND, START-BYTES}
-use Rattle.schedule.specs.Records.{STEP-BYTES, WIDE-BYTES, wideOf, recordAt}
+use Rattle.schedule.specs.Records.{STEP-BYTES, WIDE-BYTES, TASK-AT, NUMBER-AT, wideOf, recordAt}
 
 module _ (input : List ℕ) (at : ℕ) where
   abbrev kind : ℕ
@@ -31,7 +31,7 @@ module _ (input : List ℕ) (at : ℕ) where
       unfolding recordAt
       step-cut e h = rw (le-leb _ _ k, le-leb _ _ l, eq-eqb _ _ e, lt-leb _ _ h)
 
-      pub step-whole : kind ≡ STEP-KIND → STEP-BYTES ≤ left → Step (getD input (at + 1) 0) ≡ recordAt input at
+      pub step-whole : kind ≡ STEP-KIND → STEP-BYTES ≤ left → Step (getD input (at + TASK-AT) 0) ≡ recordAt input at
       unfolding recordAt
       step-whole e h = rw (le-leb _ _ k, le-leb _ _ l, eq-eqb _ _ e, le-leb _ _ h)
 
@@ -40,7 +40,7 @@ module _ (input : List ℕ) (at : ℕ) where
         unfolding recordAt
         start-cut e h = rw (le-leb _ _ k, le-leb _ _ l, ne-eqb _ _ m, eq-eqb _ _ e, lt-leb _ _ h)
 
-        pub start-whole : kind ≡ START-KIND → START-BYTES ≤ left → Start (getD input (at + 1) 0) (getD input (at + 2) 0)
+        pub start-whole : kind ≡ START-KIND → START-BYTES ≤ left → Start (getD input (at + TASK-AT) 0) (getD input (at + NUMBER-AT) 0)
             ≡ recordAt input at
         unfolding recordAt
         start-whole e h = rw (le-leb _ _ k, le-leb _ _ l, ne-eqb _ _ m, eq-eqb _ _ e, le-leb _ _ h)
@@ -50,7 +50,7 @@ module _ (input : List ℕ) (at : ℕ) where
           unfolding recordAt
           wide-cut h = rw (le-leb _ _ k, le-leb _ _ l, ne-eqb _ _ m, ne-eqb _ _ n, lt-leb _ _ h)
 
-          pub wide-whole : WIDE-BYTES ≤ left → wideOf kind (getD input (at + 1) 0) (getLE input (at + 2) 2)
+          pub wide-whole : WIDE-BYTES ≤ left → wideOf kind (getD input (at + TASK-AT) 0) (getLE input (at + NUMBER-AT) 2)
               ≡ recordAt input at
           unfolding recordAt
           wide-whole h = rw (le-leb _ _ k, le-leb _ _ l, ne-eqb _ _ m, ne-eqb _ _ n, le-leb _ _ h)

@@ -6,18 +6,19 @@ use Rattle.limits.specs.Limits.{CONTROL-BYTES, REGION-BYTES}
 use Rattle.plain.specs.Calls.{Pool, Call}
 use Rattle.plain.specs.Calls as Calls
 use Rattle.plain.specs.Moves.{Answer}
+use Rattle.control.specs.Answers.{CODES}
 use Rattle.schedule.specs.Stand.{STAND-REGIONS}
 use Rattle.schedule.specs.Stand.{Lends, named, as-started}
 
--- the code, and 256 times the value
-abbrev pub numberIn : Answer → ℕ
-numberIn y = y .code + 256 * y .value
+-- the code, and CODES times the value
+abbrev pub answerNumber : Answer → ℕ
+answerNumber y = y .code + CODES * y .value
 
 -- a call that is lent the control memory and so many bytes of the area, and its answer as one number
 abbrev pub feeding : Call → ℕ → Pool → Pool × ℕ
 feeding k area p =
     let x = Calls.plainCall k (record { control = CONTROL-BYTES; area = area }) p in
-    (x .0, numberIn (x .1))
+    (x .0, answerNumber (x .1))
 
 -- how many regions the last accepted start was lent: none before the first
 abbrev pub regionsFed : Pool → ℕ

@@ -45,6 +45,14 @@ STEP-BYTES = 2
 abbrev pub WIDE-BYTES : ℕ
 WIDE-BYTES = 4
 
+-- where the body's numbers stand behind the record's first byte: the tasks of a start, or the task, in one byte
+abbrev pub TASK-AT : ℕ
+TASK-AT = 1
+
+-- the regions of a start, in one byte; or the size, the unit or the most steps, in two
+abbrev pub NUMBER-AT : ℕ
+NUMBER-AT = 2
+
 -- the most calls that a record makes: a run's number has two bytes
 abbrev pub MOST-CALLS : ℕ
 MOST-CALLS = 65535
@@ -64,10 +72,10 @@ recordAt input at =
     let left = length input - at in
     cond (leb START-KIND kind)
     (cond (leb kind RUN-KIND)
-    (cond (eqb kind STEP-KIND) (cond (leb STEP-BYTES left) (Step (getD input (at + 1) 0)) Bad)
+    (cond (eqb kind STEP-KIND) (cond (leb STEP-BYTES left) (Step (getD input (at + TASK-AT) 0)) Bad)
     (cond (eqb kind START-KIND)
-    (cond (leb START-BYTES left) (Start (getD input (at + 1) 0) (getD input (at + 2) 0)) Bad)
-    (cond (leb WIDE-BYTES left) (wideOf kind (getD input (at + 1) 0) (getLE input (at + 2) 2)) Bad)))
+    (cond (leb START-BYTES left) (Start (getD input (at + TASK-AT) 0) (getD input (at + NUMBER-AT) 0)) Bad)
+    (cond (leb WIDE-BYTES left) (wideOf kind (getD input (at + TASK-AT) 0) (getLE input (at + NUMBER-AT) 2)) Bad)))
     Bad)
     Bad
 

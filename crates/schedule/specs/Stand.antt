@@ -6,6 +6,7 @@ use lib.Dec.{eqb, ltb}
 use lib.ListN.{length}
 use Rattle.limits.specs.Limits.{REGION-BYTES}
 use Rattle.plain.specs.Calls.{Call, start, allocate, free, step}
+use Rattle.control.specs.Answers.{CODES}
 use Rattle.schedule.specs.declared.record.Entry.{Entry}
 use Rattle.schedule.specs.declared.record.Record.{Record}
 use Rattle.schedule.specs.declared.record.Record.the-variants.{Start, Allocate, Free, Step, Run, Bad}
@@ -28,11 +29,11 @@ pub data Lends : Type 0 where
   named : (regions : ℕ) → Lends
   as-started : Lends
 
--- "each line, in decimal: record from 0, kind byte, code, value", for the answer r: the code, and 256 times the value
+-- "each line, in decimal: record from 0, kind byte, code, value", for the answer r: the code, and CODES times the value
 abbrev pub lineOf : Entry → ℕ → Line
-lineOf e r = record { number = e .number; kind = e .kind; code = r % 256; value = r / 256 }
+lineOf e r = record { number = e .number; kind = e .kind; code = r % CODES; value = r / CODES }
 
--- a pool: its state, and what a call makes of it, with the answer: the code, and 256 times the value
+-- a pool: its state, and what a call makes of it, with the answer: the code, and CODES times the value
 module _ {S : Type 0} (call : Call → Lends → S → S × ℕ) where
   -- "run (task, most steps ..), which stops at a finish, an end or a refusal (most 0: code 0, no call made)"; "A run
   -- shows its last call's answer". The last answer so far is a.

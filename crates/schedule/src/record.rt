@@ -3,7 +3,7 @@ ghost use mathlib.Core.Path.{_≡_};
 ghost use Prim.Native.Nat.{_+_, _≤_, _<_};
 ghost use lib.ListN.{length, getD};
 ghost use Rattle.fields.specs.Little.{getLE};
-ghost use Rattle.schedule.specs.Records.{INPUT-BYTES, WIDE-BYTES, wideOf, recordAt, entryAt, endOf};
+ghost use Rattle.schedule.specs.Records.{INPUT-BYTES, WIDE-BYTES, TASK-AT, NUMBER-AT, wideOf, recordAt, entryAt, endOf};
 
 // The kinds of record, and how many bytes a record of a kind has.
 const START_KIND: u8 = 1;
@@ -21,6 +21,11 @@ const START_BYTES: usize = 3;
 const STEP_BYTES: usize = 2;
 
 const WIDE_BYTES: usize = 4;
+
+// Where the body's numbers stand behind the record's first byte.
+const TASK_AT: usize = 1;
+
+const NUMBER_AT: usize = 2;
 
 pub enum Record {
     // Tasks and regions.
@@ -47,10 +52,11 @@ pub struct Entry {
 // A record whose body is a task and a number in two bytes. Caller: `read`, which has tested that the input has them.
 fn wide(input: &[u8], at: usize, kind: u8) -> Record
     requires { ⌜ (at + WIDE-BYTES ≤ length (now input)) × (length (now input) ≤ INPUT-BYTES) ⌝ }
-    ensures { λ r. ⌜ r ≡ wideOf kind (getD (now (input .entry)) (at + 1) 0) (getLE (now (input .entry)) (at + 2) 2) ⌝ }
+    ensures { λ r. ⌜ r ≡ wideOf kind (getD (now (input .entry)) (at + TASK-AT) 0)
+        (getLE (now (input .entry)) (at + NUMBER-AT) 2) ⌝ }
 {
-    let task = input[at + 1];
-    let number = fields::load16(input, at + 2);
+    let task = input[at + TASK_AT];
+    let number = fields::load16(input, at + NUMBER_AT);
     if kind == ALLOCATE_KIND {
         return Record::Allocate(task, number);
     }
@@ -77,13 +83,13 @@ pub fn read(input: &[u8], at: usize) -> Record
         if left < STEP_BYTES {
             return Record::Bad;
         }
-        return Record::Step(input[at + 1]);
+        return Record::Step(input[at + TASK_AT]);
     }
     if kind == START_KIND {
         if left < START_BYTES {
             return Record::Bad;
         }
-        return Record::Start(input[at + 1], input[at + 2]);
+        return Record::Start(input[at + TASK_AT], input[at + NUMBER_AT]);
     }
     if left < WIDE_BYTES {
         return Record::Bad;

@@ -2,6 +2,7 @@
 use crate::lend;
 use crate::record::Entry;
 use crate::record::Record;
+use control::answer;
 ghost use Rattle.schedule.specs.Stand.{runs, treated, shown};
 ghost use Rattle.schedule.specs.Bytes.{onBytes, Does, StandMemories};
 
@@ -33,7 +34,7 @@ fn run(control: &mut [u8], area: &mut [u8], task: u8, most: u16) -> u64
     answer
 }
 
-// What a record does to the two memories, and what it answers: the code, and 256 times the value.
+// What a record does to the two memories, and what it answers: the code, and `CODES` times the value.
 pub fn treat(control: &mut [u8], area: &mut [u8], body: Record) -> u64
     requires { ⌜ StandMemories (now control) (now area) ⌝ }
     ensures { λ r.
@@ -59,11 +60,11 @@ pub fn show(control: &mut [u8], area: &mut [u8], entry: Entry) -> Line
         r ⌝ }
 {
     let body = entry.body;
-    let answer = treat(control, area, body);
+    let number = treat(control, area, body);
     Line {
         number: entry.number,
         kind: entry.kind,
-        code: answer % 256,
-        value: answer / 256,
+        code: number % answer::CODES,
+        value: number / answer::CODES,
     }
 }

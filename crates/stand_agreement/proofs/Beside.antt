@@ -33,7 +33,7 @@ use Rattle.demands.proofs.Acting.{shows}
 use Rattle.schedule.specs.Stand.{STAND-REGIONS, STAND-AREA}
 use Rattle.schedule.specs.Stand.{as-started}
 use Rattle.schedule.specs.Bytes.{lentRegions, onPart, onBytes}
-use Rattle.schedule.specs.Plain.{numberIn, feeding, regionsFed, onPlain}
+use Rattle.schedule.specs.Plain.{answerNumber, feeding, regionsFed, onPlain}
 use Rattle.stand_agreement.proofs.LentArea.{part-length, part-back, back-length}
 use Rattle.stand_agreement.proofs.Fed.{SameStart, allocate-keeps, free-keeps, step-keeps, same-regions}
 
@@ -65,8 +65,8 @@ later h B =
           (arith, h, B .most-won k ℓ);
     }
 
--- a number is its code and 256 times its value
-pub sum : {n : ℕ} {y : Answer} → Number n y → n ≡ numberIn y
+-- a number is its code and CODES times its value
+pub sum : {n : ℕ} {y : Answer} → Number n y → n ≡ answerNumber y
 sum N = omega (arith, N .code, N .value)
 
 -- the same answer, and beside each other again
@@ -136,7 +136,7 @@ module _ {n : ℕ} {s : Memories} {p : Pool} (B : Beside n s p) (small : n < TAG
               (long ∙ part-is) i;
         } in
         record {
-          number = sum (S .answers) ∙ ap numberIn (A .0 .says) ∙ ap (λ x. numberIn (x .1)) (as-fed q);
+          number = sum (S .answers) ∙ ap answerNumber (A .0 .says) ∙ ap (λ x. answerNumber (x .1)) (as-fed q);
           beside = record {
             area-is =
                 back-length (REGION-BYTES * regions) (s .area) (e .area) (omega (arith, B .few, B .area-is))

@@ -32,13 +32,13 @@ use Rattle.demands.proofs.Acting.{shows}
 use Rattle.schedule.specs.Stand.{STAND-REGIONS}
 use Rattle.schedule.specs.Stand.{named}
 use Rattle.schedule.specs.Bytes.{onPart, onBytes}
-use Rattle.schedule.specs.Plain.{numberIn, feeding, regionsFed, onPlain}
+use Rattle.schedule.specs.Plain.{answerNumber, feeding, regionsFed, onPlain}
 use Rattle.stand_agreement.proofs.LentArea.{part-length, part-back, back-length}
 use Rattle.stand_agreement.proofs.Fed.{StartIs, accepted, refused, start-is}
 use Rattle.stand_agreement.proofs.Beside.{partOf, Beside, tied, later, sum, SameAnswer}
 
 -- a number that is 0 has the code 0, and the code of a beginning tells its number
-code-zero : (y : Answer) → numberIn y ≡ 0 → y .code ≡ 0
+code-zero : (y : Answer) → answerNumber y ≡ 0 → y .code ≡ 0
 code-zero y e = omega arith
 
 -- the answer of a start is accepted, or a refusal
@@ -87,12 +87,12 @@ module _ {n : ℕ} {s : Memories} {p : Pool} (B : Beside n s p) (b : Start) (reg
       ∙ ap (λ (k : ℕ). Calls.plainCall (start b) (record { control = CONTROL-BYTES; area = k }) p) part-is
 
   -- what the stepped run and the whole run have of it
-  number-same : r ≡ numberIn (Calls.plainCall (start b) lengths p .1)
+  number-same : r ≡ answerNumber (Calls.plainCall (start b) lengths p .1)
   number-same =
       let S =
       shows (on-other (start b) lent left r) before (record { number = refl; control-is = refl; area-is = refl }, tt) in
       let A = reached-agrees (B .history) before p (B .reached) (eventOfCall (start b) lent) tt in
-      sum (S .answers) ∙ ap numberIn (A .0 .says) ∙ ap (λ x. numberIn (x .1)) fed
+      sum (S .answers) ∙ ap answerNumber (A .0 .says) ∙ ap (λ x. answerNumber (x .1)) fed
 
   abbrev H : History
   H = happened (eventOfCall (start b) lent) before p ∷ B .history

@@ -9,7 +9,7 @@ use Rattle.plain.specs.Steps.{Result}
 use Rattle.plain.specs.Calls.{Pool, Start, Lengths}
 use Rattle.plain.specs.Calls as Calls
 use Rattle.plain.proofs.CallTests.{by-tests, by-start-tests}
-use Rattle.schedule.specs.Plain.{numberIn, regionsFed}
+use Rattle.schedule.specs.Plain.{answerNumber, regionsFed}
 
 -- the same number of tasks and of regions
 abbrev pub SameStart : Pool → Pool → Type 0
@@ -39,7 +39,7 @@ same-regions p p′ h = rw (h .0, h .1) refl
 
 -- an accepted start: its tasks and regions; a refused one leaves the pool
 pub data StartIs (regions : ℕ) (p : Pool) (x : Pool × Answer) : Type 0 where
-  accepted : numberIn (x .1) ≡ 0 → 1 ≤ x .0 .tasks → x .0 .regions ≡ regions → StartIs regions p x
+  accepted : answerNumber (x .1) ≡ 0 → 1 ≤ x .0 .tasks → x .0 .regions ≡ regions → StartIs regions p x
   refused : x .1 .code ≢ 0 → x .0 ≡ p → StartIs regions p x
 
 pub start-is : (b : Start) (regions : ℕ) (p : Pool)

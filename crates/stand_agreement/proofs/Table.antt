@@ -13,16 +13,18 @@ use Rattle.fields.proofs.Little.{getLE-lt}
 use Rattle.plain.specs.Calls.{Pool, step, unstarted}
 use Rattle.fields.specs.Columns.{firstByte, width}
 use Rattle.control.specs.Layout.{layout, Tasks}
+use Rattle.control.specs.Answers.{CODES}
 use Rattle.stepped.specs.Outcome.{Memories}
+use Rattle.stepped.proofs.CallTests.{branch}
 use Rattle.agreement.proofs.Images.{zeros as zeros-are, getLE-zeros}
 use Rattle.agreement.specs.Reached.{from-unstarted}
-use Rattle.agreement.proofs.Ways.{branch}
 use Rattle.schedule.specs.declared.record.Record.{Record}
 use Rattle.schedule.specs.declared.record.Record.the-variants.{Start, Allocate, Free, Step, Run, Bad}
 use Rattle.schedule.specs.declared.tally.Tally.{Tally}
 use Rattle.schedule.specs.declared.treat.Line.{Line}
 use Rattle.schedule.specs.Records.{INPUT-BYTES, START-KIND, ALLOCATE-KIND, FREE-KIND, STEP-KIND, RUN-KIND, START-BYTES}
-use Rattle.schedule.specs.Records.{STEP-BYTES, WIDE-BYTES, MOST-CALLS, wideOf, recordAt, entryAt, endOf}
+use Rattle.schedule.specs.Records.{STEP-BYTES, WIDE-BYTES, TASK-AT, NUMBER-AT, MOST-CALLS, wideOf, recordAt, entryAt}
+use Rattle.schedule.specs.Records.{endOf}
 use Rattle.schedule.specs.Tally.{noneCounted, counted}
 use Rattle.schedule.specs.Stand.{STAND-AREA}
 use Rattle.schedule.specs.Stand.{as-started, lineOf, runs, treated, table}
@@ -42,13 +44,13 @@ mostOf (Step a) = 1
 mostOf (Run a most) = most
 mostOf Bad = 0
 
--- a record makes at most 65,535 calls, has at least a byte, and ends within the schedule
+-- a record makes at most MOST-CALLS calls, has at least a byte, and ends within the schedule
 pub record Fits (at end : ℕ) (r : Record) : Type 0 where
   pub most : mostOf r ≤ MOST-CALLS
-  pub from : at + 1 ≤ endOf r at end
+  pub from : at < endOf r at end
   pub to : endOf r at end ≤ end
 
-wide-fits : (at end kind task number : ℕ) → at + WIDE-BYTES ≤ end → number < 65536
+wide-fits : (at end kind task number : ℕ) → at + WIDE-BYTES ≤ end → number ≤ MOST-CALLS
     → Fits at end (wideOf kind task number)
 unfolding wideOf
 wide-fits at end kind task number h l =
@@ -74,8 +76,8 @@ record-fits input at b l =
     (λ i. record { most = omega arith; from = omega arith; to = omega (arith, leb-true START-BYTES left i) })
     (λ i. bad))
     (λ h. branch P (leb WIDE-BYTES left)
-    (λ i. wide-fits at (length input) kind (getD input (at + 1) 0) (getLE input (at + 2) 2)
-    (omega (arith, leb-true WIDE-BYTES left i)) (getLE-lt input (at + 2) 2 b))
+    (λ i. wide-fits at (length input) kind (getD input (at + TASK-AT) 0) (getLE input (at + NUMBER-AT) 2)
+    (omega (arith, leb-true WIDE-BYTES left i)) (omega (arith, getLE-lt input (at + NUMBER-AT) 2 b)))
     (λ i. bad))))
     (λ f. bad))
     (λ e. bad)
@@ -153,9 +155,9 @@ module _ (input : List ℕ) (bytes : Bytes input) (long : length input ≤ INPUT
           let z = treated onPlain r p in
           let row : ℕ → List Line × Tally → List Line × Tally = λ m w. (lineOf (entryAt input at n) m ∷ w .0, w .1) in
           rw (lt-ltb at (length input) g)
-          (ap (λ (m : ℕ). row m (table onBytes f input next (n + 1) (counted y (m % 256)) (x .0))) (S .number)
+          (ap (λ (m : ℕ). row m (table onBytes f input next (n + 1) (counted y (m % CODES)) (x .0))) (S .number)
           ∙ ap (row (z .1))
-          (rest next (counted y (z .1 % 256)) (x .0) (z .0) (F .to) (omega (arith, l, F .from)) (S .beside)))
+          (rest next (counted y (z .1 % CODES)) (x .0) (z .0) (F .to) (omega (arith, l, F .from)) (S .beside)))
 
 -- the stand's memories before the first record, and the plain pool that is not started
 zeros-beside : Beside 0 zeros unstarted

@@ -2,7 +2,7 @@
 use mathlib.Core.Path.{_≡_, refl, ap, subst⁻¹, _∙_}
 use mathlib.Core.List.{List, []}
 use Prim.Native.Nat.{ℕ}
-use Rattle.links.specs.Link.{linked}
+use Rattle.links.specs.Link.{withLinks}
 use Rattle.control.specs.Layout.{changed}
 use Rattle.control.specs.Answers.{numberOf}
 use Rattle.control.specs.declared.answer.Answer.{Answer}
@@ -17,7 +17,7 @@ done {before = b} {after = a} {r = r} e p q l =
     subst⁻¹ (λ (x : Outcome). Done x b a r) e (record { answer = p; control = q; links = l })
 
 pub done-in : {o o′ : Outcome} {c a c′ a′ : List ℕ} {r : Answer} → o ≡ o′ → r ≡ o′ .answer → c′ ≡ changed (o′ .writes) c
-    → a′ ≡ linked (o′ .links) a → DoneIn o c a c′ a′ r
+    → a′ ≡ withLinks (o′ .links) a → DoneIn o c a c′ a′ r
 done-in {c = c} {a = a} {c′ = c′} {a′ = a′} {r = r} e p q l =
     subst⁻¹ (λ (x : Outcome). DoneIn x c a c′ a′ r) e (record { answer = p; control = q; area = l })
 
@@ -32,7 +32,7 @@ does-in {c = c} {a = a} {c′ = c′} {a′ = a′} {r = r} e d = subst⁻¹ (λ
 -- a function of the control memory alone leaves the area
 pub lends : {o : Outcome} {c a c′ : List ℕ} {r : Answer} → Done o c c′ r → DoneIn o c a c′ a r
 lends {o} {c} {a} {c′} {r} d =
-    record { answer = d .answer; control = d .control; area = subst⁻¹ (λ ls. a ≡ linked ls a) (d .links) refl }
+    record { answer = d .answer; control = d .control; area = subst⁻¹ (λ ls. a ≡ withLinks ls a) (d .links) refl }
 
 -- the number of what a function did and answered
 pub numbers : {o : Outcome} {c a c′ a′ : List ℕ} {r : Answer} {n : ℕ} → DoneIn o c a c′ a′ r → n ≡ numberOf r

@@ -2,6 +2,7 @@
 -- 5, then 6 or 7, then 8, 9 or 10, 11. 14 comes where the bad value is read."
 use Prim.Native.Nat.{ℕ, _*_, _/_, _%_, _-_, _≤_, _<_}
 use mathlib.Core.Path.{_≡_}
+use mathlib.Core.Logic.{_≢_}
 use mathlib.Core.Bool.{cond, _&&_}
 use mathlib.Core.List.{List, [], _∷_}
 use lib.Dec.{ltb, leb, eqb}
@@ -53,6 +54,18 @@ pub record Tested (lent : Lengths) (v : View) (t : ℕ) : Type 0 where
   pub regions : v Regions ≤ REGIONS
   pub area-is : lent .area ≡ REGION-BYTES * v Regions
   pub below : t < v Tasks
+
+-- The first of these tests that fails refuses the call by its number; those before it pass.
+pub data FirstFails (lent : Lengths) (v : View) (t : ℕ) : ℕ → Type 0 where
+  control-fails : lent .control ≢ CONTROL-BYTES → FirstFails lent v t 1
+  tasks-fail : lent .control ≡ CONTROL-BYTES → TASKS < v Tasks → FirstFails lent v t 14
+  not-started : lent .control ≡ CONTROL-BYTES → v Tasks ≡ 0 → FirstFails lent v t 4
+  regions-fail : lent .control ≡ CONTROL-BYTES → 1 ≤ v Tasks → v Tasks ≤ TASKS
+      → (1 ≤ v Regions → v Regions ≤ REGIONS → ⊥) → FirstFails lent v t 14
+  area-fails : lent .control ≡ CONTROL-BYTES → 1 ≤ v Tasks → v Tasks ≤ TASKS → 1 ≤ v Regions → v Regions ≤ REGIONS
+      → lent .area ≢ REGION-BYTES * v Regions → FirstFails lent v t 2
+  task-fails : lent .control ≡ CONTROL-BYTES → 1 ≤ v Tasks → v Tasks ≤ TASKS → 1 ≤ v Regions → v Regions ≤ REGIONS
+      → lent .area ≡ REGION-BYTES * v Regions → v Tasks ≤ t → FirstFails lent v t 5
 
 -- "6 the task has a request in hand"; then the beginning x. A place past the step list is outside its range.
 unfoldable pub whenIdle : View → ℕ → Outcome → Outcome

@@ -4,7 +4,7 @@ use mathlib.Core.List.{List, []}
 use Prim.Native.Nat.{ℕ, _*_, _≤_, _<_}
 use lib.ListN.{length}
 use Rattle.limits.specs.Limits.{CONTROL-BYTES, REGIONS, REGION-BYTES, TASKS, CLASSES}
-use Rattle.links.specs.Link.{linked}
+use Rattle.links.specs.Link.{withLinks}
 use Rattle.control.specs.Layout.{changed}
 use Rattle.control.specs.Answers.{numberOf}
 use Rattle.control.specs.declared.answer.Answer.{Answer}
@@ -35,10 +35,10 @@ pub record Done (o : Outcome) (before after : List ℕ) (r : Answer) : Type 0 wh
 pub record DoneIn (o : Outcome) (c a c′ a′ : List ℕ) (r : Answer) : Type 0 where
   pub answer : r ≡ o .answer
   pub control : c′ ≡ changed (o .writes) c
-  pub area : a′ ≡ linked (o .links) a
+  pub area : a′ ≡ withLinks (o .links) a
 
 -- A function that is handed both memories, and answers by one number.
 pub record NumberIn (o : Outcome) (c a c′ a′ : List ℕ) (r : ℕ) : Type 0 where
   pub number : r ≡ numberOf (o .answer)
   pub control : c′ ≡ changed (o .writes) c
-  pub area : a′ ≡ linked (o .links) a
+  pub area : a′ ≡ withLinks (o .links) a

@@ -2,7 +2,7 @@
 use Prim.Native.Nat.{ℕ}
 use mathlib.Core.List.{List, []}
 use Rattle.fields.specs.Columns.{Write}
-use Rattle.links.specs.Link.{LinkWrite, linked}
+use Rattle.links.specs.Link.{LinkWrite, withLinks}
 use Rattle.plain.specs.Moves.{Decided, nothing}
 use Rattle.control.specs.Layout.{changed}
 use Rattle.control.specs.declared.answer.Answer.{Answer}
@@ -50,5 +50,5 @@ effect o s = record {
   answer = o .answer;
   decided = o .decided;
   control = changed (o .writes) (s .control);
-  area = linked (o .links) (s .area);
+  area = withLinks (o .links) (s .area);
 }

@@ -8,7 +8,7 @@ use Rattle.control.specs.Layout.{TaskIndex, TaskLeft, TaskRegion}
 
 -- u is the block's unit, by the task's region and index; `left` blocks of the chain are left, with this one; all are in
 -- range
-pub record Moving (v : View) (regions t c u left : ℕ) : Type 0 where
+pub record NextMoved (v : View) (regions t c u left : ℕ) : Type 0 where
   pub region : v (TaskRegion t) < regions
   pub index : v (TaskIndex t) < perRegion c
   pub unit : u ≡ unitOf (v (TaskRegion t)) c (v (TaskIndex t))

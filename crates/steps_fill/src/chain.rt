@@ -16,7 +16,7 @@ ghost use Rattle.plain.specs.Moves.{nothing};
 ghost use Rattle.control.specs.Layout.{Control, seen, changed, CacheTop, CacheCount, TaskIndex, TaskLeft};
 ghost use Rattle.stepped.specs.Outcome.{accept};
 ghost use Rattle.stepped.specs.Done.{GivenArea, DoneIn};
-ghost use Rattle.steps_fill.specs.Chains.{Moving};
+ghost use Rattle.steps_fill.specs.Chains.{NextMoved};
 ghost use Rattle.stepped.specs.Allocate.{a4, a4Move};
 
 // A move to the cache after which the chain goes on: the block, at `unit`; the `left` blocks that are left to move, the
@@ -126,7 +126,7 @@ fn move_at(
     next: NextOfChain,
 ) -> Answer
     requires { ⌜ GivenArea (now control) (now area) regions task class
-        × Moving (seen (now control)) regions task class (next .unit) (next .left)
+        × NextMoved (seen (now control)) regions task class (next .unit) (next .left)
         × (UNIT-BYTES * (next .unit) + UNIT-BYTES ≤ length (now area)) ⌝ }
     ensures { λ r. ⌜ DoneIn (a4 (seen (now (control .entry))) (link (now (area .entry))) regions task class)
         (now (control .entry)) (now (area .entry)) (now (control .exit)) (now (area .exit)) r ⌝ }

@@ -4,8 +4,8 @@ use mathlib.Core.List.{List, [], _∷_, _++_}
 use Rattle.text.specs.Texts.{decimal}
 
 -- a number and the character behind it
-abbrev pub field : ℕ → ℕ → List ℕ
-field n behind = decimal n ++ (behind ∷ [])
+abbrev pub fieldText : ℕ → ℕ → List ℕ
+fieldText n behind = decimal n ++ (behind ∷ [])
 
 -- "After a line of column names": `record kind code value`
 abbrev pub columnsText : List ℕ
@@ -18,7 +18,7 @@ columnsText =
 
 -- "each line, in decimal: record from 0, kind byte, code, value"
 unfoldable pub lineText : ℕ → ℕ → ℕ → ℕ → List ℕ
-lineText number kind code value = field number 32 ++ field kind 32 ++ field code 32 ++ field value 10
+lineText number kind code value = fieldText number 32 ++ fieldText kind 32 ++ fieldText code 32 ++ fieldText value 10
 
 -- the characters of `total` and a space
 abbrev pub totalWord : List ℕ
@@ -26,4 +26,4 @@ totalWord = 116 ∷ 111 ∷ 116 ∷ 97 ∷ 108 ∷ 32 ∷ []
 
 -- "The last line counts codes 20, codes 0 and the others."
 unfoldable pub totalText : ℕ → ℕ → ℕ → List ℕ
-totalText finished accepted others = totalWord ++ field finished 32 ++ field accepted 32 ++ field others 10
+totalText finished accepted others = totalWord ++ fieldText finished 32 ++ fieldText accepted 32 ++ fieldText others 10

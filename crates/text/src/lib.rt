@@ -3,7 +3,7 @@
 ghost use Prim.Native.Nat.{_+_, _≤_};
 ghost use lib.ListN.{length};
 ghost use Rattle.text.specs.Texts.{decimal as decimalText, Appended};
-ghost use Rattle.text.specs.Lines.{field as fieldText, columnsText, lineText, totalText};
+ghost use Rattle.text.specs.Lines.{fieldText, columnsText, lineText, totalText};
 
 // Callers: `field`, and itself with all digits but the last.
 fn decimal(out: &mut [u8], at: usize, number: u64) -> usize

@@ -10,7 +10,7 @@ use lib.Bits.{bitAnd, bitOr, and-mask, and-le-l, or-lt}
 use lib.Dec.{eqb}
 use lib.Pow.{pow-pos, pow-lt, shl-exact}
 use Rattle.limits.specs.Limits.{WORD-MARKS}
-use Rattle.words.specs.Mark.{bitAt, isSet, withSet, withClear, Changed}
+use Rattle.words.specs.Mark.{bitAt, isSet, withSet, withClear, BitWritten}
 use Rattle.words.proofs.Bits.{added-here, added-others, and-bit, or-bit, and-rest}
 
 module _ (w i : ℕ) where
@@ -101,12 +101,12 @@ shifted : (i : ℕ) → i < WORD-MARKS → 1 * 2 ^ i % 18446744073709551616 ≡ 
 shifted i h = shl-exact 1 i WORD-MARKS (omega arith) (omega arith) ∙ one-mul (2 ^ i)
 
 pub set-changed : (w i : ℕ) → i < WORD-MARKS
-    → Changed w i 1 (withSet w i) (bitOr w (1 * 2 ^ i % 18446744073709551616))
+    → BitWritten w i 1 (withSet w i) (bitOr w (1 * 2 ^ i % 18446744073709551616))
 set-changed w i h =
     rw (shifted i h, or-set w i) (record { value = refl; here = set-here w i; others = set-others w i })
 
 pub clear-changed : (w i : ℕ) → w < 18446744073709551616 → i < WORD-MARKS
-    → Changed w i 0 (withClear w i) (bitAnd w (18446744073709551615 - 1 * 2 ^ i % 18446744073709551616))
+    → BitWritten w i 0 (withClear w i) (bitAnd w (18446744073709551615 - 1 * 2 ^ i % 18446744073709551616))
 clear-changed w i l h =
     rw (shifted i h, and-clear w i WORD-MARKS l h)
     (record { value = refl; here = clear-here w i; others = clear-others w i })

@@ -23,7 +23,7 @@ abbrev pub withClear : ℕ → ℕ → ℕ
 withClear w i = cond (isSet w i) (w - 2 ^ i) w
 
 -- r is the word `made`; its bit i is b, and every other bit is as it was in w
-pub record Changed (w i b made r : ℕ) : Type 0 where
+pub record BitWritten (w i b made r : ℕ) : Type 0 where
   pub value : r ≡ made
   pub here : bitAt r i ≡ b
   pub others : (j : ℕ) → j ≢ i → bitAt r j ≡ bitAt w j

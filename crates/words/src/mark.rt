@@ -3,7 +3,7 @@
 ghost use mathlib.Core.Path.{_≡_};
 ghost use Prim.Native.Nat.{_<_};
 ghost use Rattle.limits.specs.Limits.{WORD-MARKS};
-ghost use Rattle.words.specs.Mark.{isSet, withSet, withClear, Changed};
+ghost use Rattle.words.specs.Mark.{isSet, withSet, withClear, BitWritten};
 
 // Whether the mark at `bit` is set. The test that begins a free passes its unit's remainder by 64.
 pub fn test(word: u64, bit: u32) -> bool
@@ -16,7 +16,7 @@ pub fn test(word: u64, bit: u32) -> bool
 // The word with the mark at `bit` set. The step that finishes an allocation passes its unit's remainder by 64.
 pub fn set(word: u64, bit: u32) -> u64
     requires { ⌜ bit < WORD-MARKS ⌝ }
-    ensures { λ r. ⌜ Changed word bit 1 (withSet word bit) r ⌝ }
+    ensures { λ r. ⌜ BitWritten word bit 1 (withSet word bit) r ⌝ }
 {
     word | (1u64 << bit)
 }
@@ -24,7 +24,7 @@ pub fn set(word: u64, bit: u32) -> u64
 // The word with the mark at `bit` clear. The beginning of a free passes its unit's remainder by 64.
 pub fn clear(word: u64, bit: u32) -> u64
     requires { ⌜ bit < WORD-MARKS ⌝ }
-    ensures { λ r. ⌜ Changed word bit 0 (withClear word bit) r ⌝ }
+    ensures { λ r. ⌜ BitWritten word bit 0 (withClear word bit) r ⌝ }
 {
     word & !(1u64 << bit)
 }

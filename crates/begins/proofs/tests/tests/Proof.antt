@@ -1,40 +1,48 @@
--- One law for each way out.
+-- One way out for each test that fails, and one for all that pass.
 use native.Mathlib.Omega.{arith}
-use Rattle.begins.proofs.Testing.{wrong-control, many-tasks, not-started, no-regions, many-regions, wrong-area}
-use Rattle.begins.proofs.Testing.{no-task, all-pass}
+use Rattle.stepped.specs.Calls.{control-fails, tasks-fail, not-started, regions-fail, area-fails, task-fails}
+use Rattle.begins.proofs.Testing.{fails, all-pass}
 use borrow.Author.Needs.{needs}
 use Rattle.begins.proofs.tests.tests.Statement.{statement}
 use Rattle.begins.proofs.tests.tests.Tie as tie
 
 returns : tie.Need-returns
-returns c = wrong-control _ _ _ (λ e. omega arith)
+returns c = fails (λ e. omega arith) (control-fails (λ e. omega arith))
 
 returns-2 : tie.Need-returns-2
-returns-2 c = many-tasks _ _ _ (omega arith) (omega arith)
+returns-2 c = fails (λ e. omega arith) (tasks-fail (omega arith) (omega arith))
 
 returns-3 : tie.Need-returns-3
-returns-3 c = not-started _ _ _ (omega arith) (omega arith)
+returns-3 c = fails (λ e. omega arith) (not-started (omega arith) (omega arith))
 
 returns-4 : tie.Need-returns-4
-returns-4 c = no-regions _ _ _ (omega arith) (λ e. omega arith) (omega arith) (omega arith)
+returns-4 c =
+    fails (λ e. omega arith) (regions-fail (omega arith) (omega arith) (omega arith) (λ low high. omega arith))
 
 returns-5 : tie.Need-returns-5
-returns-5 c = many-regions _ _ _ (omega arith) (λ e. omega arith) (omega arith) (omega arith)
+returns-5 c =
+    fails (λ e. omega arith) (regions-fail (omega arith) (omega arith) (omega arith) (λ low high. omega arith))
 
 returns-6 : tie.Need-returns-6
 returns-6 c =
-    wrong-area _ _ _ (omega arith) (λ e. omega arith) (omega arith) (λ e. omega arith) (omega arith)
-    (λ e. omega arith)
+    fails (λ e. omega arith)
+    (area-fails (omega arith) (omega arith) (omega arith) (omega arith) (omega arith) (λ e. omega arith))
 
 returns-7 : tie.Need-returns-7
 returns-7 c =
-    no-task _ _ _ (omega arith) (λ e. omega arith) (omega arith) (λ e. omega arith) (omega arith) (omega arith)
-    (omega arith)
+    fails (λ e. omega arith)
+    (task-fails (omega arith) (omega arith) (omega arith) (omega arith) (omega arith) (omega arith) (omega arith))
 
 returns-8 : tie.Need-returns-8
-returns-8 c =
-    all-pass _ _ _ (omega arith) (λ e. omega arith) (omega arith) (λ e. omega arith) (omega arith) (omega arith)
-    (omega arith)
+returns-8 c = all-pass (record {
+  control-is = omega arith;
+  started = omega arith;
+  tasks = omega arith;
+  some = omega arith;
+  regions = omega arith;
+  area-is = omega arith;
+  below = omega arith;
+})
 
 pub tests-spec : {M : Type 1} → statement M
 tests-spec =
