@@ -48,10 +48,10 @@ use Rattle.agreement.specs.Relation.{at-read, NoteRelated, r-pushing, r-
 use Rattle.agreement.specs.Relation.{ChainRelated}
 use Rattle.agreement.proofs.Slots.{toPlace, toAnchor, toChain}
 use Rattle.agreement.proofs.Sets.{withSlots, setAnchor}
-use Rattle.agreement.proofs.Bridge.{anchor-written}
+use Rattle.agreement.proofs.AssignedContents.{anchor-written}
 use Rattle.agreement.proofs.ListTops.{first-of, descriptor-in-hand}
-use Rattle.agreement.proofs.Couple.{mine}
-use Rattle.agreement.proofs.Changes.{anchoring}
+use Rattle.agreement.proofs.TurnInBoth.{mine}
+use Rattle.agreement.proofs.TurnChanges.{anchoring}
 use Rattle.agreement.proofs.NotedAnchors.{note-of, same-unmoved, unmoved-same, same-anchor-word}
 use Rattle.agreement.proofs.NotedAnchors.{anchor-word-same, number-open, re-note, anchor-tested}
 use Rattle.stepped.proofs.Conjunction.{both-true}

@@ -41,9 +41,9 @@ use Rattle.agreement.specs.Relation.{CachesRelated, PlaceRelated, r-idle
 use Rattle.agreement.specs.Relation.{r-working}
 use Rattle.agreement.proofs.Slots.{toRequest}
 use Rattle.agreement.proofs.Sets.{setSlot, setMark}
-use Rattle.agreement.proofs.Bridge.{becomes, mark-clear-written}
-use Rattle.agreement.proofs.Couple.{quiet, mine}
-use Rattle.agreement.proofs.Changes.{marking}
+use Rattle.agreement.proofs.AssignedContents.{becomes, mark-clear-written}
+use Rattle.agreement.proofs.TurnInBoth.{quiet, mine}
+use Rattle.agreement.proofs.TurnChanges.{marking}
 use Rattle.agreement.proofs.NotedAnchors.{anchor-tested}
 use Rattle.stepped.proofs.Conjunction.{both-true, left-true, right-true}
 use Rattle.agreement.proofs.Both.{Both, pass, meet, choose, decide}

@@ -19,7 +19,7 @@ use Rattle.plain.specs.State.{Mem, Place}
 use Rattle.control.specs.Layout.{CacheTop, CacheCount, TaskClass}
 use Rattle.stepped.specs.Ranges.{isBlock, isTop}
 use Rattle.agreement.proofs.ListTops.{first-of, rest-of}
-use Rattle.agreement.proofs.Couple.{mine}
+use Rattle.agreement.proofs.TurnInBoth.{mine}
 use Rattle.agreement.proofs.TaskBlocks.{below-tested, cached-home, cached-unit, home-below, top-max}
 use Rattle.agreement.proofs.Turns.{At, cache-top, cache-count}
 

@@ -33,8 +33,8 @@ use Rattle.agreement.specs.Relation.{PlaceRelated, Related}
 use Rattle.agreement.proofs.Images.{append-sound}
 use Rattle.agreement.proofs.Slots.{toCache, withCaches}
 use Rattle.agreement.proofs.Sets.{withSlots, setSlot, setLink}
-use Rattle.agreement.proofs.Bridge.{becomes, cache-here, cache-there}
-use Rattle.agreement.proofs.Couple.{Pair, mine, linking}
+use Rattle.agreement.proofs.AssignedContents.{becomes, cache-here, cache-there}
+use Rattle.agreement.proofs.TurnInBoth.{Pair, mine, linking}
 use Rattle.agreement.proofs.TaskBlocks.{below-tested, home-below, top-max, mine-under, mine-apart, cache-agrees}
 use Rattle.agreement.proofs.TaskBlocks.{wrote, re-cache}
 use Rattle.agreement.proofs.Both.{Both}

@@ -17,12 +17,12 @@ use Rattle.agreement.specs.Contents.{slotOf}
 use Rattle.control.specs.declared.moves.Push.the-variants.{Release}
 use Rattle.agreement.specs.Relation.{at-read, r-pushing, r-working}
 use Rattle.agreement.proofs.Slots.{toPlace}
-use Rattle.agreement.proofs.Bridge.{map-written}
+use Rattle.agreement.proofs.AssignedContents.{map-written}
 use Rattle.agreement.proofs.ListTops.{region-in-hand}
 use Rattle.agreement.proofs.TaskBlocks.{re-slot}
 use Rattle.agreement.proofs.Both.{Both, pass}
 use Rattle.agreement.proofs.Turns.{At}
-use Rattle.agreement.proofs.Writes.{entry-cleared}
+use Rattle.agreement.proofs.TurnWrites.{entry-cleared}
 
 pub f4-clear-both : {regions : ℕ} {v : View} {area : List ℕ} {m : Mem} {t : ℕ} {k : ℕ → List ℕ} {z : State}
     → At regions v area m t

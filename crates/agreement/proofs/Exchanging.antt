@@ -38,16 +38,16 @@ use Rattle.agreement.specs.Relation.{at-read, NoteRelated, GroupRelated,
 use Rattle.agreement.specs.Relation.{r-f4-clear, PlaceRelated, r-working, ChainRelated, Related}
 use Rattle.agreement.proofs.Slots.{toGrouped, toPlace, toState}
 use Rattle.agreement.proofs.Sets.{setAnchor, setSlot}
-use Rattle.agreement.proofs.Bridge.{anchor-written}
+use Rattle.agreement.proofs.AssignedContents.{anchor-written}
 use Rattle.agreement.proofs.TaskBlocks.{re-slot}
 use Rattle.stepped.proofs.Conjunction.{both-true}
 use Rattle.agreement.proofs.Both.{Both, decide, meet, miss, pass}
 use Rattle.agreement.proofs.Turns.{At, goes}
 use Rattle.agreement.proofs.FollowingBoth.{five}
-use Rattle.agreement.proofs.Writes.{OwnWrites, anchor-exchanged}
+use Rattle.agreement.proofs.TurnWrites.{OwnWrites, anchor-exchanged}
 use Rattle.agreement.proofs.NotedAnchors.{SameAnchor, anchor-word-same, same-anchor-word, re-note, anchor-tested}
 use Rattle.agreement.proofs.NotedAnchors.{same-unmoved, unmoved-same}
-use Rattle.agreement.proofs.Noting.{note-anchor, note-room}
+use Rattle.agreement.proofs.NotedAnchorTests.{note-anchor, note-room}
 use Rattle.agreement.proofs.GroupBlocks.{first-below, same-group}
 
 module _ {regions : ℕ} {v : View} {area : List ℕ} {m : Mem} {t : ℕ} {k : ℕ → List ℕ} {y : ℕ} {g : List ℕ} {n : Note}

@@ -19,7 +19,7 @@ use Rattle.plain.proofs.Owners.{home-of}
 use Rattle.agreement.specs.Contents.{TaskGroup, Contents, Slot}
 use Rattle.agreement.specs.Relation.{GroupRelated}
 use Rattle.agreement.proofs.TaskBlocks.{home-below, mine-under}
-use Rattle.agreement.proofs.Couple.{Pair}
+use Rattle.agreement.proofs.TurnInBoth.{Pair}
 
 -- a group goes over to another place, where the task's part and the links say the same of it
 pub same-group : {a a′ : Contents} {s₀ s : Slot} {y : ℕ} {g : List ℕ} → s .class ≡ s₀ .class → s .group ≡ s₀ .group

@@ -37,13 +37,13 @@ use Rattle.agreement.specs.Reached.{Wherever}
 use Rattle.agreement.specs.InRange.{TaskInRange, Ranged, AllRanged, RangedAfter}
 use Rattle.agreement.proofs.ListTops.{top-le, listed, listed-region, descriptor-in-hand}
 use Rattle.agreement.proofs.NotedAnchors.{note-of, first-max, number-open, number-max}
-use Rattle.agreement.proofs.Couple.{Pair, mine}
+use Rattle.agreement.proofs.TurnInBoth.{Pair, mine}
 use Rattle.agreement.proofs.TaskBlocks.{under-unit, below-tested, top-max}
 use Rattle.agreement.specs.Tied.{Tied}
 use Rattle.agreement.proofs.Both.{seen-fitting}
 use Rattle.agreement.proofs.Reaching.{reached-tied, reached-found, along}
 use Rattle.agreement.proofs.FreeUnderWay.{Freeing, allocates, fills, frees, owes}
-use Rattle.agreement.proofs.HandInRange.{numbers-at}
+use Rattle.agreement.proofs.TaskInRange.{numbers-at}
 
 -- ---- a task
 

@@ -23,7 +23,7 @@ use Rattle.stepped.specs.Free as Free
 use Rattle.agreement.specs.Contents.{slotOf}
 use Rattle.agreement.specs.Relation.{r-f2, r-idle, r-working}
 use Rattle.agreement.proofs.Slots.{toGrouped, toPlace}
-use Rattle.agreement.proofs.Couple.{mine}
+use Rattle.agreement.proofs.TurnInBoth.{mine}
 use Rattle.agreement.proofs.TaskBlocks.{mine-apart, mine-under, under-unit}
 use Rattle.stepped.proofs.Conjunction.{both-true}
 use Rattle.agreement.proofs.Both.{Both, decide, pass}

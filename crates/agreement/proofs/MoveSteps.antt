@@ -31,7 +31,7 @@ use Rattle.agreement.proofs.Slots.{toPlace, toHead}
 use Rattle.agreement.proofs.Sets.{withSlots, setSlot, setHead}
 use Rattle.agreement.proofs.ListTops.{top-of, top-le, listed, listed-region, same-word, word-same, won-same}
 use Rattle.agreement.proofs.ListTops.{same-won, next-tag, fresh}
-use Rattle.agreement.proofs.Changes.{heading}
+use Rattle.agreement.proofs.TurnChanges.{heading}
 use Rattle.agreement.proofs.Both.{Both, decide}
 use Rattle.agreement.proofs.Turns.{At, goes}
 use Rattle.agreement.proofs.Sharing.{shares}

@@ -18,9 +18,9 @@ use Rattle.agreement.specs.Relation.{nexts, PlaceRelated}
 use Rattle.agreement.proofs.HeldItems.{HoldsItem}
 use Rattle.agreement.proofs.Slots.{toPlace}
 use Rattle.agreement.proofs.Sets.{setSlot, setDescriptorNext, setRegionNext}
-use Rattle.agreement.proofs.Bridge.{descriptorNext-written, regionNext-written}
+use Rattle.agreement.proofs.AssignedContents.{descriptorNext-written, regionNext-written}
 use Rattle.agreement.proofs.ListTops.{descriptor-in-hand, region-in-hand}
-use Rattle.agreement.proofs.Changes.{descriptor-nexting, region-nexting}
+use Rattle.agreement.proofs.TurnChanges.{descriptor-nexting, region-nexting}
 use Rattle.agreement.proofs.Both.{Both}
 use Rattle.agreement.proofs.Turns.{At}
 use Rattle.agreement.proofs.Sharing.{shares}

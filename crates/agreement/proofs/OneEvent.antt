@@ -80,8 +80,8 @@ module _ {s₁ : Memories} {s : Pool} (S : Tied s₁ s) where
       when-idle R t _ _ (s .mem .task t .place) (R .slots t l .place) (λ e. free-both (turn T t l e) u)
 
 -- the plain pool's own invariant after a call that passes the tests
-good-after : {lent : Lengths} {t : ℕ} {s : Pool} (y : Result) → Good (Plain.tested t lent s y .0) → Plain.Tested lent t s
-    → Good (Plain.became s y .0)
+good-after : {lent : Lengths} {t : ℕ} {s : Pool} (y : Result) → Good (Plain.tested t lent s y .0)
+    → Plain.Tested lent t s → Good (Plain.became s y .0)
 good-after y g T = subst (λ (x : Pool × Answer). Good (x .0)) (passed y T) g
 
 -- what the turn of one call shows of the memories after it

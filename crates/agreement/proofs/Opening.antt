@@ -42,11 +42,11 @@ use Rattle.agreement.specs.Contents.{Contents, Slot, slotOf, contentsOf}
 use Rattle.agreement.specs.Relation.{DescriptorRelated, SlotRelated, Core, Related, r-a8, r-working}
 use Rattle.agreement.proofs.Slots.{toPlace, toChain}
 use Rattle.agreement.proofs.Sets.{withSlots, setSlot, setOwner}
-use Rattle.agreement.proofs.Bridge.{owner-written}
+use Rattle.agreement.proofs.AssignedContents.{owner-written}
 use Rattle.agreement.proofs.ListTops.{descriptor-in-hand, region-in-hand}
 use Rattle.agreement.proofs.Frames.{Reads, after, lists-kept}
 use Rattle.agreement.proofs.RelatedParts.{map-related, core-descriptors, core-entries}
-use Rattle.agreement.proofs.Couple.{Pair, mine, descriptor-apart}
+use Rattle.agreement.proofs.TurnInBoth.{Pair, mine, descriptor-apart}
 use Rattle.stepped.proofs.Conjunction.{both-true}
 use Rattle.agreement.proofs.Both.{Both, pass}
 use Rattle.agreement.proofs.Turns.{At}

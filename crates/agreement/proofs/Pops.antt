@@ -36,9 +36,9 @@ use Rattle.agreement.specs.Relation.{tail, at-read, at-next, at-exchange
 use Rattle.agreement.specs.Relation.{r-pushing, r-a3-read, r-a7, PlaceRelated, r-idle, r-working}
 use Rattle.agreement.proofs.Slots.{toPlace, toNext, toDescriptor, toRegion}
 use Rattle.agreement.proofs.Sets.{setSlot, setHead}
-use Rattle.agreement.proofs.Bridge.{head-written}
+use Rattle.agreement.proofs.AssignedContents.{head-written}
 use Rattle.agreement.proofs.ListTops.{top-of, tail-of, next-of}
-use Rattle.agreement.proofs.Couple.{mine}
+use Rattle.agreement.proofs.TurnInBoth.{mine}
 use Rattle.stepped.proofs.Conjunction.{both-true}
 use Rattle.agreement.proofs.Both.{Both, pass, by-row, has-top}
 use Rattle.agreement.proofs.Turns.{At, goes}

@@ -24,7 +24,7 @@ use Rattle.agreement.specs.Relation.{at-read, r-pushing, r-f1, r-f2, Pla
 use Rattle.agreement.proofs.ListMoves.{ListOf}
 use Rattle.agreement.proofs.Slots.{toPlace, toGrouped}
 use Rattle.agreement.proofs.Sets.{setSlot, setHead}
-use Rattle.agreement.proofs.Bridge.{head-written}
+use Rattle.agreement.proofs.AssignedContents.{head-written}
 use Rattle.agreement.proofs.Both.{Both}
 use Rattle.agreement.proofs.Turns.{At}
 use Rattle.agreement.proofs.FollowingBoth.{six, five}

@@ -35,7 +35,7 @@ use Rattle.agreement.specs.Contents.{slotOf, contentsOf}
 use Rattle.agreement.specs.Relation.{at-read, at-next, at-exchange, nexts, inHand, PushRelated, plainPush}
 use Rattle.agreement.specs.Relation.{ReleaseNoted, r-popping, r-pushing, r-idle, r-working}
 use Rattle.agreement.proofs.Slots.{toPlace}
-use Rattle.agreement.proofs.Couple.{mine}
+use Rattle.agreement.proofs.TurnInBoth.{mine}
 use Rattle.stepped.proofs.Conjunction.{both-true}
 use Rattle.agreement.proofs.NotedAnchors.{number-max}
 use Rattle.agreement.proofs.Both.{Both, pass}

@@ -33,9 +33,9 @@ use Rattle.agreement.proofs.TaskBlocks.{cache-agrees, mine-apart, mine-
 use Rattle.stepped.proofs.Conjunction.{both-true}
 use Rattle.agreement.proofs.Both.{Both, pass}
 use Rattle.agreement.proofs.Turns.{At, goes}
-use Rattle.agreement.proofs.Writes.{link-written}
+use Rattle.agreement.proofs.TurnWrites.{link-written}
 use Rattle.agreement.proofs.NotedAnchors.{note-of, re-note}
-use Rattle.agreement.proofs.Noting.{note-anchor, note-first, note-max, note-room}
+use Rattle.agreement.proofs.NotedAnchorTests.{note-anchor, note-first, note-max, note-room}
 use Rattle.agreement.proofs.GroupBlocks.{same-group, last-at, last-below, last-under, front-out, front-sub}
 use Rattle.agreement.proofs.GroupBlocks.{region-below}
 

@@ -10,7 +10,7 @@ use Rattle.plain.proofs.PlaceAlone.{taskOf}
 use Rattle.agreement.specs.Contents.{Slot, Contents, slotOf, contentsOf}
 use Rattle.agreement.specs.Relation.{PlaceRelated, SlotRelated, Related}
 use Rattle.agreement.proofs.Sets.{withSlots, setSlot}
-use Rattle.agreement.proofs.Bridge.{becomes}
+use Rattle.agreement.proofs.AssignedContents.{becomes}
 use Rattle.agreement.proofs.TaskBlocks.{re-slot}
 use Rattle.agreement.proofs.Turns.{At}
 

@@ -34,10 +34,10 @@ use Rattle.control.specs.declared.moves.Pop.the-variants.{Partial}
 use Rattle.agreement.specs.Relation.{at-read, r-popping, r-idle, r-working, Related}
 use Rattle.agreement.proofs.Slots.{toPlace, toCache}
 use Rattle.agreement.proofs.Sets.{setMark}
-use Rattle.agreement.proofs.Bridge.{mark-set-written}
+use Rattle.agreement.proofs.AssignedContents.{mark-set-written}
 use Rattle.agreement.proofs.ListTops.{first-of, rest-of}
-use Rattle.agreement.proofs.Couple.{mine}
-use Rattle.agreement.proofs.Changes.{marking}
+use Rattle.agreement.proofs.TurnInBoth.{mine}
+use Rattle.agreement.proofs.TurnChanges.{marking}
 use Rattle.agreement.proofs.TaskBlocks.{cached-home, cached-unit, home-below, top-max, re-cache, below-tested}
 use Rattle.stepped.proofs.Conjunction.{both-true}
 use Rattle.agreement.proofs.Both.{Both, pass, by-row}

@@ -30,8 +30,8 @@ use Rattle.agreement.specs.Contents.{TaskCaches, Contents, Slot}
 use Rattle.agreement.specs.Relation.{CachesRelated, PlaceRelated, SlotRelated}
 use Rattle.stepped.proofs.Conjunction.{both-true}
 use Rattle.agreement.proofs.Slots.{toCache}
-use Rattle.agreement.proofs.Couple
-use Rattle.agreement.proofs.Couple.{Pair, agrees, mine, own-block, region-below}
+use Rattle.agreement.proofs.TurnInBoth
+use Rattle.agreement.proofs.TurnInBoth.{Pair, agrees, mine, own-block, region-below}
 
 -- a block of a region of the area passes the test of a block
 pub block-tested : {regions r c v : ℕ} → BlockOf r c v → r < regions → Ranges.isBlock regions c v ≡ true
@@ -88,7 +88,7 @@ module _ {regions : ℕ} {a : Contents} {m : Mem} {t : ℕ} {p : Place} {k : ℕ
   row-agrees u x q h sub n = agrees w u x q (mine-under u h .0) (λ v. omega (arith, sub v)) n
 
   pub wrote : (u x : ℕ) → 1 ≤ count u (underWay p) → x ≤ UNITS → link (withLink (a .area) u x) u ≡ x
-  wrote u x h l = Couple.written w u x (mine-under u h .0) (omega arith)
+  wrote u x h l = TurnInBoth.written w u x (mine-under u h .0) (omega arith)
 
   -- the caches with a new one of the class c
   pub re-cache : (a′ : Contents) (m′ : Mem) (s : Slot) (p′ : Place) (c b n : ℕ) (q : List ℕ)

@@ -15,8 +15,8 @@ use Rattle.control.specs.Layout.{CacheTop, CacheCount, TaskClass}
 use Rattle.agreement.specs.Contents.{Slot, Contents, slotOf, contentsOf}
 use Rattle.agreement.specs.Relation.{PlaceRelated, Related}
 use Rattle.agreement.proofs.Sets.{withSlots, setSlot}
-use Rattle.agreement.proofs.Bridge.{becomes}
-use Rattle.agreement.proofs.Couple.{Pair, mine, quiet}
+use Rattle.agreement.proofs.AssignedContents.{becomes}
+use Rattle.agreement.proofs.TurnInBoth.{Pair, mine, quiet}
 use Rattle.agreement.proofs.TaskBlocks.{re-slot}
 use Rattle.agreement.proofs.Both.{Fitting}
 

@@ -26,7 +26,7 @@ use Rattle.agreement.specs.Relation.{r-popping, r-pushing, r-a3-read, r-
 use Rattle.agreement.specs.Relation.{r-f2-more, r-f3-read, r-f3-link, r-f3-exchange, r-f4-clear, PlaceRelated}
 use Rattle.agreement.specs.Relation.{r-idle, r-working}
 use Rattle.agreement.specs.Observe.{underWays, blocksAt}
-use Rattle.agreement.proofs.Couple.{Pair}
+use Rattle.agreement.proofs.TurnInBoth.{Pair}
 use Rattle.agreement.proofs.GroupBlocks.{of-region}
 
 -- the block that is freed, and a group behind it

@@ -26,12 +26,12 @@ use Rattle.agreement.specs.Contents.{contentsOf}
 use Rattle.agreement.specs.Relation.{Related}
 use Rattle.agreement.proofs.Frames.{kept-slot, lists-kept}
 use Rattle.agreement.proofs.RelatedParts.{links-related, core-links}
-use Rattle.agreement.proofs.Couple.{Valid, valid, same-class}
+use Rattle.agreement.proofs.TurnInBoth.{Valid, valid, same-class}
 use Rattle.agreement.proofs.Both.{Apart}
 
 -- two different blocks of open regions: a byte of one is none of the other's link
-away : {r c u r′ c′ v : ℕ} → BlockOf r c u → BlockOf r′ c′ v → (r ≡ r′ → c ≡ c′) → v ≢ u → (at : ℕ) → UNIT-BYTES * u ≤ at
-    → at < UNIT-BYTES * u + block c
+away : {r c u r′ c′ v : ℕ} → BlockOf r c u → BlockOf r′ c′ v → (r ≡ r′ → c ≡ c′) → v ≢ u
+    → (at : ℕ) → UNIT-BYTES * u ≤ at → at < UNIT-BYTES * u + block c
     → UNIT-BYTES * v ≤ at → UNIT-BYTES * v + LINK-BYTES ≤ at
 away {r} {c} {u} {r′} {c′} {v} b d same n at p q l = elim (ℕ-discrete r r′) [
   | yes e ↦ (let f : BlockOf r c v = rw (same e, e) d in elim (decLt u v) [

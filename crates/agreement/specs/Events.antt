@@ -1,7 +1,7 @@
 -- The events of a run: calls, with what they are lent, and users' writes; the two runs; and the premises.
 use mathlib.Core.Path.{_≡_}
 use mathlib.Core.List.{List, [], _∷_}
-use Rattle.limits.specs.Limits.{CONTROL-BYTES, REGION-BYTES, UNIT-BYTES, TAGS}
+use Rattle.limits.specs.Limits.{CONTROL-BYTES, UNIT-BYTES, TAGS}
 use Rattle.fields.specs.Little.{Bytes}
 use Prim.Native.Nat.{ℕ, pred, _+_, _*_, _≤_, _<_}
 use lib.ListN.{length, set}

@@ -1,5 +1,5 @@
 -- The number of the first of the tests 1, 4, 2, 5 that fails, and 0 where all pass.
-use mathlib.Core.Path.{_≡_, refl, _∙_}
+use mathlib.Core.Path.{_∙_}
 use mathlib.Core.Logic.{_≢_}
 use Prim.Native.Nat.{ℕ}
 use borrow.Author.Tests.{ne-eqb}

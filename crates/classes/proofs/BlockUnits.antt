@@ -21,7 +21,8 @@ pub inside : {r c u : ℕ} → BlockOf r c u → (REGION-UNITS * r ≤ u) × (u 
 inside {c = c} b = omega (arith, mul-le-mul-left (units c) (b .below), b .is, fits c)
 
 -- .. and its bytes in the area
-pub in-area : {r c u : ℕ} (regions : ℕ) → BlockOf r c u → r < regions → UNIT-BYTES * u + block c ≤ REGION-BYTES * regions
+pub in-area : {r c u : ℕ} (regions : ℕ) → BlockOf r c u → r < regions
+    → UNIT-BYTES * u + block c ≤ REGION-BYTES * regions
 in-area regions b h = omega (arith, inside b)
 
 -- its name is one of 0 to 8,191, as the area has at most 16 regions

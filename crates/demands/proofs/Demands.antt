@@ -42,8 +42,8 @@ use Rattle.agreement.proofs.Theorem.{reached-agrees, agreement-from-start}
 use Rattle.demands.specs.AnswerKinds.{Refusal, EndsRequest, OfAnother, Begun}
 use Rattle.demands.specs.Tests.{firstFailed, Passes, startTests, callTests, requestTests, allocateTests}
 use Rattle.demands.specs.Tests.{freeTests, stepTests}
-use Rattle.demands.specs.Acts.{Act, on-own, on-other, write, Contract, Happens, AllHappen, eventOfCall, eventOfAct}
-use Rattle.demands.specs.Acts.{eventsOfActs, Answered}
+use Rattle.demands.specs.Acts.{Act, on-own, on-other, write, Contract, Happens, AllHappen, eventOfCall}
+use Rattle.demands.specs.Acts.{eventOfAct, eventsOfActs, Answered}
 use Rattle.demands.specs.Acts.{OtherLeft, Tells, Told, WhereverActs}
 use Rattle.demands.proofs.NumberTells.{refused, accepted, ends-told, end-told}
 use Rattle.demands.proofs.Failing.{start-first, allocate-first, free-first, step-first, none-failed, later}
@@ -244,8 +244,8 @@ reached-tells h s p R a H P = tells-by a s p H (reached-agrees h s p R (eventOfA
 -- the same moves at the same calls, give the same code and value, never 14, and have after every call the same lists,
 -- chains and holders; each block of an open region is in exactly one place." Here the stepped run is made of the
 -- contracts of the exported functions. From any control memory that is not started.
-pub run-told : (acts : List Act) (s : Memories) → Unstarted s → AllHappen acts s → Premises (eventsOfActs acts s) unstarted
-    → Told acts s unstarted
+pub run-told : (acts : List Act) (s : Memories) → Unstarted s → AllHappen acts s
+    → Premises (eventsOfActs acts s) unstarted → Told acts s unstarted
 run-told acts s U R P = along-acts Tells reached-tells (from-unstarted U) acts R P
 
 -- a start whose lengths and number of tasks are right passes its tests
@@ -275,7 +275,8 @@ start-reaches s p b control l a t =
 -- The same from a start on any memories, whose lengths and number of tasks are right; it is accepted.
 pub run-told-from-start : (acts : List Act) (s left : Memories) (b : Start) (r : ℕ) (p : Pool)
     → length (s .control) ≡ CONTROL-BYTES → Plain.StartArea (length (s .area)) → Plain.StartTasks (b .tasks)
-    → AllHappen (on-own (start b) left r ∷ acts) s → Premises (eventsOfActs acts left) (whole (eventOfCall (start b) s) p .0)
+    → AllHappen (on-own (start b) left r ∷ acts) s
+    → Premises (eventsOfActs acts left) (whole (eventOfCall (start b) s) p .0)
     → (r ≡ 0) × Told (on-own (start b) left r ∷ acts) s p
 run-told-from-start acts s left b r p l a t R P =
     let e = eventOfCall (start b) s in

@@ -5,7 +5,8 @@ use Rattle.plain.specs.Calls.{Pool}
 use Rattle.stepped.specs.Outcome.{Memories}
 use Rattle.agreement.specs.Events.{whole, Premise, Premises}
 use Rattle.agreement.specs.Reached.{History, happened, Reached, by-event}
-use Rattle.demands.specs.Acts.{Act, Happens, AllHappen, afterAct, eventOfAct, eventsOfActs, AlongActs, WhereverActs}
+use Rattle.demands.specs.Acts.{Act, Happens, AllHappen, afterAct, eventOfAct, eventsOfActs, AlongActs}
+use Rattle.demands.specs.Acts.{WhereverActs}
 use Rattle.demands.proofs.Acting.{shows}
 
 -- an act leaves what its event reaches

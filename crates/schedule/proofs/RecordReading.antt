@@ -17,6 +17,9 @@ module _ (input : List ℕ) (at : ℕ) where
   abbrev left : ℕ
   left = length input - at
 
+  abbrev task : ℕ
+  task = getD input (at + TASK-AT) 0
+
   pub no-kind : kind < START-KIND → Bad ≡ recordAt input at
   unfolding recordAt
   no-kind h = rw (lt-leb _ _ h)
@@ -31,7 +34,7 @@ module _ (input : List ℕ) (at : ℕ) where
       unfolding recordAt
       step-cut e h = rw (le-leb _ _ k, le-leb _ _ l, eq-eqb _ _ e, lt-leb _ _ h)
 
-      pub step-whole : kind ≡ STEP-KIND → STEP-BYTES ≤ left → Step (getD input (at + TASK-AT) 0) ≡ recordAt input at
+      pub step-whole : kind ≡ STEP-KIND → STEP-BYTES ≤ left → Step task ≡ recordAt input at
       unfolding recordAt
       step-whole e h = rw (le-leb _ _ k, le-leb _ _ l, eq-eqb _ _ e, le-leb _ _ h)
 
@@ -40,8 +43,8 @@ module _ (input : List ℕ) (at : ℕ) where
         unfolding recordAt
         start-cut e h = rw (le-leb _ _ k, le-leb _ _ l, ne-eqb _ _ m, eq-eqb _ _ e, lt-leb _ _ h)
 
-        pub start-whole : kind ≡ START-KIND → START-BYTES ≤ left → Start (getD input (at + TASK-AT) 0) (getD input (at + NUMBER-AT) 0)
-            ≡ recordAt input at
+        pub start-whole : kind ≡ START-KIND → START-BYTES ≤ left
+            → Start task (getD input (at + NUMBER-AT) 0) ≡ recordAt input at
         unfolding recordAt
         start-whole e h = rw (le-leb _ _ k, le-leb _ _ l, ne-eqb _ _ m, eq-eqb _ _ e, le-leb _ _ h)
 
@@ -50,8 +53,7 @@ module _ (input : List ℕ) (at : ℕ) where
           unfolding recordAt
           wide-cut h = rw (le-leb _ _ k, le-leb _ _ l, ne-eqb _ _ m, ne-eqb _ _ n, lt-leb _ _ h)
 
-          pub wide-whole : WIDE-BYTES ≤ left → wideOf kind (getD input (at + TASK-AT) 0) (getLE input (at + NUMBER-AT) 2)
-              ≡ recordAt input at
+          pub wide-whole : WIDE-BYTES ≤ left → wideOf kind task (getLE input (at + NUMBER-AT) 2) ≡ recordAt input at
           unfolding recordAt
           wide-whole h = rw (le-leb _ _ k, le-leb _ _ l, ne-eqb _ _ m, ne-eqb _ _ n, le-leb _ _ h)
 

@@ -3,7 +3,8 @@ ghost use mathlib.Core.Path.{_≡_};
 ghost use Prim.Native.Nat.{_+_, _≤_, _<_};
 ghost use lib.ListN.{length, getD};
 ghost use Rattle.fields.specs.Little.{getLE};
-ghost use Rattle.schedule.specs.Records.{INPUT-BYTES, WIDE-BYTES, TASK-AT, NUMBER-AT, wideOf, recordAt, entryAt, endOf};
+ghost use Rattle.schedule.specs.Records.{INPUT-BYTES, WIDE-BYTES, TASK-AT, NUMBER-AT, wideOf, recordAt};
+ghost use Rattle.schedule.specs.Records.{entryAt, endOf};
 
 // The kinds of record, and how many bytes a record of a kind has.
 const START_KIND: u8 = 1;

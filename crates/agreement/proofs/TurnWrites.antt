@@ -17,9 +17,9 @@ use Rattle.agreement.specs.Contents.{Slot, Contents, slotOf, contentsOf}
 use Rattle.agreement.specs.Relation.{ChainRelated, Related, SlotRelated}
 use Rattle.agreement.proofs.Slots.{toCache}
 use Rattle.agreement.proofs.Sets.{withSlots, setSlot, setLink, setAnchor, setMap}
-use Rattle.agreement.proofs.Bridge.{becomes}
-use Rattle.agreement.proofs.Couple.{quiet, linking}
-use Rattle.agreement.proofs.Changes.{anchoring, clearing}
+use Rattle.agreement.proofs.AssignedContents.{becomes}
+use Rattle.agreement.proofs.TurnInBoth.{quiet, linking}
+use Rattle.agreement.proofs.TurnChanges.{anchoring, clearing}
 use Rattle.agreement.proofs.Turns.{At}
 use Rattle.agreement.proofs.Caching.{withCache, cache-own, cache-others}
 

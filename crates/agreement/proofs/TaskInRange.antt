@@ -34,7 +34,7 @@ use Rattle.agreement.proofs.WorkPlaces.{span}
 use Rattle.agreement.proofs.FreeUnderWay.{Freeing, allocates, fills, frees, owes, owed-one}
 use Rattle.agreement.proofs.ListsInRange.{none, of-pop, of-push}
 use Rattle.agreement.proofs.ListTops.{first-of, descriptor-in-hand, region-in-hand}
-use Rattle.agreement.proofs.Couple.{Pair}
+use Rattle.agreement.proofs.TurnInBoth.{Pair}
 use Rattle.agreement.proofs.TaskBlocks.{home-below}
 use Rattle.agreement.proofs.GroupBlocks.{first-below, last-below, region-below}
 use Rattle.agreement.proofs.NotedAnchors.{first-max, number-max}

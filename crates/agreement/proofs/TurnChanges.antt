@@ -22,7 +22,7 @@ use Rattle.plain.specs.ByState.{IfOpen}
 use Rattle.plain.specs.HolderWeights.{descriptorWeight, regionWeight, rowWeight}
 use Rattle.agreement.specs.Contents.{Contents, Lists, Slot}
 use Rattle.agreement.specs.Relation.{ChainRelated, Core, ListsRelated, Related, SlotRelated, wrap}
-use Rattle.agreement.proofs.Couple.{Pair, descriptor-apart, region-apart}
+use Rattle.agreement.proofs.TurnInBoth.{Pair, descriptor-apart, region-apart}
 use Rattle.agreement.proofs.Frames.{KeptLists, after, lists-kept}
 use Rattle.agreement.proofs.RelatedParts.{anchor-related, descriptorNext-related, head-related, map-related}
 use Rattle.agreement.proofs.RelatedParts.{mark-related, regionNext-related, core-lists, core-descriptors}
