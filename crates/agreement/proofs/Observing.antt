@@ -176,7 +176,8 @@ module _ {regions : ℕ} {a : Contents} {m : Mem} (small : regions ≤ REGIONS) 
           let D = m .descriptor d in
           let g = number-open (D .state) (not-empty (D .state) (q .1)) in
           let b′ : BlockOf (D .region) (D .class) v =
-          subst (λ (x : ℕ). BlockOf x (D .class) v) (sym (q .0)) (subst (λ (x : ℕ). BlockOf r x v) (omega arith) b) in
+          subst (λ (x : ℕ). BlockOf x (D .class) v) (sym (q .0))
+          (subst (λ (x : ℕ). BlockOf r x v) (omega arith) b) in
           let i : insideWeight v d D ≡ 1 = g (countBlock v (D .region) (D .class)) ∙ block-counts b′ in
           omega (
             arith,

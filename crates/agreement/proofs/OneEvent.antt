@@ -46,8 +46,8 @@ module _ {s₁ : Memories} {s : Pool} (S : Tied s₁ s) where
       subst (λ (r : ℕ). Both (s .regions) v (s₁ .area) (s .mem) (F r) y) (sym (S .regions (T .started))) B
 
   -- the task's turn, where it is idle
-  turn : {lent : Lengths} {u : ℕ} → Plain.Tested lent u s → (t : ℕ) → t < TASKS → s .mem .task t .place ≡ idle
-      → At (s .regions) v (s₁ .area) (s .mem) t idle (s .mem .task t .cache)
+  turn : {lent : Lengths} {u : ℕ} → Plain.Tested lent u s → (t : ℕ) → t < TASKS
+      → s .mem .task t .place ≡ idle → At (s .regions) v (s₁ .area) (s .mem) t idle (s .mem .task t .cache)
   turn T t l e = record {
     pair = record {
       rel = S .related (T .started);

@@ -102,18 +102,17 @@ module _ {s₁ : Memories} {s : Pool} (S : Tied s₁ s) where
   failed-too {lent} y (not-started c h) =
       if-yes (ℕ-discrete (lent .control) CONTROL-BYTES) _ _ c
       ∙ if-yes (ℕ-discrete (s .tasks) 0) _ _ (sym (S .tasks) ∙ h)
-  failed-too y (regions-fail c some few h) =
-      let q : 1 ≤ s .tasks = omega (arith, some, S .tasks) in
-      absurd (h (omega (arith, S .regions q, S .some q)) (omega (arith, S .regions q, S .good .small q)))
-  failed-too {lent} y (area-fails c some few low high h) =
-      let q : 1 ≤ s .tasks = omega (arith, some, S .tasks) in
-      if-yes (ℕ-discrete (lent .control) CONTROL-BYTES) _ _ c
+  failed-too y (regions-fail T h) =
+      let q : 1 ≤ s .tasks = omega (arith, T .1, S .tasks) in
+      absurd (h (omega (arith, S .regions q, S .some q, S .good .small q)))
+  failed-too {lent} y (area-fails T R h) =
+      let q : 1 ≤ s .tasks = omega (arith, T .1, S .tasks) in
+      if-yes (ℕ-discrete (lent .control) CONTROL-BYTES) _ _ (T .0)
       ∙ if-no (ℕ-discrete (s .tasks) 0) _ _ (λ e. absurd (omega (arith, q, e)))
-      ∙ if-no (ℕ-discrete (lent .area) (REGION-BYTES * s .regions)) _ _
-      (λ e. h (omega (arith, e, S .regions q)))
-  failed-too {lent} {t} y (task-fails c some few low high a h) =
-      let q : 1 ≤ s .tasks = omega (arith, some, S .tasks) in
-      if-yes (ℕ-discrete (lent .control) CONTROL-BYTES) _ _ c
+      ∙ if-no (ℕ-discrete (lent .area) (REGION-BYTES * s .regions)) _ _ (λ e. h (omega (arith, e, S .regions q)))
+  failed-too {lent} {t} y (task-fails T R a h) =
+      let q : 1 ≤ s .tasks = omega (arith, T .1, S .tasks) in
+      if-yes (ℕ-discrete (lent .control) CONTROL-BYTES) _ _ (T .0)
       ∙ if-no (ℕ-discrete (s .tasks) 0) _ _ (λ e. absurd (omega (arith, q, e)))
       ∙ if-yes (ℕ-discrete (lent .area) (REGION-BYTES * s .regions)) _ _ (omega (arith, a, S .regions q))
       ∙ if-no (decLt t (s .tasks)) _ _ (λ l. absurd (omega (arith, l, h, S .tasks)))

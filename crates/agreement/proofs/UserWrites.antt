@@ -106,7 +106,8 @@ module _ {regions : ℕ} {m : Mem} (I : Invariant regions m) (u at : ℕ) (held 
 
   -- ---- the pool's link writes leave the byte
 
-  pub byte-kept : (ls : List LinkWrite) (area : List ℕ) → Apart m ls → getD (withLinks ls area) at 0 ≡ getD area at 0
+  pub byte-kept : (ls : List LinkWrite) (area : List ℕ) → Apart m ls
+      → getD (withLinks ls area) at 0 ≡ getD area at 0
   byte-kept [] area h = refl
   byte-kept ((x ⇒ y) ∷ ls) area h =
       byte-kept ls (withLink area x y) (h .1)

@@ -55,9 +55,9 @@ pub among-tests : {lent : Lengths} {v : View} {t n : ℕ} → FirstFails lent v 
 among-tests (control-fails h) = refl
 among-tests (tasks-fail c h) = refl
 among-tests (not-started c h) = refl
-among-tests (regions-fail c some few h) = refl
-among-tests (area-fails c some few low high h) = refl
-among-tests (task-fails c some few low high a h) = refl
+among-tests (regions-fail T h) = refl
+among-tests (area-fails T R h) = refl
+among-tests (task-fails T R a h) = refl
 
 -- ---- the ways out of a step
 

@@ -161,6 +161,7 @@ pub record SameObserved (regions : ℕ) (a : Contents) (m : Mem) : Type 0 where
   pub plain-one-place : (r c v : ℕ) → r < regions → plainClass m r ≡ suc c → BlockOf r c v
       → m .hands v + total TASKS (blockWeight v) (m .task) + count v (plainChain m r) ≡ 1
   -- an open region's chain has blocks of this region and class alone, so that no block stands in another region's chain
-  pub own-blocks : (r c v : ℕ) → r < regions → plainClass m r ≡ suc c → 1 ≤ count v (plainChain m r) → BlockOf r c v
+  pub own-blocks : (r c v : ℕ) → r < regions → plainClass m r ≡ suc c → 1 ≤ count v (plainChain m r)
+      → BlockOf r c v
   -- what is in a user's hands is a block of an open region
   pub held : (v : ℕ) → 1 ≤ m .hands v → (d : ℕ) × OpenBlock m v d

@@ -17,7 +17,8 @@ abbrev pub block-at : (r c i : ℕ) → i < perRegion c → BlockOf r c (unitOf 
 block-at r c i h = record { at = i; below = h; is = refl }
 
 -- a block stays in its region
-pub inside : {r c u : ℕ} → BlockOf r c u → (REGION-UNITS * r ≤ u) × (u + units c ≤ REGION-UNITS * r + REGION-UNITS)
+pub inside : {r c u : ℕ} → BlockOf r c u
+    → (REGION-UNITS * r ≤ u) × (u + units c ≤ REGION-UNITS * r + REGION-UNITS)
 inside {c = c} b = omega (arith, mul-le-mul-left (units c) (b .below), b .is, fits c)
 
 -- .. and its bytes in the area

@@ -43,8 +43,8 @@ among (m ∷ ms) n s h =
     (λ e. among ms n (right-true (ltb m CODES) (small ms) s) e) (pick (eqb n m) (oneOf ms n) h)
 
 -- a refusal is by one of the numbers, which are small
-answer-small : (ns : List ℕ) → small ns ≡ true → (a : Answer) → ((n : ℕ) → a ≡ Refused n → oneOf ns n ≡ true)
-    → codeOf a < CODES
+answer-small : (ns : List ℕ) → small ns ≡ true → (a : Answer)
+    → ((n : ℕ) → a ≡ Refused n → oneOf ns n ≡ true) → codeOf a < CODES
 answer-small ns s Accepted h = omega arith
 answer-small ns s (Allocated u) h = omega arith
 answer-small ns s Freed h = omega arith

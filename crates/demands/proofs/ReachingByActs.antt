@@ -20,7 +20,8 @@ by-act {h} {s} {p} R a H P =
 -- What holds of every act wherever a run has come holds along every list of acts behind it whose events meet the
 -- premises.
 pub along-acts : (P : Act → Memories → Pool → Type 0) → WhereverActs P → {h : History} {s : Memories} {p : Pool}
-    → Reached h s p → (acts : List Act) → AllHappen acts s → Premises (eventsOfActs acts s) p → AlongActs P acts s p
+    → Reached h s p → (acts : List Act) → AllHappen acts s → Premises (eventsOfActs acts s) p
+    → AlongActs P acts s p
 along-acts P f R [] run premises = tt
 along-acts P f {h} {s} {p} R (a ∷ rest) run premises =
     (f h s p R a (run .0) (premises .0), along-acts P f (by-act R a (run .0) (premises .0)) rest (run .1) (premises .1))

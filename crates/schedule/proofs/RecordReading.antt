@@ -53,7 +53,8 @@ module _ (input : List ℕ) (at : ℕ) where
           unfolding recordAt
           wide-cut h = rw (le-leb _ _ k, le-leb _ _ l, ne-eqb _ _ m, ne-eqb _ _ n, lt-leb _ _ h)
 
-          pub wide-whole : WIDE-BYTES ≤ left → wideOf kind task (getLE input (at + NUMBER-AT) 2) ≡ recordAt input at
+          pub wide-whole : WIDE-BYTES ≤ left
+              → wideOf kind task (getLE input (at + NUMBER-AT) 2) ≡ recordAt input at
           unfolding recordAt
           wide-whole h = rw (le-leb _ _ k, le-leb _ _ l, ne-eqb _ _ m, ne-eqb _ _ n, le-leb _ _ h)
 

@@ -1,6 +1,6 @@
 -- The tests 1, 4, 2, 5 of a call that is no start: the first that fails refuses it, and what follows them is done where
 -- all pass.
-use Prim.Native.Nat.{ℕ, _*_, _≤_}
+use Prim.Native.Nat.{ℕ, _*_}
 use mathlib.Core.Path.{_≡_, refl}
 use mathlib.Core.Bool.{Bool, true, false, cond, false≢true}
 use native.Mathlib.Omega.{arith}
@@ -13,12 +13,13 @@ use Rattle.plain.specs.Calls.{Lengths}
 use Rattle.control.specs.Layout.{Tasks, Regions}
 use Rattle.stepped.specs.Outcome.{Outcome, refuse}
 use Rattle.stepped.specs.Ranges.{oneTo}
-use Rattle.stepped.specs.Calls.{tested, Tested, FirstFails, control-fails, tasks-fail, not-started, regions-fail}
-use Rattle.stepped.specs.Calls.{area-fails, task-fails}
-use Rattle.stepped.proofs.Conjunction.{both-true, left-true, right-true}
+use Rattle.stepped.specs.Calls.{tested, Tested, HasTasks, HasRegions, FirstFails}
+use Rattle.stepped.specs.Calls.{control-fails, tasks-fail, not-started, regions-fail, area-fails, task-fails}
+use Rattle.stepped.proofs.Conjunction.{both-true, both}
 
 -- a test: what holds of both ways on holds of what follows
-pub branch : {A : Type 0} (P : A → Type 0) {x y : A} (b : Bool) → (b ≡ true → P x) → (b ≡ false → P y) → P (cond b x y)
+pub branch : {A : Type 0} (P : A → Type 0) {x y : A} (b : Bool) → (b ≡ true → P x) → (b ≡ false → P y)
+    → P (cond b x y)
 branch P true h k = h refl
 branch P false h k = k refl
 
@@ -27,10 +28,11 @@ not-true : (b : Bool) → (b ≡ true → ⊥) → b ≡ false
 not-true true h = absurd (h refl)
 not-true false h = refl
 
--- the stored number of regions passes its test exactly in its range
-one-to-regions : (n : ℕ) → oneTo REGIONS n ≡ true → (1 ≤ n) × (n ≤ REGIONS)
-one-to-regions n h =
-    (leb-true 1 n (left-true (leb 1 n) (leb n REGIONS) h), leb-true n REGIONS (right-true (leb 1 n) (leb n REGIONS) h))
+-- a stored number of regions that passes its test is in its range
+some-regions : (v : View) → oneTo REGIONS (v Regions) ≡ true → HasRegions v
+some-regions v h =
+    let b = both (leb 1 (v Regions)) (leb (v Regions) REGIONS) h in
+    (leb-true 1 (v Regions) (b .0), leb-true (v Regions) REGIONS (b .1))
 
 module _ (lent : Lengths) (v : View) (t : ℕ) where
   -- what holds of a refusal by the first test that fails, and of what follows them, holds of the call
@@ -44,24 +46,24 @@ module _ (lent : Lengths) (v : View) (t : ℕ) where
       let few = leb-true (v Tasks) TASKS f in
       branch P (eqb (v Tasks) 0) (λ g. r 4 (not-started c (eqb-true (v Tasks) 0 g))) (λ g.
       let z : v Tasks ≡ 0 → ⊥ = eqb-false (v Tasks) 0 g in
-      let some : 1 ≤ v Tasks = omega arith in
+      let T : HasTasks lent v = (c, omega arith, few) in
       branch P (oneTo REGIONS (v Regions)) (λ h.
-      let i = one-to-regions (v Regions) h in
+      let R = some-regions v h in
       branch P (eqb (lent .area) (REGION-BYTES * v Regions)) (λ j.
       let a = eqb-true (lent .area) (REGION-BYTES * v Regions) j in
       branch P (ltb t (v Tasks)) (λ l. k (record {
         control-is = c;
-        started = some;
+        started = T .1;
         tasks = few;
-        some = i .0;
-        regions = i .1;
+        some = R .0;
+        regions = R .1;
         area-is = a;
         below = ltb-true t (v Tasks) l;
       }))
-      (λ l. r 5 (task-fails c some few (i .0) (i .1) a (ltb-false t (v Tasks) l))))
-      (λ j. r 2 (area-fails c some few (i .0) (i .1) (eqb-false (lent .area) (REGION-BYTES * v Regions) j))))
-      (λ h. r 14 (regions-fail c some few
-      (λ p q. false≢true (rw (← h) (both-true (le-leb 1 (v Regions) p) (le-leb (v Regions) REGIONS q))))))))
+      (λ l. r 5 (task-fails T R a (ltb-false t (v Tasks) l))))
+      (λ j. r 2 (area-fails T R (eqb-false (lent .area) (REGION-BYTES * v Regions) j))))
+      (λ h. r 14 (regions-fail T
+      (λ R. false≢true (rw (← h) (both-true (le-leb 1 (v Regions) (R .0)) (le-leb (v Regions) REGIONS (R .1)))))))))
       (λ f. r 14 (tasks-fail c (leb-false (v Tasks) TASKS f))))
       (λ e. r 1 (control-fails (eqb-false (lent .control) CONTROL-BYTES e)))
 
@@ -73,26 +75,26 @@ module _ {lent : Lengths} {v : View} {t : ℕ} (x : Outcome) where
   failed (tasks-fail c h) = rw (eq-eqb (lent .control) CONTROL-BYTES c, lt-leb (v Tasks) TASKS h)
   failed (not-started c h) =
       rw (eq-eqb (lent .control) CONTROL-BYTES c, le-leb (v Tasks) TASKS (omega arith), eq-eqb (v Tasks) 0 h)
-  failed (regions-fail c some few h) = rw (
-    eq-eqb (lent .control) CONTROL-BYTES c,
-    le-leb (v Tasks) TASKS few,
-    ne-eqb (v Tasks) 0 (omega arith),
-    not-true (oneTo REGIONS (v Regions)) (λ e. h (one-to-regions (v Regions) e .0) (one-to-regions (v Regions) e .1)),
+  failed (regions-fail T h) = rw (
+    eq-eqb (lent .control) CONTROL-BYTES (T .0),
+    le-leb (v Tasks) TASKS (T .2),
+    ne-eqb (v Tasks) 0 (omega (arith, T .1)),
+    not-true (oneTo REGIONS (v Regions)) (λ e. h (some-regions v e)),
   )
-  failed (area-fails c some few low high h) = rw (
-    eq-eqb (lent .control) CONTROL-BYTES c,
-    le-leb (v Tasks) TASKS few,
-    ne-eqb (v Tasks) 0 (omega arith),
-    le-leb 1 (v Regions) low,
-    le-leb (v Regions) REGIONS high,
+  failed (area-fails T R h) = rw (
+    eq-eqb (lent .control) CONTROL-BYTES (T .0),
+    le-leb (v Tasks) TASKS (T .2),
+    ne-eqb (v Tasks) 0 (omega (arith, T .1)),
+    le-leb 1 (v Regions) (R .0),
+    le-leb (v Regions) REGIONS (R .1),
     ne-eqb (lent .area) (REGION-BYTES * v Regions) h,
   )
-  failed (task-fails c some few low high a h) = rw (
-    eq-eqb (lent .control) CONTROL-BYTES c,
-    le-leb (v Tasks) TASKS few,
-    ne-eqb (v Tasks) 0 (omega arith),
-    le-leb 1 (v Regions) low,
-    le-leb (v Regions) REGIONS high,
+  failed (task-fails T R a h) = rw (
+    eq-eqb (lent .control) CONTROL-BYTES (T .0),
+    le-leb (v Tasks) TASKS (T .2),
+    ne-eqb (v Tasks) 0 (omega (arith, T .1)),
+    le-leb 1 (v Regions) (R .0),
+    le-leb (v Regions) REGIONS (R .1),
     eq-eqb (lent .area) (REGION-BYTES * v Regions) a,
     le-ltb t (v Tasks) h,
   )

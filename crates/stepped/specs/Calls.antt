@@ -55,17 +55,23 @@ pub record Tested (lent : Lengths) (v : View) (t : ℕ) : Type 0 where
   pub area-is : lent .area ≡ REGION-BYTES * v Regions
   pub below : t < v Tasks
 
--- The first of these tests that fails refuses the call by its number; those before it pass.
+-- "1 control not 8,192 bytes", "4 pool not started": these two pass, and the number of tasks is in its range
+abbrev pub HasTasks : Lengths → View → Type 0
+HasTasks lent v = (lent .control ≡ CONTROL-BYTES) × (1 ≤ v Tasks) × (v Tasks ≤ TASKS)
+
+-- the number of regions is in its range
+abbrev pub HasRegions : View → Type 0
+HasRegions v = (1 ≤ v Regions) × (v Regions ≤ REGIONS)
+
+-- The first of the tests 1, 4, 2, 5 that fails refuses the call by its number; those before it pass.
 pub data FirstFails (lent : Lengths) (v : View) (t : ℕ) : ℕ → Type 0 where
   control-fails : lent .control ≢ CONTROL-BYTES → FirstFails lent v t 1
   tasks-fail : lent .control ≡ CONTROL-BYTES → TASKS < v Tasks → FirstFails lent v t 14
   not-started : lent .control ≡ CONTROL-BYTES → v Tasks ≡ 0 → FirstFails lent v t 4
-  regions-fail : lent .control ≡ CONTROL-BYTES → 1 ≤ v Tasks → v Tasks ≤ TASKS
-      → (1 ≤ v Regions → v Regions ≤ REGIONS → ⊥) → FirstFails lent v t 14
-  area-fails : lent .control ≡ CONTROL-BYTES → 1 ≤ v Tasks → v Tasks ≤ TASKS → 1 ≤ v Regions → v Regions ≤ REGIONS
-      → lent .area ≢ REGION-BYTES * v Regions → FirstFails lent v t 2
-  task-fails : lent .control ≡ CONTROL-BYTES → 1 ≤ v Tasks → v Tasks ≤ TASKS → 1 ≤ v Regions → v Regions ≤ REGIONS
-      → lent .area ≡ REGION-BYTES * v Regions → v Tasks ≤ t → FirstFails lent v t 5
+  regions-fail : HasTasks lent v → (HasRegions v → ⊥) → FirstFails lent v t 14
+  area-fails : HasTasks lent v → HasRegions v → lent .area ≢ REGION-BYTES * v Regions → FirstFails lent v t 2
+  task-fails : HasTasks lent v → HasRegions v → lent .area ≡ REGION-BYTES * v Regions → v Tasks ≤ t
+      → FirstFails lent v t 5
 
 -- "6 the task has a request in hand"; then the beginning x. A place past the step list is outside its range.
 unfoldable pub whenIdle : View → ℕ → Outcome → Outcome

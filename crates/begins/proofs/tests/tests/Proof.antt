@@ -17,21 +17,21 @@ returns-3 c = fails (λ e. omega arith) (not-started (omega arith) (omega arith)
 
 returns-4 : tie.Need-returns-4
 returns-4 c =
-    fails (λ e. omega arith) (regions-fail (omega arith) (omega arith) (omega arith) (λ low high. omega arith))
+    fails (λ e. omega arith) (regions-fail (omega arith, omega arith, omega arith) (λ R. omega (arith, R .0, R .1)))
 
 returns-5 : tie.Need-returns-5
 returns-5 c =
-    fails (λ e. omega arith) (regions-fail (omega arith) (omega arith) (omega arith) (λ low high. omega arith))
+    fails (λ e. omega arith) (regions-fail (omega arith, omega arith, omega arith) (λ R. omega (arith, R .0, R .1)))
 
 returns-6 : tie.Need-returns-6
 returns-6 c =
     fails (λ e. omega arith)
-    (area-fails (omega arith) (omega arith) (omega arith) (omega arith) (omega arith) (λ e. omega arith))
+    (area-fails (omega arith, omega arith, omega arith) (omega arith, omega arith) (λ e. omega arith))
 
 returns-7 : tie.Need-returns-7
 returns-7 c =
     fails (λ e. omega arith)
-    (task-fails (omega arith) (omega arith) (omega arith) (omega arith) (omega arith) (omega arith) (omega arith))
+    (task-fails (omega arith, omega arith, omega arith) (omega arith, omega arith) (omega arith) (omega arith))
 
 returns-8 : tie.Need-returns-8
 returns-8 c = all-pass (record {
