@@ -12,8 +12,7 @@ use Rattle.limits.specs.Limits.{CLASSES, WORD-MARKS}
 use Rattle.rows.specs.Branch.{if}
 use Rattle.rows.specs.Update.{update}
 use Rattle.fields.specs.Columns.{View, _:=_, assigned}
-use Rattle.words.specs.Mark.{bitAt, withSet, withClear}
-use Rattle.words.proofs.Marks.{set-here, set-others, clear-here, clear-others}
+use Rattle.words.specs.Mark.{bitAt}
 use Rattle.control.specs.Layout.{Marks}
 use Rattle.control.specs.Layout
 use Rattle.words.specs.Head.{headOf}
@@ -99,26 +98,6 @@ module _ (v : View) (u b made : ℕ) (here : bitAt made (u % WORD-MARKS) ≡ b)
           (others (w % WORD-MARKS) (λ z. d (omega arith)) ∙ ap (λ (k : ℕ). bitAt (v (Marks k)) (w % WORD-MARKS)) e)
       by w (no d) (no e) = rw (ne-eqb (u / WORD-MARKS) (w / WORD-MARKS) e)
 
-pub mark-set : (v : View) (u : ℕ)
-    → (λ (w : ℕ). bitAt (cond (eqb (u / WORD-MARKS) (w / WORD-MARKS))
-    (withSet (v (Marks (u / WORD-MARKS))) (u % WORD-MARKS)) (v (Marks (w / WORD-MARKS))))
-    (w % WORD-MARKS))
-    ≡ update (markOf v) u 1
-mark-set v u =
-    marks-update v u 1 (withSet (v (Marks (u / WORD-MARKS))) (u % WORD-MARKS))
-    (set-here (v (Marks (u / WORD-MARKS))) (u % WORD-MARKS))
-    (set-others (v (Marks (u / WORD-MARKS))) (u % WORD-MARKS))
-
-pub mark-clear : (v : View) (u : ℕ)
-    → (λ (w : ℕ). bitAt (cond (eqb (u / WORD-MARKS) (w / WORD-MARKS))
-    (withClear (v (Marks (u / WORD-MARKS))) (u % WORD-MARKS)) (v (Marks (w / WORD-MARKS))))
-    (w % WORD-MARKS))
-    ≡ update (markOf v) u 0
-mark-clear v u =
-    marks-update v u 0 (withClear (v (Marks (u / WORD-MARKS))) (u % WORD-MARKS))
-    (clear-here (v (Marks (u / WORD-MARKS))) (u % WORD-MARKS))
-    (clear-others (v (Marks (u / WORD-MARKS))) (u % WORD-MARKS))
-
 -- ---- the memories
 
 -- After writes that change the view v to v′: what is shared is as in b, and of the tasks' parts only that of t, now s,
@@ -184,18 +163,10 @@ module _ (v : View) (S : ℕ → Slot) (area : List ℕ) where
         class = column-update (λ (y : ℕ). y) (λ (j : ℕ). v (Layout.DescriptorClass j)) d c z;
       }) before)
 
-  -- a mark that is set
-  pub mark-set-written : (u : ℕ)
-      → withSlots S
-      (contentsOf (assigned (Layout.Marks (u / WORD-MARKS) := withSet (v (Layout.Marks (u / WORD-MARKS)))
-      (u % WORD-MARKS) ∷ []) v) area)
-      ≡ withSlots S (setMark u 1 (contentsOf v area))
-  mark-set-written u = ap (λ (f : ℕ → ℕ). onEntries (withMarks f) before) (mark-set v u)
-
-  -- a mark that is cleared
-  pub mark-clear-written : (u : ℕ)
-      → withSlots S
-      (contentsOf (assigned (Layout.Marks (u / WORD-MARKS) := withClear (v (Layout.Marks (u / WORD-MARKS)))
-      (u % WORD-MARKS) ∷ []) v) area)
-      ≡ withSlots S (setMark u 0 (contentsOf v area))
-  mark-clear-written u = ap (λ (f : ℕ → ℕ). onEntries (withMarks f) before) (mark-clear v u)
+  -- a word of marks whose bit of the unit u is b, and whose others are as they were
+  pub mark-written : (u b made : ℕ) → bitAt made (u % WORD-MARKS) ≡ b
+      → ((j : ℕ) → j ≢ u % WORD-MARKS → bitAt made j ≡ bitAt (v (Marks (u / WORD-MARKS))) j)
+      → withSlots S (contentsOf (assigned (Marks (u / WORD-MARKS) := made ∷ []) v) area)
+      ≡ withSlots S (setMark u b (contentsOf v area))
+  mark-written u b made here others =
+      ap (λ (f : ℕ → ℕ). onEntries (withMarks f) before) (marks-update v u b made here others)

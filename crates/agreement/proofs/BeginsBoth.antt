@@ -15,7 +15,7 @@ use Rattle.links.specs.Link.{link}
 use Rattle.words.specs.Anchor.{anchorOf}
 use Rattle.words.specs.Anchor as Words
 use Rattle.words.specs.Mark.{bitAt, isSet, withClear}
-use Rattle.words.proofs.Marks.{clear-below}
+use Rattle.words.proofs.Marks.{clear-below, clear-here, clear-others}
 use Rattle.classes.specs.Classes.{units, perRegion}
 use Rattle.classes.specs.Sizes.{classOf}
 use Rattle.classes.specs.Geometry.{regionOf, indexOf, isFirst}
@@ -41,7 +41,7 @@ use Rattle.agreement.specs.Relation.{CachesRelated, PlaceRelated, r-idle
 use Rattle.agreement.specs.Relation.{r-working}
 use Rattle.agreement.proofs.Slots.{toRequest}
 use Rattle.agreement.proofs.Sets.{setSlot, setMark}
-use Rattle.agreement.proofs.AssignedContents.{becomes, mark-clear-written}
+use Rattle.agreement.proofs.AssignedContents.{becomes, mark-written}
 use Rattle.agreement.proofs.TurnInBoth.{quiet, mine}
 use Rattle.agreement.proofs.TurnChanges.{marking}
 use Rattle.agreement.proofs.NotedAnchors.{anchor-tested}
@@ -164,8 +164,8 @@ module _ {regions : ℕ} {v : View} {area : List ℕ} {m : Mem} {t : ℕ} {k : �
         says = refl;
         rel = subst (λ (z : Contents). Related regions z (freed c .0))
             (sym (becomes v (assigned ws v) area t s (setMark u 0 (contentsOf v area))
-            (mark-clear-written v (slotOf (assigned ws v)) area u) refl (rw (eq-eqb t t refl))
-            (λ j n. rw (ne-eqb t j n))))
+            (mark-written v (slotOf (assigned ws v)) area u 0 _ (clear-here (v (Marks (u / WORD-MARKS))) (u % WORD-MARKS))
+            (clear-others (v (Marks (u / WORD-MARKS))) (u % WORD-MARKS))) refl (rw (eq-eqb t t refl)) (λ j n. rw (ne-eqb t j n))))
             (subst (λ (q : ℕ → List ℕ). Related regions (setSlot t s (setMark u 0 (contentsOf v area)))
             (setTask t (record { place = working (f1 c u); cache = q }) (setHands u 0 m))) (sym cache-is)
             (marking (w .pair) u 0 s (taskOf (working (f1 c u)) k)

@@ -15,7 +15,7 @@ use Rattle.rows.specs.Weights.{one}
 use Rattle.rows.proofs.Weights.{when-same}
 use Rattle.fields.specs.Columns.{View, _:=_, assigned}
 use Rattle.words.specs.Mark.{withSet}
-use Rattle.words.proofs.Marks.{set-below}
+use Rattle.words.proofs.Marks.{set-below, set-here, set-others}
 use Rattle.classes.specs.Classes.{perRegion}
 use Rattle.links.specs.Link.{link}
 use Rattle.plain.specs.State.{read, partial, popping, idle, a1, Mem, setHands, working}
@@ -34,7 +34,7 @@ use Rattle.control.specs.declared.moves.Pop.the-variants.{Partial}
 use Rattle.agreement.specs.Relation.{at-read, r-popping, r-idle, r-working, Related}
 use Rattle.agreement.proofs.Slots.{toPlace, toCache}
 use Rattle.agreement.proofs.Sets.{setMark}
-use Rattle.agreement.proofs.AssignedContents.{mark-set-written}
+use Rattle.agreement.proofs.AssignedContents.{mark-written}
 use Rattle.agreement.proofs.ListTops.{first-of, rest-of}
 use Rattle.agreement.proofs.TurnInBoth.{mine}
 use Rattle.agreement.proofs.TurnChanges.{marking}
@@ -85,7 +85,8 @@ module _ {regions : ℕ} {v : View} {area : List ℕ} {m : Mem} {t : ℕ} {k : �
             (sym (cache-becomes v (assigned (TaskPlace t := IDLE
             ∷ Marks (u / WORD-MARKS) := withSet word (u % WORD-MARKS) ∷ []) v)
             area t c b (n - 1) (toPlace IDLE (slotOf v t)) (setMark u 1 (contentsOf v area)) l
-            (mark-set-written v (slotOf (assigned (TaskPlace t := IDLE ∷ []) v)) area u) refl
+            (mark-written v (slotOf (assigned (TaskPlace t := IDLE ∷ []) v)) area u 1 _
+            (set-here word (u % WORD-MARKS)) (set-others word (u % WORD-MARKS))) refl
             (rw (eq-eqb t t refl)) (λ j d. rw (ne-eqb t j d))))
             (marking (w .pair) u 1 (toCache c b (n - 1) (toPlace IDLE (slotOf v t))) (taskOf idle (update k c q))
             (re-cache (w .pair) _ _ (toCache c b (n - 1) (toPlace IDLE (slotOf v t))) idle c b (n - 1) q
