@@ -164,8 +164,10 @@ module _ {regions : ℕ} {v : View} {area : List ℕ} {m : Mem} {t : ℕ} {k : �
         says = refl;
         rel = subst (λ (z : Contents). Related regions z (freed c .0))
             (sym (becomes v (assigned ws v) area t s (setMark u 0 (contentsOf v area))
-            (mark-written v (slotOf (assigned ws v)) area u 0 _ (clear-here (v (Marks (u / WORD-MARKS))) (u % WORD-MARKS))
-            (clear-others (v (Marks (u / WORD-MARKS))) (u % WORD-MARKS))) refl (rw (eq-eqb t t refl)) (λ j n. rw (ne-eqb t j n))))
+            (mark-written v (slotOf (assigned ws v)) area u 0 _
+            (clear-here (v (Marks (u / WORD-MARKS))) (u % WORD-MARKS))
+            (clear-others (v (Marks (u / WORD-MARKS))) (u % WORD-MARKS)))
+            refl (rw (eq-eqb t t refl)) (λ j n. rw (ne-eqb t j n))))
             (subst (λ (q : ℕ → List ℕ). Related regions (setSlot t s (setMark u 0 (contentsOf v area)))
             (setTask t (record { place = working (f1 c u); cache = q }) (setHands u 0 m))) (sym cache-is)
             (marking (w .pair) u 0 s (taskOf (working (f1 c u)) k)
