@@ -20,7 +20,7 @@ use Rattle.classes.specs.Classes.{units, perRegion}
 use Rattle.classes.specs.Sizes.{classOf}
 use Rattle.classes.specs.Geometry.{regionOf, indexOf, isFirst}
 use Rattle.classes.proofs.Sizes.{is-class}
-use Rattle.plain.specs.State.{EMPTY, stateNumber, Place, idle, a1, f1, Mem, Task, setTask}
+use Rattle.plain.specs.State.{stateNumber, Place, idle, a1, f1, Mem, Task, setTask}
 use Rattle.plain.specs.State.{setHands}
 use Rattle.plain.specs.State.{working}
 use Rattle.plain.specs.Moves.{going, nothing, refused}

@@ -171,7 +171,7 @@ module _ (area : List ℕ) (b : Start) (t : ℕ) (a : Plain.StartArea (length ar
   abbrev pool : Mem → Pool
   pool m = record { tasks = b .tasks; regions = regions; mem = m }
 
-  passes : (m : Mem) → Plain.Tested (lengths (lends area)) t (pool m)
+  passes : (m : Mem) → Plain.Tested t (lengths (lends area)) (pool m)
   passes m = record { control-is = refl; started = T .0; area-is = omega (arith, a); below = l }
 
   starts : whole (starting b area) unstarted ≡ (pool (startMem regions), going nothing)

@@ -110,14 +110,6 @@ module _ {regions : ℕ} {v : View} {area : List ℕ} {m : Mem} {t : ℕ} {p : P
       (subst (λ (z : ℕ). Linked (link area) (λ u. u) UNITS z (k c)) (cache-top w)
       (mine (w .pair) .caches .tops c (mine (w .pair) .fits))))
 
-  pub cache-top-max : v (CacheTop t (v (TaskClass t))) ≤ UNITS
-  cache-top-max =
-      let c = v (TaskClass t) in
-      top-max (w .pair) c (v (CacheTop t c)) (k c)
-      (subst (λ (z : ℕ). Linked (link area) (λ u. u) UNITS z (k c)) (cache-top w)
-      (mine (w .pair) .caches .tops c (mine (w .pair) .fits)))
-      (λ u. omega arith)
-
   -- a block under way is a unit
   pub under-max : (u : ℕ) → 1 ≤ count u (underWay p) → u < UNITS
   under-max u o = omega (arith, w .pair .small, home-below (w .pair) (home-of (w .pair .turn) u o))

@@ -2,13 +2,12 @@
 use Prim.Native.Nat.{ℕ, _+_, _-_, _/_, _%_, _≤_, _<_}
 use mathlib.Core.Path.{_≡_, refl, sym, ap, subst, _∙_}
 use mathlib.Core.Logic.{_≢_, _⊎_, ⊎-map, ⊎-elim, inr, _↔_}
-use mathlib.Core.Bool.{true, _&&_}
+use mathlib.Core.Bool.{true}
 use mathlib.Core.List.{List, [], _∷_, _++_}
 use native.Mathlib.Omega.{arith}
 use borrow.Author.Tests.{eq-eqb, le-leb, lt-ltb, eqb-false, ltb-true, ltb-false}
 use lib.Dec.{eqb, leb, ltb}
-use lib.ListN.{length}
-use Rattle.limits.specs.Limits.{CONTROL-BYTES, REGION-BYTES, AREA-BYTES, TASKS, CLASSES, DESCRIPTORS, LARGEST-SIZE}
+use Rattle.limits.specs.Limits.{CLASSES, DESCRIPTORS, LARGEST-SIZE}
 use Rattle.limits.specs.Limits.{WORD-MARKS}
 use Rattle.fields.specs.Columns.{View, Write, _:=_}
 use Rattle.links.specs.Link.{LinkWrite, link, withLinks}
@@ -30,7 +29,7 @@ use Rattle.control.specs.declared.moves.Pop.the-variants.{Spare, Region}
 use Rattle.control.specs.declared.moves.Push.{Push}
 use Rattle.control.specs.declared.moves.Push.the-variants.{Back}
 use Rattle.stepped.specs.Outcome.{Outcome, refuse, accept, Memories, effect}
-use Rattle.stepped.specs.Ranges.{oneTo, isAnchor}
+use Rattle.stepped.specs.Ranges.{isAnchor}
 use Rattle.stepped.specs.Lists as Lists
 use Rattle.stepped.specs.Lists.{pushPlace}
 use Rattle.stepped.specs.Steps as Steps
@@ -39,8 +38,9 @@ use Rattle.agreement.specs.Ends.{WritesNothing, Leaves, oneOf, testRefus
 use Rattle.agreement.specs.Ends.{placeRefusals, stepRefusals, Begins, StepAnswers, StartEnds, BeginEnds, StepEnds}
 use Rattle.agreement.specs.Ends.{FindsEmpty, WinsPush, InPush, placeAfter, IsEnd, BegunOutcome}
 use Rattle.stepped.specs.Calls.{Tested, Lent, lengths}
-use Rattle.stepped.proofs.CallTests.{branch, tests, passed}
-use Rattle.agreement.proofs.Ways.{accepted-no, more, among-tests, Cause, Ending, CallEnding, refused}
+use Rattle.stepped.proofs.CallTests.{passed}
+use Rattle.agreement.proofs.Ways.{branch, tests}
+use Rattle.agreement.proofs.Ways.{accepted-no, more, among-tests, among-start-tests, start-tests, Cause, Ending, CallEnding, refused}
 use Rattle.agreement.proofs.Ways.{going, ended, at-call, sent}
 use Rattle.agreement.proofs.StepWays.{step-at}
 
@@ -133,16 +133,10 @@ module _ (lent : Lengths) (v : View) (t : ℕ) where
 -- ---- start
 
 pub start-ends : (b : Start) (lent : Lent) (s : Memories) → StartEnds s (Calls.startIn b lent s)
-unfolding Calls.startIn
 start-ends b lent s =
-    let P = StartEnds s in
-    let bytes = length (lent .area) in
-    branch P (eqb (lent .control) CONTROL-BYTES) (λ e.
-    branch P (eqb (bytes % REGION-BYTES) 0 && oneTo AREA-BYTES bytes) (λ f.
-    branch P (oneTo TASKS (b .tasks)) (λ g. record { leaves = λ n h. absurd (accepted-no h); answers = tt })
-    (λ g. record { leaves = λ n h. (refl, refl); answers = refl }))
-    (λ f. record { leaves = λ n h. (refl, refl); answers = refl }))
-    (λ e. record { leaves = λ n h. (refl, refl); answers = refl })
+    start-tests (StartEnds s) b lent s
+    (λ n F. record { leaves = λ m h. (refl, refl); answers = among-start-tests F })
+    (λ T. record { leaves = λ n h. absurd (accepted-no h); answers = tt })
 
 -- ---- steps
 

@@ -1,27 +1,25 @@
 -- The state that each task noted is one of the three, once the pool is started, after every event.
-use Prim.Native.Nat.{ℕ, _/_, _%_, _≤_}
+use Prim.Native.Nat.{ℕ, _/_, _≤_}
 use mathlib.Core.Path.{_≡_, refl, sym, subst}
 use mathlib.Core.Bool.{Bool, true, false, cond, _&&_}
 use mathlib.Core.List.{List, [], _∷_}
 use native.Mathlib.Omega.{arith}
-use borrow.Author.Tests.{eq-eqb, le-leb, eqb-true, leb-true}
-use lib.Dec.{eqb, leb}
+use borrow.Author.Tests.{eqb-true}
+use lib.Dec.{eqb}
 use lib.ListN.{length}
-use Rattle.limits.specs.Limits.{CONTROL-BYTES, REGIONS, REGION-BYTES, AREA-BYTES, TASKS}
+use Rattle.limits.specs.Limits.{CONTROL-BYTES, REGIONS, REGION-BYTES, TASKS}
 use Rattle.fields.specs.Columns.{Field, View, Write, _:=_, assign, assigned}
 use Rattle.fields.specs.Little.{Bytes}
 use Rattle.words.specs.Anchor.{FULL}
-use Rattle.plain.specs.Calls.{Call, Start, start, allocate, free, step, Lengths}
+use Rattle.plain.specs.Calls.{Call, Start, start, allocate, free, step, Lengths, StartTested}
 use Rattle.plain.specs.Calls as Plain
 use Rattle.control.specs.Layout.{seen, changed, TaskPlace, TaskState}
 use Rattle.control.proofs.Fields.{seen-changed}
 use Rattle.stepped.specs.Outcome.{Memories, Outcome, Effect}
-use Rattle.stepped.specs.Ranges.{oneTo}
 use Rattle.stepped.specs.Start.{startImage}
 use Rattle.stepped.specs.Calls as Calls
-use Rattle.stepped.specs.Calls.{Tested, Lent, lengths, effectIn}
-use Rattle.stepped.proofs.Conjunction.{right-true}
-use Rattle.stepped.proofs.CallTests.{branch, tests}
+use Rattle.stepped.specs.Calls.{Tested, Lent, lengths, startEffect, effectIn}
+use Rattle.stepped.proofs.CallTests.{start-passed}
 use Rattle.agreement.specs.Events.{Event, call, write, stepped}
 use Rattle.agreement.specs.Tied.{FoundStates}
 use Rattle.agreement.specs.Reached.{starting}
@@ -31,6 +29,7 @@ use Rattle.agreement.proofs.SoundMoves.{Own, Owns, Fit}
 use Rattle.agreement.proofs.SoundSteps.{step-fit}
 use Rattle.agreement.proofs.SoundCalls.{allocate-fit, free-fit}
 use Rattle.agreement.proofs.Both.{seen-fitting}
+use Rattle.agreement.proofs.Ways.{tests, start-tests}
 
 -- ---- writes
 
@@ -78,38 +77,25 @@ image-found : (b : Start) (regions : ℕ) → b .tasks ≤ TASKS → regions ≤
 image-found b regions few small started t l =
     omega (arith, image-view b regions few small (TaskState t) (omega (arith, l)), at-state b regions t)
 
+-- an accepted start
+tested-start-found : (b : Start) (lent : Lent) → StartTested b (lengths lent)
+    → FoundStates (startEffect b lent .control)
+tested-start-found b lent T =
+    image-found b (length (lent .area) / REGION-BYTES) (T .tasks .1) (omega (arith, T .area))
+
 start-found : (b : Start) (lent : Lent) (s : Memories) → FoundStates (s .control)
     → FoundStates (Calls.startIn b lent s .control)
-unfolding Calls.startIn
 start-found b lent s old =
-    let P : Effect → Type 0 = λ e. FoundStates (e .control) in
-    let tasks = b .tasks in
-    let bytes = length (lent .area) in
-    branch P (eqb (lent .control) CONTROL-BYTES) (λ e. branch P (eqb (bytes % REGION-BYTES) 0 && oneTo AREA-BYTES bytes)
-    (λ f. branch P (oneTo TASKS tasks) (λ g.
-    let l =
-    leb-true bytes AREA-BYTES
-    (right-true (leb 1 bytes) (leb bytes AREA-BYTES)
-    (right-true (eqb (bytes % REGION-BYTES) 0) (oneTo AREA-BYTES bytes) f)) in
-    image-found b (bytes / REGION-BYTES) (leb-true tasks TASKS (right-true (leb 1 tasks) (leb tasks TASKS) g))
-    (omega (arith, l)))
-    (λ g. old)) (λ f. old)) (λ e. old)
+    start-tests (λ e. FoundStates (e .control)) b lent s (λ n F. old) (tested-start-found b lent)
 
 -- an accepted start, whatever was before
 pub accepted-found : (s : Memories) (b : Start) (area : List ℕ) → Plain.StartArea (length area)
     → Plain.StartTasks (b .tasks)
     → FoundStates (stepped (starting b area) s .0 .control)
-unfolding Calls.startIn
 accepted-found s b area a t =
-    let tasks = b .tasks in
-    rw (
-      eq-eqb (length area % REGION-BYTES) 0 (a .0),
-      le-leb 1 (length area) (a .1 .0),
-      le-leb (length area) AREA-BYTES (a .1 .1),
-      le-leb 1 tasks (t .0),
-      le-leb tasks TASKS (t .1),
-    )
-    (image-found b (length area / REGION-BYTES) (t .1) (omega (arith, a)))
+    let lent : Lent = record { control = CONTROL-BYTES; area = area } in
+    let T : StartTested b (lengths lent) = record { control-is = refl; area = a; tasks = t } in
+    subst (λ (e : Effect). FoundStates (e .control)) (sym (start-passed b lent s T)) (tested-start-found b lent T)
 
 -- ---- every event
 

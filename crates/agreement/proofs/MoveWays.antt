@@ -29,8 +29,7 @@ use Rattle.stepped.specs.Lists.{pushPlace, pushItems}
 use Rattle.agreement.specs.Ends.{FindsEmpty, WinsPush, InPush}
 use Rattle.stepped.proofs.Conjunction.{left-true, right-true}
 use Rattle.agreement.proofs.ListMoves.{pop-first}
-use Rattle.stepped.proofs.CallTests.{branch}
-use Rattle.agreement.proofs.Ways.{PlaceEnding, going, Keeps, wrong, either, test, to, finish}
+use Rattle.agreement.proofs.Ways.{branch, PlaceEnding, going, Keeps, wrong, either, test, to, finish}
 
 -- the next of an item is no place
 next-keeps : (t : ℕ) (items : Items) (x y : ℕ) → Keeps t (nextField items x := y ∷ [])

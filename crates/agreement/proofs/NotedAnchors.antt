@@ -2,7 +2,7 @@
 use mathlib.Core.Path.{_≡_, refl, sym, ap, _∙_}
 use mathlib.Core.List.{List, [], _∷_}
 use mathlib.Core.Bool.{true}
-use Prim.Native.Nat.{ℕ, zero, suc, _+_, _*_, _≤_, _<_}
+use Prim.Native.Nat.{ℕ, zero, suc, _≤_, _<_}
 use native.Mathlib.Omega.{arith}
 use borrow.Author.Tests.{le-leb}
 use lib.ListN.{length}
@@ -15,7 +15,7 @@ use Rattle.rows.proofs.Weights.{when-same}
 use Rattle.classes.specs.Classes.{perRegion}
 use Rattle.classes.specs.Geometry.{indexOf, unitOf}
 use Rattle.classes.proofs.BlockUnits.{index-below, unit-again}
-use Rattle.words.specs.Anchor.{anchorOf}
+use Rattle.words.specs.Anchor.{anchorOf, anchorWord}
 use Rattle.words.specs.Anchor as Words
 use Rattle.words.proofs.Anchors.{word-of-anchor}
 use Rattle.plain.specs.State.{EMPTY, FULL, Mem, Note, PARTIAL, State, stateNumber}
@@ -74,7 +74,7 @@ SameAnchor a b = ((a .state ≡ b .state) × (a .avail ≡ b .avail)) × (a .cou
 -- such are the anchors of equal words alone
 pub same-anchor-word : (w x : ℕ) → SameAnchor (anchorOf w) (anchorOf x) → w ≡ x
 same-anchor-word w x s =
-    sym (word-of-anchor w) ∙ (λ i. s .0 .0 i + s .0 .1 i * 4 + s .1 i * 8589934592) ∙ word-of-anchor x
+    sym (word-of-anchor w) ∙ (λ i. anchorWord (record { state = s .0 .0 i; avail = s .0 .1 i; count = s .1 i })) ∙ word-of-anchor x
 
 pub anchor-word-same : (w x : ℕ) → w ≡ x → SameAnchor (anchorOf w) (anchorOf x)
 anchor-word-same w x e =

@@ -34,7 +34,7 @@ use Rattle.plain.proofs.StartInvariant.{rising-count, length-rising}
 use Rattle.agreement.specs.Contents.{Contents}
 use Rattle.agreement.specs.Relation.{DescriptorRelated, Related}
 use Rattle.agreement.specs.Observe.{listFrom, classBy, chainBy, plainClassBy, plainChainBy, plainClass}
-use Rattle.agreement.specs.Observe.{plainChain, inCache, withTask, hands, task, chain}
+use Rattle.agreement.specs.Observe.{plainChain, inCache, withTask}
 use Rattle.agreement.specs.Observe.{holderOf, SameObserved}
 use Rattle.agreement.proofs.TurnInBoth.{Pair}
 use Rattle.agreement.proofs.NotedAnchors.{number-open}

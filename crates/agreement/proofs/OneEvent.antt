@@ -2,9 +2,8 @@
 use mathlib.Core.Path.{_≡_, refl, sym, subst}
 use Prim.Native.Nat.{ℕ, _/_, _<_}
 use native.Mathlib.Omega.{arith}
-use native.Mathlib.Decide.{ℕ-discrete}
 use lib.ListN.{length}
-use Rattle.limits.specs.Limits.{CONTROL-BYTES, REGION-BYTES, TASKS}
+use Rattle.limits.specs.Limits.{REGION-BYTES, TASKS}
 use Rattle.fields.specs.Columns.{View}
 use Rattle.links.specs.Link.{link}
 use Rattle.plain.specs.State.{idle}
@@ -14,7 +13,6 @@ use Rattle.plain.specs.Steps as Steps
 use Rattle.plain.specs.Calls.{Pool, Call, start, allocate, free, step, Lengths}
 use Rattle.plain.specs.Calls as Plain
 use Rattle.plain.specs.Invariant.{Good}
-use Rattle.plain.specs.Held.{held}
 use Rattle.plain.proofs.StartInvariant.{start-inv}
 use Rattle.plain.proofs.Always.{call-good}
 use Rattle.plain.proofs.CallTests.{passed}
@@ -39,14 +37,14 @@ module _ {s₁ : Memories} {s : Pool} (S : Tied s₁ s) where
   v = seen (s₁ .control)
 
   -- what is asked of a call that passes the tests 1, 4, 2, 5, of the stored number of regions
-  at-regions : {lent : Lengths} {t : ℕ} (F : ℕ → Outcome) (y : Result) → Plain.Tested lent t s
+  at-regions : {lent : Lengths} {t : ℕ} (F : ℕ → Outcome) (y : Result) → Plain.Tested t lent s
       → Both (s .regions) v (s₁ .area) (s .mem) (F (s .regions)) y
       → Both (s .regions) v (s₁ .area) (s .mem) (F (v Regions)) y
   at-regions F y T B =
       subst (λ (r : ℕ). Both (s .regions) v (s₁ .area) (s .mem) (F r) y) (sym (S .regions (T .started))) B
 
   -- the task's turn, where it is idle
-  turn : {lent : Lengths} {u : ℕ} → Plain.Tested lent u s → (t : ℕ) → t < TASKS
+  turn : {lent : Lengths} {u : ℕ} → Plain.Tested u lent s → (t : ℕ) → t < TASKS
       → s .mem .task t .place ≡ idle → At (s .regions) v (s₁ .area) (s .mem) t idle (s .mem .task t .cache)
   turn T t l e = record {
     pair = record {
@@ -63,7 +61,7 @@ module _ {s₁ : Memories} {s : Pool} (S : Tied s₁ s) where
     fitting = seen-fitting (s₁ .control) (S .bytes);
   }
 
-  begin-allocate : (lent : Lengths) (t size : ℕ) → Plain.Tested lent t s
+  begin-allocate : (lent : Lengths) (t size : ℕ) → Plain.Tested t lent s
       → Both (s .regions) v (s₁ .area) (s .mem) (Stepped.whenIdle v t (Stepped.beginAllocate t size))
       (Plain.whenIdle (s .mem .task t .place) (Plain.beginAllocate t size (s .mem)) (s .mem))
   begin-allocate lent t size T =
@@ -71,7 +69,7 @@ module _ {s₁ : Memories} {s : Pool} (S : Tied s₁ s) where
       let R = S .related (T .started) in
       when-idle R t _ _ (s .mem .task t .place) (R .slots t l .place) (λ e. allocate-both (turn T t l e) size)
 
-  begin-free : (lent : Lengths) (t u : ℕ) → Plain.Tested lent t s
+  begin-free : (lent : Lengths) (t u : ℕ) → Plain.Tested t lent s
       → Both (s .regions) v (s₁ .area) (s .mem) (Stepped.whenIdle v t (Stepped.beginFree v (s .regions) t u))
       (Plain.whenIdle (s .mem .task t .place) (Plain.beginFree t u (s .regions) (s .mem)) (s .mem))
   begin-free lent t u T =
@@ -81,7 +79,7 @@ module _ {s₁ : Memories} {s : Pool} (S : Tied s₁ s) where
 
 -- the plain pool's own invariant after a call that passes the tests
 good-after : {lent : Lengths} {t : ℕ} {s : Pool} (y : Result) → Good (Plain.tested t lent s y .0)
-    → Plain.Tested lent t s → Good (Plain.became s y .0)
+    → Plain.Tested t lent s → Good (Plain.became s y .0)
 good-after y g T = subst (λ (x : Pool × Answer). Good (x .0)) (passed y T) g
 
 -- what the turn of one call shows of the memories after it
@@ -100,12 +98,11 @@ call-alike : (k : Call) (lent : Lent) (s₁ : Memories) (s : Pool) → Tied s₁
     → Alike (CallKeeps k s₁ s) (stepped (call k lent) s₁) (whole (call k lent) s)
 unfolding Plain.plainCall Stepped.allocateOutcome Stepped.freeOutcome Stepped.stepOutcome
 call-alike (start b) lent s₁ s S h =
-    start-alike S b lent (ℕ-discrete (lent .control) CONTROL-BYTES)
-    (λ a t. record {
-      few = t .1;
-      small = λ k. omega (arith, a);
-      inv = λ k. start-inv
-          (length (lent .area) / REGION-BYTES);
+    start-alike S b lent
+    (λ T. record {
+      few = T .tasks .1;
+      small = λ k. omega (arith, T .area);
+      inv = λ k. start-inv (length (lent .area) / REGION-BYTES);
     })
 call-alike (allocate t size) lent s₁ s S h =
     let y = Plain.whenIdle (s .mem .task t .place) (Plain.beginAllocate t size (s .mem)) (s .mem) in

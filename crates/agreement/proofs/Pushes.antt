@@ -13,7 +13,7 @@ use Rattle.fields.specs.Columns.{View, _:=_}
 use Rattle.words.specs.Head.{itemOf}
 use Rattle.words.specs.Anchor.{isState}
 use Rattle.words.specs.Anchor as Words
-use Rattle.plain.specs.State.{State, FULL, Phase, read, next, exchange, Place, idle}
+use Rattle.plain.specs.State.{State, Phase, read, next, exchange, Place, idle}
 use Rattle.plain.specs.State.{popping}
 use Rattle.plain.specs.State.{pushing, Mem, working}
 use Rattle.plain.specs.State as Plain

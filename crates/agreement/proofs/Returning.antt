@@ -6,7 +6,6 @@ use native.Mathlib.Omega.{arith}
 use borrow.Author.Tests.{eq-eqb, ne-eqb, lt-ltb, le-leb}
 use lib.ListN.{length, length-append}
 use Rattle.limits.specs.Limits.{DESCRIPTORS}
-use Rattle.rows.specs.Counting.{count}
 use Rattle.rows.proofs.Linked.{linked-frame}
 use Rattle.rows.proofs.Weights.{when-same}
 use Rattle.fields.specs.Columns.{View, _:=_, assigned}

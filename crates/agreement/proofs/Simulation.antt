@@ -15,20 +15,19 @@ use Rattle.plain.specs.Calls.{Pool, Lengths}
 use Rattle.plain.specs.Calls as Plain
 use Rattle.plain.proofs.CallTests.{passed}
 use Rattle.plain.specs.Invariant.{Good}
-use Rattle.plain.specs.Held.{held}
 use Rattle.control.specs.Layout.{layout, Tasks, Regions, seen, changed}
 use Rattle.control.proofs.Fields.{seen-changed}
 use Rattle.stepped.specs.Outcome.{Outcome, effect, refuse, Memories}
 use Rattle.stepped.specs.Calls.{Tested, FirstFails, control-fails, tasks-fail, not-started, regions-fail, area-fails}
 use Rattle.stepped.specs.Calls.{task-fails}
 use Rattle.stepped.specs.Calls as Stepped
-use Rattle.stepped.proofs.CallTests.{tests}
 use Rattle.agreement.specs.Events.{ran}
 use Rattle.agreement.specs.Tied.{Tied}
 use Rattle.agreement.specs.Agreement.{HandsKept}
 use Rattle.agreement.proofs.Both.{Both}
 use Rattle.agreement.proofs.Views.{views-related}
 use Rattle.agreement.proofs.UserWrites.{byte-kept}
+use Rattle.agreement.proofs.Ways.{tests}
 
 -- the same answer, the relation after it, and what else is shown of the memories after it
 pub record Alike (Further : Memories → Type 0) (x : Memories × Answer) (y : Pool × Answer) : Type 0 where
@@ -84,7 +83,7 @@ module _ {s₁ : Memories} {s : Pool} (S : Tied s₁ s) where
   -- ---- tests 1, 4, 2, 5
 
   -- tests that pass in the stepped pool pass in the plain pool
-  tested-too : {lent : Lengths} {t : ℕ} → Tested lent v t → Plain.Tested lent t s
+  tested-too : {lent : Lengths} {t : ℕ} → Tested lent v t → Plain.Tested t lent s
   tested-too T =
       let q : 1 ≤ s .tasks = omega (arith, T .started, S .tasks) in
       record {
@@ -119,8 +118,8 @@ module _ {s₁ : Memories} {s : Pool} (S : Tied s₁ s) where
 
   -- a call that is no start: refused by the same number, or done in both
   pub tested-alike : (lent : Lengths) (t : ℕ) (x : Outcome) (y : Result)
-      → (Plain.Tested lent t s → Good (Plain.became s y .0))
-      → (Plain.Tested lent t s → Both (s .regions) v (s₁ .area) (s .mem) x y)
+      → (Plain.Tested t lent s → Good (Plain.became s y .0))
+      → (Plain.Tested t lent s → Both (s .regions) v (s₁ .area) (s .mem) x y)
       → Alike (HandsKept s₁ s) (ran (effect (Stepped.tested lent v t x) s₁)) (Plain.tested t lent s y)
   tested-alike lent t x y g both =
       let Same : Outcome → Pool × Answer → Type 0 = λ o. Alike (HandsKept s₁ s) (ran (effect o s₁)) in

@@ -80,10 +80,6 @@ toChain r i l s =
 abbrev pub toRegion : ℕ → Slot → Slot
 toRegion r s = toChain r (s .hand .index) (s .hand .left) s
 
--- the index of the next block
-abbrev pub toIndex : ℕ → Slot → Slot
-toIndex i s = toChain (s .hand .region) i (s .hand .left) s
-
 -- the state in which a free found the anchor
 abbrev pub toState : ℕ → Slot → Slot
 toState w s =

@@ -20,9 +20,9 @@ use Rattle.control.specs.Layout.{TaskIndex, TaskLeft, TaskAnchor, TaskDescripto
 use Rattle.stepped.specs.Ranges.{oneTo, isBlock, isTop, isAnchor, hasChain}
 use Rattle.stepped.specs.Allocate as Allocate
 use Rattle.stepped.proofs.Conjunction.{both, left-true, right-true}
-use Rattle.stepped.proofs.CallTests.{branch}
 use Rattle.agreement.proofs.Both.{Fitting}
 use Rattle.agreement.proofs.SoundMoves.{Fit, test}
+use Rattle.agreement.proofs.Ways.{branch}
 
 module _ (regions c : ℕ) (few : regions ≤ REGIONS) where
   -- a block's unit

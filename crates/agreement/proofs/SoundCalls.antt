@@ -27,11 +27,11 @@ use Rattle.stepped.specs.Ranges.{isAnchor}
 use Rattle.stepped.specs.Steps as Steps
 use Rattle.stepped.specs.Calls as Calls
 use Rattle.stepped.specs.Calls.{Tested}
-use Rattle.stepped.proofs.CallTests.{branch, tests}
 use Rattle.agreement.specs.Ends.{placeAfter}
 use Rattle.agreement.proofs.Both.{Fitting, seen-fitting}
 use Rattle.agreement.proofs.SoundMoves.{Own, Owns, Fit, none, test}
 use Rattle.agreement.proofs.SoundSteps.{step-fit}
+use Rattle.agreement.proofs.Ways.{branch, tests}
 
 -- ---- the beginnings
 

@@ -21,11 +21,11 @@ use Rattle.control.specs.Layout.{GroupCount}
 use Rattle.stepped.specs.Ranges.{oneTo, isBlock, isTop, isAnchor, hasFirst, hasRoom}
 use Rattle.stepped.specs.Free as Free
 use Rattle.stepped.proofs.Conjunction.{both, left-true, right-true}
-use Rattle.stepped.proofs.CallTests.{branch}
 use Rattle.agreement.proofs.Both.{Fitting}
 use Rattle.agreement.proofs.SoundMoves as Moves
 use Rattle.agreement.proofs.SoundMoves.{Fit, test}
 use Rattle.agreement.proofs.SoundAllocate.{block-max, top-max}
+use Rattle.agreement.proofs.Ways.{branch}
 
 module _ (v : View) (fits : Fitting v) (link : ℕ → ℕ) {regions t c : ℕ} (few : regions ≤ REGIONS) (task : t < TASKS)
     (class : c < CLASSES) where

@@ -25,9 +25,9 @@ use Rattle.stepped.specs.Lists as Lists
 use Rattle.stepped.specs.Lists.{Items, descriptor-items, region-items, howMany, nextField, handField, popList, popItems}
 use Rattle.stepped.specs.Lists.{pushList, pushItems}
 use Rattle.stepped.proofs.Conjunction.{left-true, right-true}
-use Rattle.stepped.proofs.CallTests.{branch}
 use Rattle.agreement.proofs.ListMoves.{pop-first, push-later, popped-list, pushed-list, below-lists, most-items}
 use Rattle.agreement.proofs.Both.{Fitting}
+use Rattle.agreement.proofs.Ways.{branch}
 
 -- a write is to no place but that of the task t, and where it notes a state, that is EMPTY, PARTIAL or FULL
 abbrev pub Own : ℕ → Write → Type 0

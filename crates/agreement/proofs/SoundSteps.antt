@@ -24,8 +24,8 @@ use Rattle.agreement.proofs.SoundMoves as Moves
 use Rattle.agreement.proofs.SoundMoves.{Fit, none}
 use Rattle.agreement.proofs.SoundAllocate as Allocate
 use Rattle.agreement.proofs.SoundFree as Free
+use Rattle.agreement.proofs.Ways.{branch}
 use Rattle.stepped.specs.Calls.{Tested}
-use Rattle.stepped.proofs.CallTests.{branch}
 
 module _ (v : View) (fits : Fitting v) (link : ℕ → ℕ) {regions t c : ℕ} (few : regions ≤ REGIONS) (task : t < TASKS)
     (class : c < CLASSES) where

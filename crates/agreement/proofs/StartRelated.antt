@@ -16,6 +16,7 @@ use Rattle.rows.specs.Linked.{Linked, ends, links}
 use Rattle.rows.proofs.Branch.{if-yes}
 use Rattle.fields.specs.Columns.{Column, Field, View, _:=_, assigned}
 use Rattle.words.specs.Head.{itemOf, tagOf}
+use Rattle.words.specs.Anchor.{anchorOf}
 use Rattle.words.specs.Mark.{bitAt}
 use Rattle.plain.specs.Steps.{top}
 use Rattle.plain.specs.Calls.{rising, startMem, Start}
@@ -166,7 +167,7 @@ module _ (b : Start) (regions : ℕ) (few : 1 ≤ regions) where
       };
       descriptors = record {
         each = λ d l. record {
-          state = ap (λ (x : ℕ). x % 4) (unfilled b regions Layout.anchors d refl refl refl);
+          state = ap (λ (x : ℕ). anchorOf x .state) (unfilled b regions Layout.anchors d refl refl refl);
           region = unfilled b regions Layout.descriptorRegions d refl refl refl;
           class = unfilled b regions Layout.descriptorClasses d refl refl refl;
           chain = tt;

@@ -1,32 +1,28 @@
 -- A start, in both pools: on any bytes, at any time.
 use mathlib.Core.Path.{_≡_, refl, sym, subst, _∙_}
-use mathlib.Core.Bool.{cond}
 use mathlib.Core.List.{List, _++_}
-use Prim.Native.Nat.{ℕ, _*_, _/_, _%_, _≤_}
+use Prim.Native.Nat.{ℕ, _*_, _/_, _≤_}
 use native.Mathlib.Omega.{arith}
-use native.Mathlib.Decide.{ℕ-discrete, decLt, decLe}
-use borrow.Author.Tests.{eq-eqb, ne-eqb, le-leb, lt-leb}
 use lib.ListN.{length, replicate, length-replicate}
-use Rattle.limits.specs.Limits.{CONTROL-BYTES, REGIONS, REGION-BYTES, AREA-BYTES, UNITS, TASKS, DESCRIPTORS}
-use Rattle.rows.specs.Branch.{if}
-use Rattle.rows.proofs.Branch.{if-yes}
+use Rattle.limits.specs.Limits.{CONTROL-BYTES, REGIONS, REGION-BYTES, UNITS, TASKS, DESCRIPTORS}
 use Rattle.fields.specs.Columns.{Field, firstByte, width, Has, Sound}
 use Rattle.fields.proofs.Layouts.{length-written, bytes-written}
-use Rattle.plain.specs.Moves.{going, nothing}
-use Rattle.plain.specs.Calls.{Pool, Start}
-use Rattle.control.specs.declared.answer.Answer.the-variants.{Accepted}
+use Rattle.plain.specs.Moves.{Answer}
+use Rattle.plain.specs.Calls.{Pool, Start, StartTested}
 use Rattle.plain.specs.Calls as Plain
 use Rattle.plain.specs.Invariant.{Good}
 use Rattle.plain.proofs.StartInvariant.{start-inv}
+use Rattle.plain.proofs.CallTests.{start-failed, start-passed}
+use Rattle.plain.proofs.CallTests.{started as startedPool}
 use Rattle.control.specs.Layout.{CACHES, layout, Tasks, Regions, seen, DescriptorNext, RegionNext, TopOfCache}
 use Rattle.control.specs.Layout.{descriptorNexts}
 use Rattle.control.specs.Layout.{regionNexts, cacheTops}
 use Rattle.control.proofs.Fields.{seen-changed}
-use Rattle.stepped.specs.Outcome.{effect, refuse, Memories}
-use Rattle.stepped.specs.Ranges.{oneTo}
+use Rattle.stepped.specs.Outcome.{Effect, effect, refuse, Memories}
 use Rattle.stepped.specs.Start.{fill, nextUp, startWrites, startImage}
-use Rattle.stepped.specs.Calls.{Lent}
+use Rattle.stepped.specs.Calls.{Lent, lengths, startEffect}
 use Rattle.stepped.specs.Calls as Stepped
+use Rattle.stepped.proofs.CallTests as Steps₁
 use Rattle.agreement.specs.Events.{ran, stepped}
 use Rattle.agreement.specs.Reached.{starting}
 use Rattle.fields.proofs.Layouts.{assigned-same}
@@ -36,6 +32,7 @@ use Rattle.agreement.proofs.StartRelated.{start-related}
 use Rattle.agreement.proofs.Views.{views-related}
 use Rattle.agreement.specs.Tied.{Tied}
 use Rattle.agreement.proofs.Simulation.{Alike, stays}
+use Rattle.agreement.proofs.Ways.{start-tests}
 
 module _ (b : Start) (regions : ℕ) (few : b .tasks ≤ TASKS) (small : regions ≤ REGIONS) where
   -- each write is to a field of the layout, and its value fits
@@ -99,106 +96,39 @@ module _ (b : Start) (regions : ℕ) (few : b .tasks ≤ TASKS) (small : regions
 abbrev new : Start → ℕ → Pool
 new b regions = record { tasks = b .tasks; regions = regions; mem = Plain.startMem regions }
 
-module _ {s₁ : Memories} {s : Pool} (S : Tied s₁ s) (b : Start) (lent : Lent) where
-  abbrev tasks : ℕ
-  tasks = b .tasks
+-- an accepted start, in both pools: the control memory may have looked like a started pool, or have held anything
+new-alike : (b : Start) (lent : Lent) → StartTested b (lengths lent) → Good (new b (length (lent .area) / REGION-BYTES))
+    → Alike (λ z. Unit {0}) (ran (startEffect b lent)) (startedPool b (lengths lent))
+new-alike b lent T g =
+    let regions = length (lent .area) / REGION-BYTES in
+    record {
+      says = refl;
+      shows = tt;
+      tied =
+          started b regions (T .tasks .1) (omega (arith, T .area)) (lent .area) (omega (arith, T .area))
+          (omega (arith, T .area)) (new b regions) refl g;
+    }
 
-  abbrev bytes : ℕ
-  bytes = length (lent .area)
+-- a start: refused by the same number, or accepted in both
+pub start-alike : {s₁ : Memories} {s : Pool} → Tied s₁ s → (b : Start) (lent : Lent)
+    → (StartTested b (lengths lent) → Good (new b (length (lent .area) / REGION-BYTES)))
+    → Alike (λ z. Unit {0}) (ran (Stepped.startIn b lent s₁)) (Plain.startCall b (lengths lent) s)
+start-alike {s₁} {s} S b lent g =
+    let Same : Effect → Pool × Answer → Type 0 = λ e. Alike (λ z. Unit {0}) (ran e) in
+    start-tests (λ e. Same e (Plain.startCall b (lengths lent) s)) b lent s₁
+    (λ n F. subst (Same (effect (refuse n) s₁)) (sym (start-failed s F)) (stays S (λ z. Unit {0}) tt n))
+    (λ T. subst (Same (startEffect b lent)) (sym (start-passed s T)) (new-alike b lent T (g T)))
 
-  -- ---- tests 3, 2 and 1
-
-  test-three : Plain.StartArea bytes → (d : Dec (Plain.StartTasks tasks))
-      → (Plain.StartTasks tasks → Good (new b (bytes / REGION-BYTES)))
-      → Alike (λ z. Unit {0})
-      (ran (cond (oneTo TASKS tasks)
-      (record {
-        answer = Accepted;
-        decided = nothing;
-        control = startImage b (bytes / REGION-BYTES);
-        area = lent .area;
-      })
-      (effect (refuse 3) s₁)))
-      (if d (new b (bytes / REGION-BYTES), going nothing) (Plain.refuse 3 s))
-  test-three a (yes t) g =
-      rw (le-leb 1 tasks (t .0), le-leb tasks TASKS (t .1))
-      (record {
-        says = refl;
-        shows = tt;
-        tied =
-            started b (bytes / REGION-BYTES) (t .1) (omega (arith, a)) (lent .area) (omega (arith, a))
-            (omega (arith, a))
-            (new b (bytes / REGION-BYTES)) refl (g t);
-      })
-  test-three a (no t) g = elim (decLe 1 tasks) [
-    | yes l ↦ rw (le-leb 1 tasks l, lt-leb tasks TASKS (let k : ¬ (tasks ≤ TASKS) = λ k. t (l, k) in omega arith))
-        (stays S (λ z. Unit {0}) tt 3)
-    | no l ↦ rw (lt-leb 1 tasks (omega arith)) (stays S (λ z. Unit {0}) tt 3)
-  ]
-
-  test-two : (d : Dec (Plain.StartArea bytes))
-      → (Plain.StartArea bytes → Plain.StartTasks tasks → Good (new b (bytes / REGION-BYTES)))
-      → Alike (λ z. Unit {0}) (ran (Stepped.startIn b (record { control = CONTROL-BYTES; area = lent .area }) s₁))
-      (if d (if (Plain.startTasks? tasks) (new b (bytes / REGION-BYTES), going nothing) (Plain.refuse 3 s))
-      (Plain.refuse 2 s))
-  unfolding Stepped.startIn
-  test-two (yes a) g =
-      rw (eq-eqb (bytes % REGION-BYTES) 0 (a .0), le-leb 1 bytes (a .1 .0), le-leb bytes AREA-BYTES (a .1 .1))
-      (test-three a (Plain.startTasks? tasks) (g a))
-  test-two (no a) g = elim (ℕ-discrete (bytes % REGION-BYTES) 0) [
-    | no l ↦ rw (ne-eqb (bytes % REGION-BYTES) 0 l) (stays S (λ z. Unit {0}) tt 2)
-    | yes e ↦ elim (decLt 0 bytes) [
-      | no l ↦ rw (eq-eqb (bytes % REGION-BYTES) 0 e, lt-leb 1 bytes (omega arith)) (stays S (λ z. Unit {0}) tt 2)
-      | yes l ↦ rw (
-        eq-eqb (bytes % REGION-BYTES) 0 e,
-        le-leb 1 bytes l,
-        lt-leb bytes AREA-BYTES
-            (let k : ¬ (bytes ≤ AREA-BYTES) = λ k. a (e, (l, k)) in omega arith),
-      ) (stays S (λ z. Unit {0}) tt 2)
-    ]
-  ]
-
-  pub start-alike : (d : Dec (lent .control ≡ CONTROL-BYTES))
-      → (Plain.StartArea bytes → Plain.StartTasks tasks → Good (new b (bytes / REGION-BYTES)))
-      → Alike (λ z. Unit {0}) (ran (Stepped.startIn b lent s₁))
-      (if d
-      (if (Plain.startArea? bytes)
-      (if (Plain.startTasks? tasks) (new b (bytes / REGION-BYTES), going nothing) (Plain.refuse 3 s))
-      (Plain.refuse 2 s))
-      (Plain.refuse 1 s))
-  unfolding Stepped.startIn
-  start-alike (yes e) g = rw e (test-two (Plain.startArea? bytes) g)
-  start-alike (no e) g = rw (ne-eqb (lent .control) CONTROL-BYTES e) (stays S (λ z. Unit {0}) tt 1)
-
--- an accepted start, whatever was before: the control memory may have looked like a started pool, or have held anything
+-- an accepted start, whatever was before
 pub accepted-start : (s₁ : Memories) (s : Pool) (b : Start) (area : List ℕ) → Plain.StartArea (length area)
     → Plain.StartTasks (b .tasks)
     → Alike (λ z. Unit {0}) (stepped (starting b area) s₁)
     (Plain.startCall b (record { control = CONTROL-BYTES; area = length area }) s)
-unfolding Stepped.startIn
 accepted-start s₁ s b area a t =
-    let tasks = b .tasks in
+    let lent : Lent = record { control = CONTROL-BYTES; area = area } in
+    let T : StartTested b (lengths lent) = record { control-is = refl; area = a; tasks = t } in
     let regions = length area / REGION-BYTES in
-    rw (
-      eq-eqb (length area % REGION-BYTES) 0 (a .0),
-      le-leb 1 (length area) (a .1 .0),
-      le-leb (length area) AREA-BYTES (a .1 .1),
-      le-leb 1 tasks (t .0),
-      le-leb tasks TASKS (t .1),
-      if-yes (ℕ-discrete CONTROL-BYTES CONTROL-BYTES)
-          (if (Plain.startArea? (length area))
-          (if (Plain.startTasks? tasks) (new b regions, going nothing) (Plain.refuse 3 s))
-          (Plain.refuse 2 s)) (Plain.refuse 1 s) refl,
-      if-yes (Plain.startArea? (length area)) (if (Plain.startTasks? tasks) (new b regions, going nothing)
-          (Plain.refuse 3 s))
-          (Plain.refuse 2 s) a,
-      if-yes (Plain.startTasks? tasks) (new b regions, going nothing) (Plain.refuse 3 s) t,
-    )
-    (record {
-      says = refl;
-      shows = tt;
-      tied =
-          started b regions (t .1) (omega (arith, a)) area (omega (arith, a)) (omega (arith, a)) (new b regions)
-          refl
-          (record { few = t .1; small = λ k. omega (arith, a); inv = λ k. start-inv regions });
-    })
+    subst (λ (e : Effect). Alike (λ z. Unit {0}) (ran e) (Plain.startCall b (lengths lent) s))
+    (sym (Steps₁.start-passed b lent s₁ T))
+    (subst (Alike (λ z. Unit {0}) (ran (startEffect b lent))) (sym (start-passed s T))
+    (new-alike b lent T (record { few = t .1; small = λ k. omega (arith, a); inv = λ k. start-inv regions })))

@@ -15,7 +15,7 @@ use Rattle.rows.proofs.Update.{update-all, update-all₂, update-other}
 use Rattle.rows.proofs.Weights.{below-max}
 use Rattle.links.specs.Link.{link}
 use Rattle.plain.specs.State
-use Rattle.plain.specs.State.{Descriptor, Mem, Place, Task, stateNumber, region, setDescriptor, setHands, setRow}
+use Rattle.plain.specs.State.{Descriptor, Mem, Place, Task, stateNumber, setDescriptor, setHands, setRow}
 use Rattle.plain.specs.State.{setTask}
 use Rattle.plain.specs.Held.{holdsDescriptor, holdsRegion}
 use Rattle.plain.specs.ByState.{IfOpen}

@@ -1,5 +1,5 @@
 -- One task's turn in both pools: a law for each kind of change.
-use mathlib.Core.Path.{_≡_, refl, ap, subst, _∙_}
+use mathlib.Core.Path.{_≡_, refl, ap, subst}
 use mathlib.Core.Logic.{_≢_}
 use mathlib.Core.List.{List, [], _∷_}
 use Prim.Native.Nat.{ℕ, _*_, _^_, _≤_, _<_}
@@ -18,7 +18,7 @@ use Rattle.classes.proofs.BlockUnits.{inside}
 use Rattle.classes.proofs.Tables.{units-low}
 use Rattle.links.specs.Link.{LINK-BYTES, _⇒_, link, withLink}
 use Rattle.links.proofs.Links.{length-linked, link-other, link-same}
-use Rattle.plain.specs.State.{Mem, Place, Task, region, setTask}
+use Rattle.plain.specs.State.{Mem, Place, Task, setTask}
 use Rattle.plain.specs.Blocks.{countBlock}
 use Rattle.plain.specs.Held.{holdsDescriptor, holdsRegion}
 use Rattle.plain.specs.Invariant.{Invariant}

@@ -11,14 +11,13 @@ use Rattle.rows.proofs.Linked.{linked-frame}
 use Rattle.fields.specs.Columns.{Field, View, Has}
 use Rattle.words.specs.Head.{headOf}
 use Rattle.words.specs.Anchor.{anchorOf}
-use Rattle.words.specs.declared.anchor.Anchor.{Anchor}
 use Rattle.links.specs.Link.{link}
 use Rattle.plain.specs.State.{Mem}
 use Rattle.plain.specs.Invariant.{Invariant}
 use Rattle.plain.proofs.PlaceAlone.{taskOf}
 use Rattle.plain.proofs.Turn.{Turn}
 use Rattle.control.specs.Layout
-use Rattle.control.specs.Layout.{layout, TaskUnit, TaskState}
+use Rattle.control.specs.Layout.{layout}
 use Rattle.agreement.specs.Contents.{Slot, byClass, slotOf, contentsOf}
 use Rattle.agreement.specs.Relation.{DescriptorRelated, SlotRelated, Core, Related}
 use Rattle.agreement.proofs.Frames.{Framed, kept-slot}

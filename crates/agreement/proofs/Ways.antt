@@ -1,29 +1,41 @@
--- The numbers of the tests that every call but a start passes first, and the ways in which a step can end, whatever the
--- two memories hold.
-use Prim.Native.Nat.{ℕ}
+-- The tests of the calls, and the ways in which a step can end, whatever the two memories hold.
+use Prim.Native.Nat.{ℕ, _*_}
 use mathlib.Core.Path.{_≡_, refl, sym, subst, _∙_}
-use mathlib.Core.Logic.{_⊎_, inr}
+use mathlib.Core.Logic.{_⊎_, ⊎-elim, inl, inr}
 use mathlib.Core.Bool.{Bool, true, false, cond, _||_, false≢true}
 use mathlib.Core.List.{List, [], _∷_, _++_}
-use borrow.Author.Tests.{eq-eqb, eqb-true}
-use lib.Dec.{eqb}
+use native.Mathlib.Omega.{arith}
+use borrow.Author.Tests.{eq-eqb, le-leb, eqb-true, eqb-false, leb-true, leb-false, ltb-true, ltb-false}
+use lib.Dec.{eqb, leb, ltb}
+use Rattle.limits.specs.Limits.{CONTROL-BYTES, REGIONS, REGION-BYTES, TASKS}
 use Rattle.fields.specs.Columns.{View, Write, _:=_, assign, assigned}
 use Rattle.links.specs.Link.{LinkWrite}
 use Rattle.plain.specs.Moves.{Decided}
-use Rattle.plain.specs.Calls.{Lengths}
-use Rattle.control.specs.Layout.{TaskPlace}
+use Rattle.plain.specs.Calls.{Start, Lengths, StartTested, StartFails, start-control, start-area, start-tasks}
+use Rattle.plain.proofs.CallTests.{start-tested}
+use Rattle.control.specs.Layout.{TaskPlace, Tasks, Regions}
 use Rattle.control.specs.Places.{IDLE}
 use Rattle.control.specs.declared.answer.Answer.{Answer}
 use Rattle.control.specs.declared.answer.Answer.the-variants.{Accepted, Allocated, Freed, NoDescriptor, NoRegion}
 use Rattle.control.specs.declared.answer.Answer.the-variants.{Refused}
 use Rattle.control.specs.declared.moves.Pop.the-variants.{Spare, Region}
 use Rattle.control.specs.declared.moves.Push.the-variants.{Back}
-use Rattle.stepped.specs.Outcome.{Outcome, refuse, bad, accept, over}
+use Rattle.stepped.specs.Outcome.{Outcome, refuse, bad, accept, over, Memories, Effect, effect}
+use Rattle.stepped.specs.Ranges.{oneTo}
+use Rattle.stepped.specs.Calls as Calls
+use Rattle.stepped.specs.Calls.{Tested, HasTasks, HasRegions, Lent, lengths, startEffect}
 use Rattle.stepped.specs.Calls.{FirstFails, control-fails, tasks-fail, not-started, regions-fail, area-fails}
 use Rattle.stepped.specs.Calls.{task-fails}
-use Rattle.agreement.specs.Ends.{oneOf, testRefusals, placeRefusals, stepRefusals, Begins, FindsEmpty, WinsPush}
+use Rattle.agreement.specs.Ends.{startRefusals, oneOf, testRefusals, placeRefusals, stepRefusals, Begins, FindsEmpty, WinsPush}
 use Rattle.agreement.specs.Ends.{InPush}
-use Rattle.stepped.proofs.CallTests.{branch}
+use Rattle.stepped.proofs.Conjunction.{both-true}
+use Rattle.stepped.proofs.CallTests.{one-to, start-failed, start-passed}
+
+-- a test: what holds of both ways on holds of what follows
+pub branch : {A : Type 0} (P : A → Type 0) {x y : A} (b : Bool) → (b ≡ true → P x) → (b ≡ false → P y)
+    → P (cond b x y)
+branch P true h k = h refl
+branch P false h k = k refl
 
 -- ---- answers
 
@@ -50,6 +62,44 @@ only m n h = alone (eqb n m) (eqb-true n m) h
 
 -- ---- the tests 1, 4, 2, 5
 
+module _ (lent : Lengths) (v : View) (t : ℕ) where
+  -- what holds of a refusal by the first test that fails, and of what follows them, holds of the call
+  pub tests : (P : Outcome → Type 0) (x : Outcome) → ((n : ℕ) → FirstFails lent v t n → P (refuse n))
+      → (Tested lent v t → P x) → P (Calls.tested lent v t x)
+  unfolding Calls.tested
+  tests P x r k =
+      branch P (eqb (lent .control) CONTROL-BYTES) (λ e.
+      let c = eqb-true (lent .control) CONTROL-BYTES e in
+      branch P (leb (v Tasks) TASKS) (λ f.
+      let few = leb-true (v Tasks) TASKS f in
+      branch P (eqb (v Tasks) 0) (λ g. r 4 (not-started c (eqb-true (v Tasks) 0 g))) (λ g.
+      let z : v Tasks ≡ 0 → ⊥ = eqb-false (v Tasks) 0 g in
+      let T : HasTasks lent v = (c, omega arith, few) in
+      branch P (oneTo REGIONS (v Regions)) (λ h.
+      let R : HasRegions v = one-to REGIONS (v Regions) h in
+      branch P (eqb (lent .area) (REGION-BYTES * v Regions)) (λ j.
+      let a = eqb-true (lent .area) (REGION-BYTES * v Regions) j in
+      branch P (ltb t (v Tasks)) (λ l. k (record {
+        control-is = c;
+        started = T .1;
+        tasks = few;
+        some = R .0;
+        regions = R .1;
+        area-is = a;
+        below = ltb-true t (v Tasks) l;
+      }))
+      (λ l. r 5 (task-fails T R a (ltb-false t (v Tasks) l))))
+      (λ j. r 2 (area-fails T R (eqb-false (lent .area) (REGION-BYTES * v Regions) j))))
+      (λ h. r 14 (regions-fail T
+      (λ R. false≢true (rw (← h) (both-true (le-leb 1 (v Regions) (R .0)) (le-leb (v Regions) REGIONS (R .1)))))))))
+      (λ f. r 14 (tasks-fail c (leb-false (v Tasks) TASKS f))))
+      (λ e. r 1 (control-fails (eqb-false (lent .control) CONTROL-BYTES e)))
+
+  -- a call passes them, or one is the first to fail
+  pub fails-or-passes : ((n : ℕ) × FirstFails lent v t n) ⊎ Tested lent v t
+  fails-or-passes =
+      tests (λ o. ((n : ℕ) × FirstFails lent v t n) ⊎ Tested lent v t) bad (λ n F. inl (n, F)) (λ T. inr T)
+
 -- the first that fails refuses by one of the tests' numbers
 pub among-tests : {lent : Lengths} {v : View} {t n : ℕ} → FirstFails lent v t n → oneOf testRefusals n ≡ true
 among-tests (control-fails h) = refl
@@ -58,6 +108,22 @@ among-tests (not-started c h) = refl
 among-tests (regions-fail T h) = refl
 among-tests (area-fails T R h) = refl
 among-tests (task-fails T R a h) = refl
+
+-- ---- the tests 1, 2, 3 of a start
+
+-- what holds of a refusal, and of an accepted start, holds of a start
+pub start-tests : (P : Effect → Type 0) (b : Start) (lent : Lent) (s : Memories)
+    → ((n : ℕ) → StartFails b (lengths lent) n → P (effect (refuse n) s))
+    → (StartTested b (lengths lent) → P (startEffect b lent)) → P (Calls.startIn b lent s)
+start-tests P b lent s r k =
+    ⊎-elim (λ F. subst P (sym (start-failed b lent s (F .1))) (r (F .0) (F .1)))
+    (λ T. subst P (sym (start-passed b lent s T)) (k T)) (start-tested b (lengths lent))
+
+-- a start is refused by one of its numbers
+pub among-start-tests : {b : Start} {lent : Lengths} {n : ℕ} → StartFails b lent n → oneOf startRefusals n ≡ true
+among-start-tests (start-control h) = refl
+among-start-tests (start-area c h) = refl
+among-start-tests (start-tasks c a h) = refl
 
 -- ---- the ways out of a step
 

@@ -91,7 +91,7 @@ abbrev pub CallPremise : Call → Lengths → Pool → Type 0
 CallPremise (start b) lent s = Unit {0}
 CallPremise (allocate t size) lent s = Unit {0}
 CallPremise (free t u) lent s = Unit {0}
-CallPremise (step t) lent s = Plain.Tested lent t s → Near (s .mem .won) (noted (s .mem .task t .place))
+CallPremise (step t) lent s = Plain.Tested t lent s → Near (s .mem .won) (noted (s .mem .task t .place))
 
 -- the premise of an event, in the plain pool before it
 abbrev pub Premise : Event → Pool → Type 0

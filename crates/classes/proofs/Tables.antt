@@ -7,7 +7,7 @@ use Prim.Native.Nat.{ℕ, zero, suc, _-_, _*_, _/_, _≤_, _<_}
 use native.Mathlib.Omega.{arith}
 use native.Mathlib.Decide.{decLt}
 use lib.Dec.{T, leb, ltb, eqb, leb→le, ltb→lt, eqb→eq}
-use lib.ListN.{getD, List·getD-eq-default}
+use lib.ListN.{length, getD, List·getD-eq-default}
 use Rattle.limits.specs.Limits.{UNIT-BYTES, REGION-BYTES, REGION-UNITS, CLASSES, MOST-BLOCKS}
 use Rattle.classes.specs.Classes.{blockSizes, blockCounts, SMALLEST-SIZE, LARGEST-UNITS, LEAST-BLOCKS, units}
 use Rattle.classes.specs.Classes.{block, perRegion}
@@ -26,6 +26,13 @@ every-class f t c = elim (decLt c CLASSES) [
       rw (List·getD-eq-default blockSizes SMALLEST-SIZE past, List·getD-eq-default blockCounts MOST-BLOCKS past)
       (at (entry f) (suc CLASSES) t CLASSES (omega arith)))
 ]
+
+-- the table has a row for each of the classes of `limits`, and no more
+pub as-many-sizes : length blockSizes ≡ CLASSES
+as-many-sizes = refl
+
+pub as-many-counts : length blockCounts ≡ CLASSES
+as-many-counts = refl
 
 -- the definitions are the table's rows
 pub rows : (c : ℕ) → (block c ≡ getD blockSizes c SMALLEST-SIZE) × (perRegion c ≡ getD blockCounts c MOST-BLOCKS)

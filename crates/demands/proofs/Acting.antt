@@ -5,23 +5,22 @@ use mathlib.Core.Bool.{Bool, cond, false≢true}
 use mathlib.Core.List.{List}
 use Prim.Native.Nat.{ℕ, _<_}
 use native.Mathlib.Omega.{arith}
-use borrow.Author.Tests.{eq-eqb, ne-eqb, le-leb}
-use Rattle.limits.specs.Limits.{TASKS}
-use Rattle.fields.specs.Columns.{View}
-use Rattle.plain.specs.Calls.{Call, Start, start, allocate, free, step, Lengths}
-use Rattle.control.specs.Layout.{Tasks, seen}
+use borrow.Author.Tests.{eq-eqb, ne-eqb}
+use Rattle.plain.specs.Calls.{Call, Start, start, allocate, free, step}
+use Rattle.control.specs.Layout.{seen}
 use Rattle.control.specs.Answers.{CODES, codeOf, numberOf}
 use Rattle.control.specs.declared.answer.Answer.{Answer}
 use Rattle.control.specs.declared.answer.Answer.the-variants.{Accepted, Allocated, Freed, NoDescriptor, NoRegion}
 use Rattle.control.specs.declared.answer.Answer.the-variants.{Refused}
 use Rattle.stepped.specs.Outcome.{Outcome, refuse, Effect, effect, Memories}
-use Rattle.stepped.specs.Calls.{effectOf, lengths, lending}
+use Rattle.stepped.specs.Calls.{effectOf, lengths, lending, control-fails}
 use Rattle.stepped.specs.Calls as Calls
-use Rattle.stepped.proofs.CallTests.{tests}
+use Rattle.stepped.proofs.CallTests.{failed}
 use Rattle.agreement.specs.Ends.{Begins, startRefusals, oneOf}
 use Rattle.agreement.specs.Events.{ran, stepped}
 use Rattle.agreement.proofs.Ends.{start-ends}
-use Rattle.agreement.proofs.Lent.{other-control, other-area, start-elsewhere}
+use Rattle.agreement.proofs.Lent.{start-elsewhere}
+use Rattle.agreement.proofs.Ways.{fails-or-passes}
 use Rattle.pool.specs.Call.{EffectIs}
 use Rattle.demands.specs.Acts.{Act, on-own, on-other, write, Contract, OtherLength, Happens, afterAct, eventOfAct}
 use Rattle.demands.specs.Acts.{Number}
@@ -48,31 +47,22 @@ own-shows k left r s C = record {
 
 -- ---- calls on other memories
 
--- a pool that is not started: neither the area nor what is behind the tests matters
-not-started : (lent : Lengths) (v : View) (t : ℕ) (x y : Outcome) → v Tasks ≡ 0
-    → Calls.tested lent v t x ≡ Calls.tested lent v t y
-unfolding Calls.tested
-not-started lent v t x y h = rw (le-leb (v Tasks) TASKS (omega (arith, h)), eq-eqb (v Tasks) 0 h) refl
-
 -- a call on other lengths is refused by the same number, whatever the control memory holds and whatever is behind the
 -- tests
-refused-alike : (s lent : Memories) (t : ℕ) (x y : Outcome) → OtherLength s lent
+pub refused-alike : (s lent : Memories) (t : ℕ) (x y : Outcome) → OtherLength s lent
     → (n : ℕ)
     × ((Calls.tested (lengths (lending lent)) (seen (s .control)) t x ≡ refuse n)
     × (Calls.tested (lengths (lending lent)) (seen (lent .control)) t y ≡ refuse n))
-refused-alike s lent t x y (inl h) = (1, (other-control _ _ _ _ h, other-control _ _ _ _ h))
+refused-alike s lent t x y (inl h) = (1, (failed x (control-fails h), failed y (control-fails h)))
 refused-alike s lent t x y (inr h) =
     let l = lengths (lending lent) in
-    let v = seen (s .control) in
-    let R = tests l v t (λ z. (n : ℕ) × (z ≡ refuse n)) (refuse 5) (λ n g. (n, refl)) (λ T. (5, refl)) in
-    let unseen : (z : Outcome) → Calls.tested l v t z ≡ Calls.tested l v t (refuse 5) =
-    λ z. ⊎-elim (λ g. other-area l v t z (refuse 5) g) (λ g. not-started l v t z (refuse 5) g) (h .1) in (
-      R .0,
-      (
-        unseen x ∙ R .1,
-        ap (λ (k : List ℕ). Calls.tested l (seen k) t y) (h .0) ∙ unseen y ∙ R .1,
-      ),
-    )
+    ⊎-elim
+    (λ F. (
+      F .0,
+      (failed x (F .1), ap (λ (k : List ℕ). Calls.tested l (seen k) t y) (h .0) ∙ failed y (F .1)),
+    ))
+    (λ T. absurd (⊎-elim (λ g. g (T .area-is)) (λ g. omega (arith, g, T .started)) (h .1)))
+    (fails-or-passes l (seen (s .control)) t)
 
 module _ (s lent left : Memories) (r : ℕ) where
   -- two outcomes that refuse by the same number: the pool's memories stay, and the answers are the same

@@ -21,9 +21,8 @@ use Rattle.stepped.specs.Lists as Lists
 use Rattle.stepped.specs.Steps as Steps
 use Rattle.stepped.specs.Calls as Calls
 use Rattle.agreement.specs.Ends.{InPush, placeAfter}
-use Rattle.agreement.proofs.Ways.{Keeps, sent}
+use Rattle.agreement.proofs.Ways.{branch, tests, Keeps, sent}
 use Rattle.stepped.proofs.MovePlaces.{push-steps}
-use Rattle.stepped.proofs.CallTests.{branch, tests}
 
 module _ (v : View) (t : ℕ) where
   -- the request ended with 13, or the task is in the push

@@ -26,14 +26,13 @@ use Rattle.stepped.specs.Steps.{stepAt}
 use Rattle.stepped.specs.Outcome.{Outcome, Memories}
 use Rattle.stepped.specs.Calls as Calls
 use Rattle.stepped.specs.Calls.{Tested, lending, effectOf, lengths}
-use Rattle.stepped.proofs.CallTests.{tests, branch}
 use Rattle.agreement.specs.Ends.{oneOf, StepAnswers, FindsEmpty, WinsPush, InPush, placeAfter, allocateRefusals}
 use Rattle.agreement.specs.Ends.{placeRefusals}
 use Rattle.agreement.specs.Ends.{stepRefusals}
 use Rattle.agreement.specs.Events.{stepped, whole, Premises, Unstarted}
 use Rattle.agreement.specs.Events as Events
 use Rattle.agreement.specs.Agreement.{Agrees, Unchanged, Untouched, AgreesAt}
-use Rattle.agreement.proofs.Ways.{only}
+use Rattle.agreement.proofs.Ways.{tests, branch, only}
 use Rattle.agreement.proofs.Ends.{allocate-ends, step-ends, effect-leaves, smallest-class, place-answers, no-descriptor}
 use Rattle.agreement.proofs.Ends.{no-region, put-back}
 use Rattle.agreement.proofs.SoundCalls.{step-place, step-others, allocate-others, free-others}

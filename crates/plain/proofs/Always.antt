@@ -48,8 +48,12 @@ not-started s e =
 pub call-good : (c : Call) (lent : Lengths) (s : Pool) → Good s → Good (plainCall c lent s .0)
 unfolding plainCall
 call-good (start n) lent s g =
-    by-start-tests GoodAfter n lent s (λ k i l. g)
-    (λ b c. record { few = c .1; small = λ i. omega (arith, b); inv = λ i. start-inv (lent .area / REGION-BYTES) })
+    by-start-tests GoodAfter n lent s (λ k F. g)
+    (λ T. record {
+      few = T .tasks .1;
+      small = λ i. omega (arith, T .area);
+      inv = λ i. start-inv (lent .area / REGION-BYTES);
+    })
 call-good (allocate t size) lent s g =
     let m = s .mem in
     tested-good t lent s _ g (λ l I.

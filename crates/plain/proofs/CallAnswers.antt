@@ -20,7 +20,7 @@ use Rattle.plain.specs.Calls.{whenIdle, refuse, became, tested, plainCal
 use Rattle.plain.specs.Codes.{StepCode, under-way, no-request, no-descriptor, no-region, finishes, ReadsNoSpare}
 use Rattle.plain.specs.Codes.{PushesBack, ReadsNoRegion, CallIs, starts, begins, steps, EndsBy12, EndsBy13}
 use Rattle.plain.specs.Codes.{AtMost}
-use Rattle.plain.proofs.CallTests.{either, by-tests, by-start-tests}
+use Rattle.plain.proofs.CallTests.{either, by-tests, start-numbers, by-start-tests}
 use Rattle.plain.proofs.Steps.{step-facts}
 
 -- ---- 12 and 13 always come at these reads and exchanges
@@ -91,8 +91,8 @@ module _ (c : Call) (s : Pool) where
 pub call-is : (c : Call) (lent : Lengths) (s : Pool) → CallIs c s (plainCall c lent s)
 unfolding plainCall startMem
 call-is (start n) lent s =
-    by-start-tests (CallIs (start n) s) n lent s (λ k i l. refuses (start n) s k (omega arith))
-    (λ b d. starts refl (λ ℓ. refl))
+    by-start-tests (CallIs (start n) s) n lent s
+    (λ k F. refuses (start n) s k (omega (arith, start-numbers F))) (λ T. starts refl (λ ℓ. refl))
 call-is (allocate t size) lent s =
     let c = allocate t size in
     tested-is c s t lent _ (λ l. begins-is c s _ (small-idle c s (s .mem .task t .place) _

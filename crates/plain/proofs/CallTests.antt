@@ -1,5 +1,6 @@
 -- Tests that a step or a call makes: what holds of each result holds after the tests.
-use mathlib.Core.Path.{_≡_, _∙_}
+use mathlib.Core.Path.{_≡_, sym, subst, _∙_}
+use mathlib.Core.Logic.{_⊎_, ⊎-elim, inl, inr}
 use Prim.Native.Nat.{ℕ, _*_, _/_, _≤_, _<_}
 use native.Mathlib.Omega.{arith}
 use native.Mathlib.Decide.{ℕ-discrete, decLt}
@@ -9,7 +10,8 @@ use Rattle.rows.proofs.Branch.{if-yes, if-no}
 use Rattle.plain.specs.Moves.{Answer, nothing, going}
 use Rattle.plain.specs.Steps.{Result}
 use Rattle.plain.specs.Calls.{Pool, Start, Lengths, StartArea, StartTasks, startArea?, startTasks?, startMem}
-use Rattle.plain.specs.Calls.{refuse, became, tested, Tested, startCall}
+use Rattle.plain.specs.Calls.{refuse, became, tested, Tested, startCall, StartTested, StartFails, start-control}
+use Rattle.plain.specs.Calls.{start-area, start-tasks}
 use Rattle.plain.specs.Invariant.{Invariant}
 
 -- a test: what holds of both of its results holds of its result
@@ -30,8 +32,8 @@ by-tests Q t lent s x no-more h =
     (λ a. no-more 1 (omega arith))
 
 -- a call that passes them does what follows
-pub passed : {lent : Lengths} {t : ℕ} {s : Pool} (x : Result) → Tested lent t s → tested t lent s x ≡ became s x
-passed {lent} {t} {s} x T =
+pub passed : {t : ℕ} {lent : Lengths} {s : Pool} (x : Result) → Tested t lent s → tested t lent s x ≡ became s x
+passed {t} {lent} {s} x T =
     if-yes (ℕ-discrete (lent .control) CONTROL-BYTES) _ _ (T .control-is)
     ∙ if-no (ℕ-discrete (s .tasks) 0) _ _ (λ e. absurd (omega (arith, T .started)))
     ∙ if-yes (ℕ-discrete (lent .area) (REGION-BYTES * s .regions)) _ _ (T .area-is)
@@ -43,17 +45,47 @@ started b lent =
     let regions = lent .area / REGION-BYTES in
     (record { tasks = b .tasks; regions = regions; mem = startMem regions }, going nothing)
 
--- tests 1, 2, 3 of a start: it is refused, or begins a new run
+-- a start passes its tests, or one of them is the first to fail
+pub start-tested : (b : Start) (lent : Lengths) → ((n : ℕ) × StartFails b lent n) ⊎ StartTested b lent
+start-tested b lent =
+    by (ℕ-discrete (lent .control) CONTROL-BYTES) (startArea? (lent .area)) (startTasks? (b .tasks))
+  where
+    by : Dec (lent .control ≡ CONTROL-BYTES) → Dec (StartArea (lent .area)) → Dec (StartTasks (b .tasks))
+        → ((n : ℕ) × StartFails b lent n) ⊎ StartTested b lent
+    by (no c) a t = inl (1, start-control c)
+    by (yes c) (no a) t = inl (2, start-area c a)
+    by (yes c) (yes a) (no t) = inl (3, start-tasks c a t)
+    by (yes c) (yes a) (yes t) = inr (record { control-is = c; area = a; tasks = t })
+
+module _ {b : Start} {lent : Lengths} where
+  -- a start that fails one is refused
+  pub start-failed : (s : Pool) {n : ℕ} → StartFails b lent n → startCall b lent s ≡ refuse n s
+  start-failed s (start-control h) = if-no (ℕ-discrete (lent .control) CONTROL-BYTES) _ _ h
+  start-failed s (start-area c h) =
+      if-yes (ℕ-discrete (lent .control) CONTROL-BYTES) _ _ c ∙ if-no (startArea? (lent .area)) _ _ h
+  start-failed s (start-tasks c a h) =
+      if-yes (ℕ-discrete (lent .control) CONTROL-BYTES) _ _ c ∙ if-yes (startArea? (lent .area)) _ _ a
+      ∙ if-no (startTasks? (b .tasks)) _ _ h
+
+  -- one that passes them begins a new run
+  pub start-passed : (s : Pool) → StartTested b lent → startCall b lent s ≡ started b lent
+  start-passed s T =
+      if-yes (ℕ-discrete (lent .control) CONTROL-BYTES) _ _ (T .control-is)
+      ∙ if-yes (startArea? (lent .area)) _ _ (T .area) ∙ if-yes (startTasks? (b .tasks)) _ _ (T .tasks)
+
+  -- the numbers by which a start is refused
+  pub start-numbers : {n : ℕ} → StartFails b lent n → (1 ≤ n) × (n ≤ 3)
+  start-numbers (start-control h) = (omega arith, omega arith)
+  start-numbers (start-area c h) = (omega arith, omega arith)
+  start-numbers (start-tasks c a h) = (omega arith, omega arith)
+
+-- what holds of a refused start, and of one that begins a new run, holds of a start
 pub by-start-tests : (Q : Pool × Answer → Type 0) (b : Start) (lent : Lengths) (s : Pool)
-    → ((n : ℕ) → 1 ≤ n → n ≤ 3 → Q (refuse n s))
-    → (StartArea (lent .area) → StartTasks (b .tasks) → Q (started b lent))
+    → ((n : ℕ) → StartFails b lent n → Q (refuse n s)) → (StartTested b lent → Q (started b lent))
     → Q (startCall b lent s)
 by-start-tests Q b lent s no-more h =
-    either Q (ℕ-discrete (lent .control) CONTROL-BYTES) _ _
-    (λ a. either Q (startArea? (lent .area)) _ _
-    (λ d. either Q (startTasks? (b .tasks)) _ _ (h d) (λ c. no-more 3 (omega arith) (omega arith)))
-    (λ d. no-more 2 (omega arith) (omega arith)))
-    (λ a. no-more 1 (omega arith) (omega arith))
+    ⊎-elim (λ F. subst Q (sym (start-failed s (F .1))) (no-more (F .0) (F .1)))
+    (λ T. subst Q (sym (start-passed s T)) (h T)) (start-tested b lent)
 
 -- the memory after a step or a beginning has the invariant
 abbrev pub KeepsInvariant : ℕ → Result → Type 0

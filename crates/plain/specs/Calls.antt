@@ -1,6 +1,7 @@
 -- The calls of the plain pool, with their refusals in the paper's order: "Start tests 1, 2, 3. Other calls test 1, 4,
 -- 2, 5, then 6 or 7, then 8, 9 or 10, 11." It "is fed only each call's numbers and the lengths lent".
 use mathlib.Core.Path.{_≡_}
+use mathlib.Core.Logic.{_≢_}
 use mathlib.Core.List.{List, _∷_, []}
 use Prim.Native.Nat.{ℕ, zero, suc, _*_, _/_, _%_, _≤_, _<_}
 use native.Mathlib.Decide.{ℕ-discrete, decLt, decLe}
@@ -77,6 +78,19 @@ StartTasks n = (1 ≤ n) × (n ≤ TASKS)
 -- whether it is so
 abbrev pub startTasks? : (n : ℕ) → Dec (StartTasks n)
 startTasks? n = both (decLe 1 n) (decLe n TASKS)
+
+-- the tests 1, 2, 3 of a start pass, in either pool
+pub record StartTested (b : Start) (lent : Lengths) : Type 0 where
+  pub control-is : lent .control ≡ CONTROL-BYTES
+  pub area : StartArea (lent .area)
+  pub tasks : StartTasks (b .tasks)
+
+-- the first of them that fails refuses the start by its number; those before it pass
+pub data StartFails (b : Start) (lent : Lengths) : ℕ → Type 0 where
+  start-control : lent .control ≢ CONTROL-BYTES → StartFails b lent 1
+  start-area : lent .control ≡ CONTROL-BYTES → (StartArea (lent .area) → ⊥) → StartFails b lent 2
+  start-tasks : lent .control ≡ CONTROL-BYTES → StartArea (lent .area) → (StartTasks (b .tasks) → ⊥)
+      → StartFails b lent 3
 
 -- "pool not started": what a run begins with
 unfoldable pub unstarted : Pool
@@ -165,7 +179,7 @@ tested t lent s x =
     (refuse 1 s)
 
 -- the tests 1, 4, 2, 5 pass
-pub record Tested (lent : Lengths) (t : ℕ) (s : Pool) : Type 0 where
+pub record Tested (t : ℕ) (lent : Lengths) (s : Pool) : Type 0 where
   pub control-is : lent .control ≡ CONTROL-BYTES
   pub started : 1 ≤ s .tasks
   pub area-is : lent .area ≡ REGION-BYTES * s .regions

@@ -8,7 +8,7 @@ use lib.ListN.{length, getD}
 use Rattle.fields.specs.Little.{getLE}
 use Rattle.schedule.specs.declared.record.Record.the-variants.{Start, Allocate, Free, Step, Run, Bad}
 use Rattle.schedule.specs.Records.{START-KIND, ALLOCATE-KIND, FREE-KIND, STEP-KIND, RUN-KIND, START-BYTES}
-use Rattle.schedule.specs.Records.{STEP-BYTES, WIDE-BYTES, TASK-AT, NUMBER-AT, wideOf, recordAt}
+use Rattle.schedule.specs.Records.{STEP-BYTES, WIDE-BYTES, TASK-AT, NUMBER-AT, NUMBER-BYTES, wideOf, recordAt}
 
 module _ (input : List ℕ) (at : ℕ) where
   abbrev kind : ℕ
@@ -54,7 +54,7 @@ module _ (input : List ℕ) (at : ℕ) where
           wide-cut h = rw (le-leb _ _ k, le-leb _ _ l, ne-eqb _ _ m, ne-eqb _ _ n, lt-leb _ _ h)
 
           pub wide-whole : WIDE-BYTES ≤ left
-              → wideOf kind task (getLE input (at + NUMBER-AT) 2) ≡ recordAt input at
+              → wideOf kind task (getLE input (at + NUMBER-AT) NUMBER-BYTES) ≡ recordAt input at
           unfolding recordAt
           wide-whole h = rw (le-leb _ _ k, le-leb _ _ l, ne-eqb _ _ m, ne-eqb _ _ n, le-leb _ _ h)
 

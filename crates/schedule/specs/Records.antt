@@ -49,9 +49,13 @@ WIDE-BYTES = 4
 abbrev pub TASK-AT : ℕ
 TASK-AT = 1
 
--- the regions of a start, in one byte; or the size, the unit or the most steps, in two
+-- the regions of a start, in one byte; or the size, the unit or the most steps
 abbrev pub NUMBER-AT : ℕ
 NUMBER-AT = 2
+
+-- "in two bytes, low first"
+abbrev pub NUMBER-BYTES : ℕ
+NUMBER-BYTES = 2
 
 -- the most calls that a record makes: a run's number has two bytes
 abbrev pub MOST-CALLS : ℕ
@@ -75,7 +79,8 @@ recordAt input at =
     (cond (eqb kind STEP-KIND) (cond (leb STEP-BYTES left) (Step (getD input (at + TASK-AT) 0)) Bad)
     (cond (eqb kind START-KIND)
     (cond (leb START-BYTES left) (Start (getD input (at + TASK-AT) 0) (getD input (at + NUMBER-AT) 0)) Bad)
-    (cond (leb WIDE-BYTES left) (wideOf kind (getD input (at + TASK-AT) 0) (getLE input (at + NUMBER-AT) 2)) Bad)))
+    (cond (leb WIDE-BYTES left)
+    (wideOf kind (getD input (at + TASK-AT) 0) (getLE input (at + NUMBER-AT) NUMBER-BYTES)) Bad)))
     Bad)
     Bad
 

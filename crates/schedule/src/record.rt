@@ -3,8 +3,8 @@ ghost use mathlib.Core.Path.{_≡_};
 ghost use Prim.Native.Nat.{_+_, _≤_, _<_};
 ghost use lib.ListN.{length, getD};
 ghost use Rattle.fields.specs.Little.{getLE};
-ghost use Rattle.schedule.specs.Records.{INPUT-BYTES, WIDE-BYTES, TASK-AT, NUMBER-AT, wideOf, recordAt};
-ghost use Rattle.schedule.specs.Records.{entryAt, endOf};
+ghost use Rattle.schedule.specs.Records.{INPUT-BYTES, WIDE-BYTES, TASK-AT, NUMBER-AT, NUMBER-BYTES};
+ghost use Rattle.schedule.specs.Records.{wideOf, recordAt, entryAt, endOf};
 
 // The kinds of record, and how many bytes a record of a kind has.
 const START_KIND: u8 = 1;
@@ -54,7 +54,7 @@ pub struct Entry {
 fn wide(input: &[u8], at: usize, kind: u8) -> Record
     requires { ⌜ (at + WIDE-BYTES ≤ length (now input)) × (length (now input) ≤ INPUT-BYTES) ⌝ }
     ensures { λ r. ⌜ r ≡ wideOf kind (getD (now (input .entry)) (at + TASK-AT) 0)
-        (getLE (now (input .entry)) (at + NUMBER-AT) 2) ⌝ }
+        (getLE (now (input .entry)) (at + NUMBER-AT) NUMBER-BYTES) ⌝ }
 {
     let task = input[at + TASK_AT];
     let number = fields::load16(input, at + NUMBER_AT);

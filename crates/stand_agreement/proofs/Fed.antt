@@ -8,7 +8,7 @@ use Rattle.plain.specs.Moves.{Answer}
 use Rattle.plain.specs.Steps.{Result}
 use Rattle.plain.specs.Calls.{Pool, Start, Lengths}
 use Rattle.plain.specs.Calls as Calls
-use Rattle.plain.proofs.CallTests.{by-tests, by-start-tests}
+use Rattle.plain.proofs.CallTests.{by-tests, start-numbers, by-start-tests}
 use Rattle.schedule.specs.Plain.{answerNumber, regionsFed}
 
 -- the same number of tasks and of regions
@@ -48,4 +48,5 @@ pub start-is : (b : Start) (regions : ℕ) (p : Pool)
 unfolding Calls.plainCall
 start-is b regions p =
     by-start-tests (StartIs regions p) b (record { control = CONTROL-BYTES; area = REGION-BYTES * regions }) p
-    (λ n i l. refused (λ e. absurd (omega arith)) refl) (λ d c. accepted refl (c .0) (omega arith))
+    (λ n F. refused (λ e. absurd (omega (arith, start-numbers F, e))) refl)
+    (λ T. accepted refl (T .tasks .0) (omega arith))

@@ -15,16 +15,16 @@ use Rattle.fields.specs.Columns.{firstByte, width}
 use Rattle.control.specs.Layout.{layout, Tasks}
 use Rattle.control.specs.Answers.{CODES}
 use Rattle.stepped.specs.Outcome.{Memories}
-use Rattle.stepped.proofs.CallTests.{branch}
 use Rattle.agreement.proofs.Images.{zeros as zeros-are, getLE-zeros}
 use Rattle.agreement.specs.Reached.{from-unstarted}
+use Rattle.agreement.proofs.Ways.{branch}
 use Rattle.schedule.specs.declared.record.Record.{Record}
 use Rattle.schedule.specs.declared.record.Record.the-variants.{Start, Allocate, Free, Step, Run, Bad}
 use Rattle.schedule.specs.declared.tally.Tally.{Tally}
 use Rattle.schedule.specs.declared.treat.Line.{Line}
 use Rattle.schedule.specs.Records.{INPUT-BYTES, START-KIND, ALLOCATE-KIND, FREE-KIND, STEP-KIND, RUN-KIND, START-BYTES}
-use Rattle.schedule.specs.Records.{STEP-BYTES, WIDE-BYTES, TASK-AT, NUMBER-AT, MOST-CALLS, wideOf, recordAt, entryAt}
-use Rattle.schedule.specs.Records.{endOf}
+use Rattle.schedule.specs.Records.{STEP-BYTES, WIDE-BYTES, TASK-AT, NUMBER-AT, NUMBER-BYTES, MOST-CALLS, wideOf}
+use Rattle.schedule.specs.Records.{recordAt, entryAt, endOf}
 use Rattle.schedule.specs.Tally.{noneCounted, counted}
 use Rattle.schedule.specs.Stand.{STAND-AREA}
 use Rattle.schedule.specs.Stand.{as-started, lineOf, runs, treated, table}
@@ -76,8 +76,8 @@ record-fits input at b l =
     (λ i. record { most = omega arith; from = omega arith; to = omega (arith, leb-true START-BYTES left i) })
     (λ i. bad))
     (λ h. branch P (leb WIDE-BYTES left)
-    (λ i. wide-fits at (length input) kind (getD input (at + TASK-AT) 0) (getLE input (at + NUMBER-AT) 2)
-    (omega (arith, leb-true WIDE-BYTES left i)) (omega (arith, getLE-lt input (at + NUMBER-AT) 2 b)))
+    (λ i. wide-fits at (length input) kind (getD input (at + TASK-AT) 0) (getLE input (at + NUMBER-AT) NUMBER-BYTES)
+    (omega (arith, leb-true WIDE-BYTES left i)) (omega (arith, getLE-lt input (at + NUMBER-AT) NUMBER-BYTES b)))
     (λ i. bad))))
     (λ f. bad))
     (λ e. bad)

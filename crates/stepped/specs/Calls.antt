@@ -138,17 +138,23 @@ pub record Lent : Type 0 where
 abbrev pub lengths : Lent → Lengths
 lengths lent = record { control = lent .control; area = length (lent .area) }
 
--- "1 control not 8,192 bytes; 2 area length zero, no multiple of 4,096 or above 65,536 ..; 3 tasks not 1 to 8". An
--- accepted start takes the area that it is lent and leaves it as it is; a refused one leaves the pool's memories s.
+-- an accepted start fills the control memory, and takes the area that it is lent, as it is
+abbrev pub startEffect : Start → Lent → Effect
+startEffect b lent = record {
+  answer = Accepted;
+  decided = nothing;
+  control = startImage b (length (lent .area) / REGION-BYTES);
+  area = lent .area;
+}
+
+-- "1 control not 8,192 bytes; 2 area length zero, no multiple of 4,096 or above 65,536 ..; 3 tasks not 1 to 8". A
+-- refused start leaves the pool's memories s.
 unfoldable pub startIn : Start → Lent → Memories → Effect
 startIn b lent s =
     let bytes = length (lent .area) in
-    let image = startImage b (bytes / REGION-BYTES) in
     cond (eqb (lent .control) CONTROL-BYTES)
     (cond (eqb (bytes % REGION-BYTES) 0 && oneTo AREA-BYTES bytes)
-    (cond (oneTo TASKS (b .tasks))
-    (record { answer = Accepted; decided = nothing; control = image; area = lent .area })
-    (effect (refuse 3) s))
+    (cond (oneTo TASKS (b .tasks)) (startEffect b lent) (effect (refuse 3) s))
     (effect (refuse 2) s))
     (effect (refuse 1) s)
 

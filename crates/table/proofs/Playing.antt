@@ -17,7 +17,7 @@ use Rattle.schedule.specs.Tally.{noneCounted, counted}
 use Rattle.schedule.specs.Stand.{shown, table}
 use Rattle.schedule.specs.Bytes.{onBytes, Does}
 use Rattle.text.specs.Texts.{Appended}
-use Rattle.text.specs.Lines.{columnsText, lineText, totalText}
+use Rattle.text.specs.Lines.{LINE-BYTES, columnsText, lineText, totalText}
 use Rattle.text.proofs.Digits.{short-line}
 use Rattle.table.specs.Output.{TABLE-BYTES, rowsText, tableText, output}
 
@@ -64,7 +64,7 @@ module _ (input : List ℕ) where
     pub enough : length input - at ≤ fuel
     pub few : n ≤ at
     pub most : n ≤ length input
-    pub room : used ≤ 23 + 35 * n
+    pub room : used ≤ length columnsText + LINE-BYTES * n
     pub said : output input s₀ ≡ take used out ++ ahead fuel at n y s
 
   -- what is used lies within the room for the longest table
@@ -90,7 +90,7 @@ module _ (input : List ℕ) where
   -- the line of one of the first 100,000 records is short
   pub short : (at n : ℕ) {e : Entry} → e ≡ entryAt input at n → n < 10 ^ 5
       → {control area control′ area′ : List ℕ} {line : Line} → Does (shown onBytes e) control area control′ area′ line
-      → line .kind < 256 → line .value < 2 ^ 64 → length (textOf line) ≤ 35
+      → line .kind < 256 → line .value < 2 ^ 64 → length (textOf line) ≤ LINE-BYTES
   short at n {e} is few {line = line} D kind value =
       short-line (line .number) (line .kind) (line .code) (line .value)
       (omega (arith, ap (λ (l : Line). l .number) (D .answer), ap (λ (x : Entry). x .number) is, few))
@@ -103,7 +103,7 @@ module _ (input : List ℕ) where
       (h : at < length input) where
     pub goes-on : {e : Entry} → e ≡ entryAt input at n
         → {control area : List ℕ} {line : Line} → Does (shown onBytes e) (s .control) (s .area) control area line
-        → {out′ : List ℕ} {used′ : ℕ} → Appended out out′ used (textOf line) used′ × (length (textOf line) ≤ 35)
+        → {out′ : List ℕ} {used′ : ℕ} → Appended out out′ used (textOf line) used′ × (length (textOf line) ≤ LINE-BYTES)
         → {next : ℕ} {z : Tally} → z ≡ counted y (line .code) → next ≡ endOf (e .body) at (length input)
         → TableAhead s₀ used′ next (n + 1) z (record { control = control; area = area }) out′
     goes-on {e} is {control} {area} {line} D {out′} {used′} w {next} {z} counts end = by (A .fuel) (A .enough) (A .said)

@@ -13,7 +13,7 @@ use Rattle.schedule.specs.Plain.{onPlain}
 use Rattle.text.specs.Texts.{Appended}
 use Rattle.text.specs.Lines.{columnsText, lineText, totalText}
 
--- room for the longest table: 65,536 lines of at most 35 bytes, the first line and the last
+-- room for the longest table: 65,536 lines of at most LINE-BYTES bytes, the first line and the last
 abbrev pub TABLE-BYTES : ℕ
 TABLE-BYTES = 2293888
 

@@ -8,7 +8,7 @@ use native.Mathlib.Decide.{decLt}
 use borrow.Author.Tests.{lt-ltb, le-ltb}
 use lib.ListN.{length, length-append}
 use Rattle.text.specs.Texts.{digits, decimal}
-use Rattle.text.specs.Lines.{lineText}
+use Rattle.text.specs.Lines.{LINE-BYTES, lineText}
 
 -- more digits than a number needs change nothing
 enough : (f g n : ℕ) → n < f → n < g → digits f n ≡ digits g n
@@ -58,9 +58,9 @@ short (suc f) k n h = elim (decLt n 10) [
 pub twenty : (n : ℕ) → n < 2 ^ 64 → length (decimal n) ≤ 20
 twenty n h = short (suc n) 19 n (omega arith)
 
--- the line of a record of the stand has at most 35 bytes: its four numbers have 5, 3, 3 and 20 digits at most
+-- the line of a record of the stand has at most LINE-BYTES bytes
 pub short-line : (number kind code value : ℕ) → number < 10 ^ 5 → kind < 10 ^ 3 → code < 10 ^ 3 → value < 10 ^ 20
-    → length (lineText number kind code value) ≤ 35
+    → length (lineText number kind code value) ≤ LINE-BYTES
 unfolding lineText
 short-line number kind code value a b c d =
     simp length-append

@@ -3,6 +3,14 @@ use Prim.Native.Nat.{ℕ}
 use mathlib.Core.List.{List, [], _∷_, _++_}
 use Rattle.text.specs.Texts.{decimal}
 
+-- the most bytes of a number of 64 bits, 20 digits, with the character behind it
+abbrev pub FIELD-BYTES : ℕ
+FIELD-BYTES = 21
+
+-- the most bytes of a record's line: its four numbers have 5, 3, 3 and 20 digits at most, each with a character behind
+abbrev pub LINE-BYTES : ℕ
+LINE-BYTES = 35
+
 -- a number and the character behind it
 abbrev pub fieldText : ℕ → ℕ → List ℕ
 fieldText n behind = decimal n ++ (behind ∷ [])

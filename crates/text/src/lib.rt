@@ -3,7 +3,7 @@
 ghost use Prim.Native.Nat.{_+_, _≤_};
 ghost use lib.ListN.{length};
 ghost use Rattle.text.specs.Texts.{decimal as decimalText, Appended};
-ghost use Rattle.text.specs.Lines.{fieldText, columnsText, lineText, totalText};
+ghost use Rattle.text.specs.Lines.{FIELD-BYTES, fieldText, columnsText, lineText, totalText};
 
 // Callers: `field`, and itself with all digits but the last.
 fn decimal(out: &mut [u8], at: usize, number: u64) -> usize
@@ -21,8 +21,8 @@ fn decimal(out: &mut [u8], at: usize, number: u64) -> usize
 
 // A number and the byte behind it. A number of 64 bits has at most 20 digits.
 fn field(out: &mut [u8], at: usize, number: u64, behind: u8) -> usize
-    requires { ⌜ at + 21 ≤ length (now out) ⌝ }
-    ensures { λ r. ⌜ Appended (now (out .entry)) (now (out .exit)) at (fieldText number behind) r × (r ≤ at + 21) ⌝ }
+    requires { ⌜ at + FIELD-BYTES ≤ length (now out) ⌝ }
+    ensures { λ r. ⌜ Appended (now (out .entry)) (now (out .exit)) at (fieldText number behind) r × (r ≤ at + FIELD-BYTES) ⌝ }
 {
     let end = decimal(out, at, number);
     out[end] = behind;

@@ -1,34 +1,42 @@
--- One law for each way out.
+-- One way out for each part of a test that fails, and one for all that pass.
 use native.Mathlib.Omega.{arith}
-use Rattle.pool.proofs.Started.{wrong-control, uneven, no-area, large-area, no-tasks, many-tasks, started}
+use Rattle.plain.specs.Calls.{start-control, start-area, start-tasks}
+use Rattle.pool.proofs.Started.{refused, started}
 use borrow.Author.Needs.{needs}
 use Rattle.pool.proofs.pool_start.Statement.{statement}
 use Rattle.pool.proofs.pool_start.Tie as tie
 
 returns : tie.Need-returns
-returns c = wrong-control _ _ _ (λ e. omega arith)
+returns c = refused _ _ _ (start-control (λ e. omega arith))
 
 returns-2 : tie.Need-returns-2
-returns-2 c = uneven _ _ _ (omega arith) (λ e. omega arith)
+returns-2 c = refused _ _ _ (start-area (omega arith) (λ a. omega (arith, a)))
 
 returns-3 : tie.Need-returns-3
-returns-3 c = no-area _ _ _ (omega arith) (omega arith) (omega arith)
+returns-3 c = refused _ _ _ (start-area (omega arith) (λ a. omega (arith, a)))
 
 returns-4 : tie.Need-returns-4
-returns-4 c = large-area _ _ _ (omega arith) (omega arith) (omega arith) (omega arith)
+returns-4 c = refused _ _ _ (start-area (omega arith) (λ a. omega (arith, a)))
 
 returns-5 : tie.Need-returns-5
-returns-5 c = no-tasks _ _ _ (omega arith) (omega arith) (omega arith) (omega arith) (omega arith)
+returns-5 c =
+    refused _ _ _ (start-tasks (omega arith) (omega arith, (omega arith, omega arith)) (λ t. omega (arith, t)))
 
 returns-6 : tie.Need-returns-6
-returns-6 c = many-tasks _ _ _ (omega arith) (omega arith) (omega arith) (omega arith) (omega arith) (omega arith)
+returns-6 c =
+    refused _ _ _ (start-tasks (omega arith) (omega arith, (omega arith, omega arith)) (λ t. omega (arith, t)))
 
 returns-7 : tie.Need-returns-7
 returns-7 c =
     let args =
     c .before .before .before .before .before .before .before .before .before .before .before .before .args in
-    started (args .control .now) (args .area .now) (args .tasks) (omega arith) (omega arith) (omega arith) (omega arith)
-    (omega arith) (omega arith) (c .before .before .image .ensures)
+    started (args .control .now) (args .area .now) (args .tasks)
+    (record {
+      control-is = omega arith;
+      area = (omega arith, (omega arith, omega arith));
+      tasks = (omega arith, omega arith);
+    })
+    (c .before .before .image .ensures)
 
 pub pool-start-spec : {M : Type 1} → statement M
 pool-start-spec =

@@ -2,67 +2,51 @@ use borrow.Author.Needs.{needs}
 use Rattle.control.proofs.answer.number.Statement.{statement}
 use Rattle.control.proofs.answer.number.Tie as tie
 
--- src/answer.rt:25:29
 enum-told : tie.Need-enum-told
 enum-told c = search needs
 
--- src/answer.rt:26:27
 enum-known-a : tie.Need-enum-known-a
 enum-known-a c = search needs
 
--- src/answer.rt:26:48
 cast-result : tie.Need-cast-result
 cast-result c = search needs
 
--- src/answer.rt:26:41
 mul-result : tie.Need-mul-result
 mul-result c = search needs
 
--- src/answer.rt:26:36
 add-result : tie.Need-add-result
 add-result c = search needs
 
--- src/answer.rt:27:26
 enum-told-2 : tie.Need-enum-told-2
 enum-told-2 c = search needs
 
--- src/answer.rt:28:33
 enum-told-3 : tie.Need-enum-told-3
 enum-told-3 c = search needs
 
--- src/answer.rt:29:29
 enum-told-4 : tie.Need-enum-told-4
 enum-told-4 c = search needs
 
--- src/answer.rt:30:25
 enum-known-a-2 : tie.Need-enum-known-a-2
 enum-known-a-2 c = search needs
 
--- src/answer.rt:30:31
 cast-result-2 : tie.Need-cast-result-2
 cast-result-2 c = search needs
 
--- src/answer.rt:21:1
 returns : tie.Need-returns
 returns c = search needs
 
--- src/answer.rt:21:1
 returns-2 : tie.Need-returns-2
 returns-2 c = cc
 
--- src/answer.rt:21:1
 returns-3 : tie.Need-returns-3
 returns-3 c = search needs
 
--- src/answer.rt:21:1
 returns-4 : tie.Need-returns-4
 returns-4 c = search needs
 
--- src/answer.rt:21:1
 returns-5 : tie.Need-returns-5
 returns-5 c = search needs
 
--- src/answer.rt:21:1
 returns-6 : tie.Need-returns-6
 returns-6 c = search needs
 
