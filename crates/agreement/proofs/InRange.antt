@@ -43,7 +43,7 @@ use Rattle.agreement.specs.Tied.{Tied}
 use Rattle.agreement.proofs.Both.{seen-fitting}
 use Rattle.agreement.proofs.Reaching.{reached-tied, reached-found, along}
 use Rattle.agreement.proofs.FreeUnderWay.{Freeing, allocates, fills, frees, owes}
-use Rattle.agreement.proofs.TaskInRange.{numbers-at}
+use Rattle.agreement.proofs.NumbersInRange.{numbers-at}
 
 -- ---- a task
 

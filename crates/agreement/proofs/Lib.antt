@@ -63,7 +63,7 @@ pub mod Ends
 pub mod Theorem
 pub mod FreeUnderWay
 pub mod ListsInRange
-pub mod TaskInRange
+pub mod NumbersInRange
 pub mod InRange
 pub mod AnswersOfRuns
 pub mod ExampleRun

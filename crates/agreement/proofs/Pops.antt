@@ -29,7 +29,7 @@ use Rattle.stepped.specs.Ranges.{oneTo}
 use Rattle.stepped.specs.Lists as Lists
 use Rattle.stepped.specs.Lists.{Items, howMany, nextField, popItems}
 use Rattle.stepped.specs.Steps as Stepped
-use Rattle.stepped.proofs.MovePlaces.{pop-steps}
+use Rattle.stepped.proofs.PlaceSteps.{pop-steps}
 use Rattle.agreement.specs.Events.{Recent}
 use Rattle.agreement.specs.Contents.{slotOf, contentsOf}
 use Rattle.agreement.specs.Relation.{tail, at-read, at-next, at-exchange, PopRelated, plainPop, r-popping}

@@ -29,7 +29,7 @@ use Rattle.control.specs.declared.moves.Push.the-variants.{Retire, Back, Releas
 use Rattle.stepped.specs.Lists as Lists
 use Rattle.stepped.specs.Lists.{Items, descriptor-items, region-items, howMany, nextField, handField, pushItems}
 use Rattle.stepped.specs.Steps as Stepped
-use Rattle.stepped.proofs.MovePlaces.{push-steps}
+use Rattle.stepped.proofs.PlaceSteps.{push-steps}
 use Rattle.agreement.specs.Events.{Recent}
 use Rattle.agreement.specs.Contents.{slotOf, contentsOf}
 use Rattle.agreement.specs.Relation.{at-read, at-next, at-exchange, nexts, inHand, PushRelated, plainPush}

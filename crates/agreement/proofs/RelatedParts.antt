@@ -119,7 +119,7 @@ module _ {regions : ℕ} {E : Entries} {map hands : ℕ → ℕ} (R : EntriesRel
     marks = update-all₂ (λ j x y. j < UNITS → x ≡ y) (E .mark) hands u b b (λ l. refl) (λ j n. R .marks j);
   }
 
--- ---- all but the tasks, with one part related anew, beside any parts of the tasks: a further part is named here alone
+-- ---- all but the tasks, with one part related anew, beside any parts of the tasks
 
 -- the plain pool with other parts
 abbrev pub plainWith : (won : ℕ → ℕ) (row : ℕ → List ℕ) (P : ℕ → Descriptor) (map hands : ℕ → ℕ) (task : ℕ → Task) → Mem

@@ -1,4 +1,5 @@
--- Step 3 of a free, in both pools: the anchor is read, the last link is written, the anchor is exchanged.
+-- Step 3 of a free, in both pools: the anchor is read, and the last link is written. The exchange is in
+-- `Exchanging.antt`.
 use mathlib.Core.Path.{_≡_, refl, ap, _∙_}
 use mathlib.Core.List.{List, [], _∷_, _++_}
 use Prim.Native.Nat.{ℕ, suc, _+_, _-_, _≤_, _<_}

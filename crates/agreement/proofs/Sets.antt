@@ -1,5 +1,5 @@
 -- The two memories with one part changed, and with some columns of a part changed. A part's other columns are named in
--- the setters of that part alone, and the other parts in `through` alone.
+-- the setters of that part alone, and all parts in `through` alone, beside `contentsOf`, which reads them off a view.
 use mathlib.Core.List.{List}
 use Prim.Native.Nat.{ℕ}
 use Rattle.rows.specs.Update.{update}

@@ -1,5 +1,5 @@
 -- One task's part with some columns changed. The columns of what it noted, has in hand or grouped are named in the
--- setters of that part alone, and the other parts in `through` alone.
+-- setters of that part alone, and all parts in `through` alone, beside `slotOf`, which reads them off a view.
 use Prim.Native.Nat.{ℕ}
 use Rattle.rows.specs.Update.{update}
 use Rattle.words.specs.declared.head.Head.{Head}

@@ -1,4 +1,4 @@
--- The other changes of a turn: heads, nexts, descriptors, the map, the marks.
+-- The relation after a turn that changes what the tasks share: heads, nexts, descriptors, the map, the marks.
 use mathlib.Core.Path.{_≡_, refl, ap}
 use mathlib.Core.Logic.{_≢_}
 use mathlib.Core.List.{List}

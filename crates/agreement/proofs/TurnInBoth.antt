@@ -1,4 +1,5 @@
--- One task's turn in both pools: a law for each kind of change.
+-- One task's turn in both pools: what is its own and apart from the others', and the relation after a change of its own
+-- part, its caches or a link.
 use mathlib.Core.Path.{_≡_, refl, ap, subst}
 use mathlib.Core.Logic.{_≢_}
 use mathlib.Core.List.{List, [], _∷_}

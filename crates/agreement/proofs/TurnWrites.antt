@@ -1,5 +1,5 @@
--- A task's turn, from the writes of an outcome to the relation after it: its own part with its caches, a link, an
--- anchor, a map entry.
+-- The writes of a task's turn, and what the memories hold after them: its own part with its caches, a link, an anchor,
+-- a map entry.
 use mathlib.Core.Path.{_≡_, refl, ap, _∙_}
 use mathlib.Core.Logic.{_≢_}
 use mathlib.Core.List.{List}

@@ -1,4 +1,4 @@
--- A task's turn, from the writes of an outcome to the relation after it.
+-- A task's turn that changes its own part alone, and what stands in its cache's fields.
 use mathlib.Core.Path.{_≡_, refl, sym, subst, _∙_}
 use mathlib.Core.Logic.{_≢_}
 use mathlib.Core.List.{List}

@@ -63,7 +63,8 @@ HasTasks lent v = (lent .control ≡ CONTROL-BYTES) × (1 ≤ v Tasks) × (v Tas
 abbrev pub HasRegions : View → Type 0
 HasRegions v = (1 ≤ v Regions) × (v Regions ≤ REGIONS)
 
--- The first of the tests 1, 4, 2, 5 that fails refuses the call by its number; those before it pass.
+-- The first of the tests 1, 4, 2, 5 that fails refuses the call by its number; those before it pass. The stored numbers
+-- of tasks and regions are read for 4 and 2: out of their ranges, the number is 14.
 pub data FirstFails (lent : Lengths) (v : View) (t : ℕ) : ℕ → Type 0 where
   control-fails : lent .control ≢ CONTROL-BYTES → FirstFails lent v t 1
   tasks-fail : lent .control ≡ CONTROL-BYTES → TASKS < v Tasks → FirstFails lent v t 14

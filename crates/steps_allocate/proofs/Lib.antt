@@ -1,3 +1,3 @@
 -- Laws of the steps of an allocation that take.
 pub mod TakingBounds
-pub mod Paths
+pub mod AllocateWays

@@ -1,4 +1,4 @@
--- What the area holds and what the fields hold.
+-- Numbers that have passed their tests are inside the area, or fit their fields.
 use mathlib.Core.Path.{_≡_}
 use mathlib.Core.Bool.{true}
 use mathlib.Core.Logic.{inl, inr}

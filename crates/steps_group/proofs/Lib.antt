@@ -1,4 +1,4 @@
 -- The steps' ways out.
-pub mod PutBlock
+pub mod PuttingWays
 pub mod GroupingWays
 pub mod Fitting

@@ -2,7 +2,7 @@
 use native.Mathlib.Omega.{arith}
 use mathlib.Core.Path.{_∙_}
 use Rattle.stepped.proofs.Doing.{does}
-use Rattle.stepped.proofs.MovePlaces.{push-steps}
+use Rattle.stepped.proofs.PlaceSteps.{push-steps}
 use Rattle.steps.proofs.StepAt.{same}
 use borrow.Author.Needs.{needs}
 use Rattle.steps.proofs.moves.push_step.Statement.{statement}

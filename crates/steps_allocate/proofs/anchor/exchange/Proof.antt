@@ -5,7 +5,7 @@ use mathlib.Core.Path.{refl}
 use Rattle.stepped.specs.Ranges.{hasChain}
 use Rattle.ranges.proofs.Passed.{failed-for, passed-for}
 use Rattle.stepped.proofs.Doing.{done}
-use Rattle.steps_allocate.proofs.Paths.{by, a3Exchange-none, a3Exchange-chain, a3Exchange-some}
+use Rattle.steps_allocate.proofs.AllocateWays.{by, a3Exchange-none, a3Exchange-chain, a3Exchange-some}
 use Rattle.steps_allocate.proofs.anchor.exchange.Statement.{statement}
 use Rattle.steps_allocate.proofs.anchor.exchange.Tie as tie
 

@@ -5,8 +5,8 @@ use mathlib.Core.Path.{refl}
 use Rattle.stepped.specs.Ranges.{isAnchor}
 use Rattle.ranges.proofs.Passed.{failed-at, passed-at}
 use Rattle.stepped.proofs.Doing.{done}
-use Rattle.steps_allocate.proofs.Paths.{by, a3ExchangeOf-none, a3ExchangeOf-lost, a3ExchangeOf-region}
-use Rattle.steps_allocate.proofs.Paths.{a3ExchangeOf-won}
+use Rattle.steps_allocate.proofs.AllocateWays.{by, a3ExchangeOf-none, a3ExchangeOf-lost, a3ExchangeOf-region}
+use Rattle.steps_allocate.proofs.AllocateWays.{a3ExchangeOf-won}
 use Rattle.steps_allocate.proofs.anchor.exchange_of.Statement.{statement}
 use Rattle.steps_allocate.proofs.anchor.exchange_of.Tie as tie
 

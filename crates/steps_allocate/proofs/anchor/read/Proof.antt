@@ -3,7 +3,7 @@ use borrow.Author.Needs.{needs}
 use native.Mathlib.Omega.{arith}
 use mathlib.Core.Path.{refl}
 use Rattle.stepped.proofs.Doing.{done}
-use Rattle.steps_allocate.proofs.Paths.{by, a3Read-none, a3Read-some}
+use Rattle.steps_allocate.proofs.AllocateWays.{by, a3Read-none, a3Read-some}
 use Rattle.steps_allocate.proofs.anchor.read.Statement.{statement}
 use Rattle.steps_allocate.proofs.anchor.read.Tie as tie
 

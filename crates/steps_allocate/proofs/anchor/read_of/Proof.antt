@@ -5,7 +5,7 @@ use Rattle.steps_allocate.specs.AnchorWords.{isEmpty}
 use Rattle.stepped.specs.Ranges.{isAnchor, hasChain}
 use Rattle.ranges.proofs.Passed.{failed-at, passed-at, failed-for, passed-for, shown-at}
 use Rattle.stepped.proofs.Doing.{done}
-use Rattle.steps_allocate.proofs.Paths.{a3ReadOf-none, a3ReadOf-empty, a3ReadOf-chain, a3ReadOf-noted}
+use Rattle.steps_allocate.proofs.AllocateWays.{a3ReadOf-none, a3ReadOf-empty, a3ReadOf-chain, a3ReadOf-noted}
 use Rattle.steps_allocate.proofs.anchor.read_of.Statement.{statement}
 use Rattle.steps_allocate.proofs.anchor.read_of.Tie as tie
 

@@ -3,7 +3,7 @@ use borrow.Author.Needs.{needs}
 use native.Mathlib.Omega.{arith}
 use mathlib.Core.Path.{refl}
 use Rattle.stepped.proofs.Doing.{done}
-use Rattle.steps_allocate.proofs.Paths.{by, a1-empty, a1-many, a1-some}
+use Rattle.steps_allocate.proofs.AllocateWays.{by, a1-empty, a1-many, a1-some}
 use Rattle.steps_allocate.proofs.cache.take.Statement.{statement}
 use Rattle.steps_allocate.proofs.cache.take.Tie as tie
 

@@ -4,7 +4,7 @@ use mathlib.Core.Path.{refl}
 use Rattle.ranges.proofs.Passed.{failed, passed}
 use Rattle.stepped.proofs.Doing.{done}
 use Rattle.steps_allocate.proofs.TakingBounds.{block-link, block-unit, top-fits}
-use Rattle.steps_allocate.proofs.Paths.{by, a1Take-block, a1Take-below, a1Take-taken}
+use Rattle.steps_allocate.proofs.AllocateWays.{by, a1Take-block, a1Take-below, a1Take-taken}
 use Rattle.steps_allocate.proofs.cache.take_top.Statement.{statement}
 use Rattle.steps_allocate.proofs.cache.take_top.Tie as tie
 

@@ -4,7 +4,7 @@ use native.Mathlib.Omega.{arith}
 use mathlib.Core.Path.{refl}
 use Rattle.ranges.proofs.Passed.{failed-top, passed-top}
 use Rattle.stepped.proofs.Doing.{done-in}
-use Rattle.steps_allocate.proofs.Paths.{by-in}
+use Rattle.steps_allocate.proofs.AllocateWays.{by-in}
 use Rattle.steps_fill.proofs.FillingWays.{a4-full, a4-top, a4-moves}
 use Rattle.steps_fill.proofs.chain.move_at.Statement.{statement}
 use Rattle.steps_fill.proofs.chain.move_at.Tie as tie

@@ -3,7 +3,7 @@ use borrow.Author.Needs.{needs}
 use native.Mathlib.Omega.{arith}
 use mathlib.Core.Path.{refl}
 use Rattle.stepped.proofs.Doing.{done-in}
-use Rattle.steps_allocate.proofs.Paths.{by-in}
+use Rattle.steps_allocate.proofs.AllocateWays.{by-in}
 use Rattle.steps_fill.proofs.FillingWays.{a4Move-last, a4Move-bad, a4Move-on}
 use Rattle.steps_fill.proofs.chain.move_block.Statement.{statement}
 use Rattle.steps_fill.proofs.chain.move_block.Tie as tie

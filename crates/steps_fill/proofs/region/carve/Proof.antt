@@ -4,7 +4,7 @@ use native.Mathlib.Omega.{arith}
 use mathlib.Core.Path.{refl}
 use Rattle.ranges.proofs.Passed.{failed-top, passed-top}
 use Rattle.stepped.proofs.Doing.{done-in}
-use Rattle.steps_allocate.proofs.Paths.{by-in}
+use Rattle.steps_allocate.proofs.AllocateWays.{by-in}
 use Rattle.steps_fill.proofs.FillingWays.{a8-region, a8-index, a8-full, a8-top, a8-puts}
 use Rattle.steps_fill.proofs.region.carve.Statement.{statement}
 use Rattle.steps_fill.proofs.region.carve.Tie as tie

@@ -3,7 +3,7 @@ use borrow.Author.Needs.{needs}
 use native.Mathlib.Omega.{arith}
 use mathlib.Core.Path.{refl}
 use Rattle.stepped.proofs.Doing.{done}
-use Rattle.steps_allocate.proofs.Paths.{by}
+use Rattle.steps_allocate.proofs.AllocateWays.{by}
 use Rattle.steps_fill.proofs.FillingWays.{a7-none, a7-region, a7-opens}
 use Rattle.steps_fill.proofs.region.open.Statement.{statement}
 use Rattle.steps_fill.proofs.region.open.Tie as tie

@@ -3,7 +3,7 @@ use borrow.Author.Needs.{needs}
 use native.Mathlib.Omega.{arith}
 use mathlib.Core.Path.{refl}
 use Rattle.stepped.proofs.Doing.{done-in, does-in}
-use Rattle.steps_group.proofs.PutBlock.{put-large, put-full, put-on}
+use Rattle.steps_group.proofs.PuttingWays.{put-large, put-full, put-on}
 use Rattle.steps_group.proofs.cache.put.Statement.{statement}
 use Rattle.steps_group.proofs.cache.put.Tie as tie
 

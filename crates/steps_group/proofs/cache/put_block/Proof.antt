@@ -5,7 +5,7 @@ use native.Mathlib.Omega.{arith}
 use mathlib.Core.Path.{refl}
 use Rattle.stepped.proofs.Doing.{done-in}
 use Rattle.ranges.proofs.Passed.{failed, passed, block-passed}
-use Rattle.steps_group.proofs.PutBlock.{no-block, no-top, is-put}
+use Rattle.steps_group.proofs.PuttingWays.{no-block, no-top, is-put}
 use Rattle.steps_group.proofs.cache.put_block.Statement.{statement}
 use Rattle.steps_group.proofs.cache.put_block.Tie as tie
 

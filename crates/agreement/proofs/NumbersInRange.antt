@@ -120,19 +120,19 @@ module _ (regions : ℕ) (v : View) (area : List ℕ) (m : Mem) (t : ℕ) (k : �
       → one u u ≤ count u (underWay p) → Freeing v t p
   owing z i o e h = owes (λ f. omega (arith, owed-one z d (sym i ∙ f))) e (omega (arith, when-same u 1))
 
-  abbrev Lists : Type 0
-  Lists = ListsInRange regions v t
+  abbrev ListsAt : Type 0
+  ListsAt = ListsInRange regions v t
 
   -- what is shown at each place: of what was noted of a list, of what is in hand, and of what a free has under way
-  abbrev Ranged : Place → Type 0
-  Ranged p = Lists × Numbers × Freeing v t p
+  abbrev RangedAt : Place → Type 0
+  RangedAt p = ListsAt × Numbers × Freeing v t p
 
   -- no move of a list is under way
-  no-move : (POP-PARTIAL ≤ v (TaskPlace t) → v (TaskPlace t) < A3-READ → ⊥) → Lists
+  no-move : (POP-PARTIAL ≤ v (TaskPlace t) → v (TaskPlace t) < A3-READ → ⊥) → ListsAt
   no-move h = none regions v m t h
 
   numbers-at-work : {p : Work} → Turning (working p) → WorkRelated regions (contentsOf v area) m s p
-      → Ranged (working p)
+      → RangedAt (working p)
   numbers-at-work w (r-a1 e) = (no-move (omega arith), (omega arith, omega arith), allocates (omega arith))
   numbers-at-work w (r-popping Partial h) =
       let i = span h in
@@ -224,6 +224,6 @@ module _ (regions : ℕ) (v : View) (area : List ℕ) (m : Mem) (t : ℕ) (k : �
       (no-move (omega arith), (omega arith, omega arith), owing z i (omega arith) refl (omega arith))
 
   -- every place
-  pub numbers-at : {p : Place} → Turning p → PlaceRelated regions (contentsOf v area) m s p → Ranged p
+  pub numbers-at : {p : Place} → Turning p → PlaceRelated regions (contentsOf v area) m s p → RangedAt p
   numbers-at w (r-idle e) = (no-move (omega arith), (omega arith, omega arith), allocates (omega arith))
   numbers-at w (r-working W) = numbers-at-work w W
