@@ -5,137 +5,60 @@ use control::moves::Push;
 use control::places;
 use steps_pops::pops;
 use steps_pushes::pushes;
-ghost use Prim.Native.Nat.{ℕ, _+_, _≤_, _<_};
+ghost use Prim.Native.Nat.{ℕ, _≤_, _<_};
 ghost use Rattle.control.specs.Layout.{seen};
-ghost use Rattle.control.specs.Places.{POP-PARTIAL, PUSH-RETIRE, A3-READ, TO-EXCHANGE};
+ghost use Rattle.control.specs.Places.{POP-PARTIAL, A3-READ};
 ghost use Rattle.stepped.specs.Done.{Given, Done};
-ghost use Rattle.stepped.specs.Lists.{popPlace, pushPlace};
 ghost use Rattle.stepped.specs.Steps.{stepAt};
+ghost use Rattle.steps.specs.StartsAt.{StartsAt};
 
-// A pop: the head is read, then the item's next, then the head is exchanged. Caller: `pop`, by its place.
-fn pop_step(
-    control: &mut [u8],
-    regions: usize,
-    task: usize,
-    class: usize,
-    pop: Pop,
-    after: u8,
-) -> Answer
-    requires { ⌜ Given (now control) regions task class × (after ≤ TO-EXCHANGE) ⌝ }
+// The list move that starts at a place, if one does.
+enum Move {
+    Pop(Pop),
+    Push(Push),
+    Neither,
+}
+
+// The move whose first place, that of its head read, is this one. Caller: `step`.
+fn move_from(place: u8) -> Move
+    ensures { λ r. ⌜ StartsAt r place ⌝ }
+{
+    match place {
+        places::POP_PARTIAL => Move::Pop(Pop::Partial),
+        places::POP_SPARE => Move::Pop(Pop::Spare),
+        places::POP_REGION => Move::Pop(Pop::Region),
+        places::PUSH_RETIRE => Move::Push(Push::Retire),
+        places::PUSH_BACK => Move::Push(Push::Back),
+        places::PUSH_RELEASE => Move::Push(Push::Release),
+        places::PUSH_OFFER => Move::Push(Push::Offer),
+        _ => Move::Neither,
+    }
+}
+
+// The steps at the places of the moves: the head is read, then the item's next is read by a pop or written by a push,
+// then the head is exchanged. The matches are not nested, and each arm returns by itself: the back end then makes one
+// jump by place of all three, while answers that meet behind nested matches would go through the stack. Caller: the
+// step of a task at one of these places.
+pub fn step(control: &mut [u8], regions: usize, task: usize, class: usize, place: u8) -> Answer
+    requires { ⌜ Given (now control) regions task class × (POP-PARTIAL ≤ place) × (place < A3-READ) ⌝ }
     ensures { λ r. ⌜ ((link : ℕ → ℕ)
-        → Done (stepAt (seen (now (control .entry))) link regions task class (popPlace pop + after))
+        → Done (stepAt (seen (now (control .entry))) link regions task class place)
         (now (control .entry)) (now (control .exit)) r) ⌝ }
 {
-    if after == 0 {
-        return pops::read(control, regions, task, class, pop);
+    match move_from(place) {
+        Move::Pop(pop) => return pops::read(control, regions, task, class, pop),
+        Move::Push(push) => return pushes::read(control, regions, task, class, push),
+        Move::Neither => {}
     }
-    if after == places::TO_NEXT {
-        return pops::next(control, regions, task, pop);
+    match move_from(place - places::TO_NEXT) {
+        Move::Pop(pop) => return pops::next(control, regions, task, pop),
+        Move::Push(push) => return pushes::next(control, regions, task, push),
+        Move::Neither => {}
     }
-    pops::exchange(control, regions, task, class, pop)
-}
-
-// The steps at the places of the pops. Caller: the step of a task at one of them.
-pub fn pop(control: &mut [u8], regions: usize, task: usize, class: usize, place: u8) -> Answer
-    requires { ⌜ Given (now control) regions task class × (POP-PARTIAL ≤ place) × (place < PUSH-RETIRE) ⌝ }
-    ensures { λ r. ⌜ ((link : ℕ → ℕ) → Done (stepAt (seen (now (control .entry))) link regions task class place)
-        (now (control .entry)) (now (control .exit)) r) ⌝ }
-{
-    if place < places::POP_SPARE {
-        return pop_step(
-            control,
-            regions,
-            task,
-            class,
-            Pop::Partial,
-            place - places::POP_PARTIAL,
-        );
+    match move_from(place - places::TO_EXCHANGE) {
+        Move::Pop(pop) => return pops::exchange(control, regions, task, class, pop),
+        Move::Push(push) => return pushes::exchange(control, regions, task, class, push),
+        // It is not reached: each of these places is one of the three of a move.
+        Move::Neither => return Answer::Refused(14),
     }
-    if place < places::POP_REGION {
-        return pop_step(
-            control,
-            regions,
-            task,
-            class,
-            Pop::Spare,
-            place - places::POP_SPARE,
-        );
-    }
-    pop_step(
-        control,
-        regions,
-        task,
-        class,
-        Pop::Region,
-        place - places::POP_REGION,
-    )
-}
-
-// A push: the head is read, then the item's next is written, then the head is exchanged. Caller: `push`, by its place.
-fn push_step(
-    control: &mut [u8],
-    regions: usize,
-    task: usize,
-    class: usize,
-    push: Push,
-    after: u8,
-) -> Answer
-    requires { ⌜ Given (now control) regions task class × (after ≤ TO-EXCHANGE) ⌝ }
-    ensures { λ r. ⌜ ((link : ℕ → ℕ)
-        → Done (stepAt (seen (now (control .entry))) link regions task class (pushPlace push + after))
-        (now (control .entry)) (now (control .exit)) r) ⌝ }
-{
-    if after == 0 {
-        return pushes::read(control, regions, task, class, push);
-    }
-    if after == places::TO_NEXT {
-        return pushes::next(control, regions, task, push);
-    }
-    pushes::exchange(control, regions, task, class, push)
-}
-
-// The steps at the places of the pushes. Caller: the step of a task at one of them.
-pub fn push(control: &mut [u8], regions: usize, task: usize, class: usize, place: u8) -> Answer
-    requires { ⌜ Given (now control) regions task class × (PUSH-RETIRE ≤ place) × (place < A3-READ) ⌝ }
-    ensures { λ r. ⌜ ((link : ℕ → ℕ) → Done (stepAt (seen (now (control .entry))) link regions task class place)
-        (now (control .entry)) (now (control .exit)) r) ⌝ }
-{
-    if place < places::PUSH_BACK {
-        return push_step(
-            control,
-            regions,
-            task,
-            class,
-            Push::Retire,
-            place - places::PUSH_RETIRE,
-        );
-    }
-    if place < places::PUSH_RELEASE {
-        return push_step(
-            control,
-            regions,
-            task,
-            class,
-            Push::Back,
-            place - places::PUSH_BACK,
-        );
-    }
-    if place < places::PUSH_OFFER {
-        return push_step(
-            control,
-            regions,
-            task,
-            class,
-            Push::Release,
-            place - places::PUSH_RELEASE,
-        );
-    }
-    push_step(
-        control,
-        regions,
-        task,
-        class,
-        Push::Offer,
-        place - places::PUSH_OFFER,
-    )
 }

@@ -30,11 +30,8 @@ fn later(
     ensures { λ r. ⌜ DoneIn (stepAt (seen (now (control .entry))) (link (now (area .entry))) regions task class place)
         (now (control .entry)) (now (area .entry)) (now (control .exit)) (now (area .exit)) r ⌝ }
 {
-    if place < places::PUSH_RETIRE {
-        return moves::pop(control, regions, task, class, place);
-    }
     if place < places::A3_READ {
-        return moves::push(control, regions, task, class, place);
+        return moves::step(control, regions, task, class, place);
     }
     if place < places::F1 {
         return allocate::fill(control, area, regions, task, class, place);

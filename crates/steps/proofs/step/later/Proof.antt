@@ -5,10 +5,7 @@ use Rattle.steps.proofs.step.later.Statement.{statement}
 use Rattle.steps.proofs.step.later.Tie as tie
 
 returns : tie.Need-returns
-returns c = lends (c .before .before .pop .ensures _)
-
-returns-2 : tie.Need-returns-2
-returns-2 c = lends (c .before .before .push .ensures _)
+returns c = lends (c .before .before .step .ensures _)
 
 pub later-spec : {M : Type 1} → statement M
 later-spec =
@@ -17,9 +14,6 @@ later-spec =
     (λ c κs. search needs)
     (λ c. search needs)
     returns
-    (λ c κs. search needs)
-    (λ c. search needs)
-    returns-2
     (λ c κs. search needs)
     (λ c. search needs)
     (λ c. search needs)

@@ -1,0 +1,2 @@
+-- The list move that starts at a place.
+pub mod StartsAt
