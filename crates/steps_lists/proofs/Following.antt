@@ -14,30 +14,30 @@ use Rattle.control.specs.Layout.{CacheCount}
 use Rattle.stepped.specs.Lists.{f5, f6}
 use Rattle.steps_lists.specs.declared.follow.Follow.{Follow}
 use Rattle.steps_lists.specs.declared.follow.Follow.the-variants.{One, Two, Offer, Bad}
-use Rattle.steps_lists.specs.Following.{sixth, fifth, following}
+use Rattle.steps_lists.specs.Following.{f6Follow, f5Follow, following}
 
 -- ---- the ways of the code
 
 module _ (v : View) (t c : ℕ) where
-  pub sixth-bad : perRegion c < v (CacheCount t c) → Bad ≡ sixth v t c
-  unfolding sixth
-  sixth-bad h = rw (lt-leb _ _ h)
+  pub f6-bad : perRegion c < v (CacheCount t c) → Bad ≡ f6Follow v t c
+  unfolding f6Follow
+  f6-bad h = rw (lt-leb _ _ h)
 
-  pub sixth-one : v (CacheCount t c) ≤ perRegion c → v (CacheCount t c) ≡ 0 → One ≡ sixth v t c
-  unfolding sixth
-  sixth-one h k = rw (le-leb _ _ h, eq-eqb _ _ k)
+  pub f6-one : v (CacheCount t c) ≤ perRegion c → v (CacheCount t c) ≡ 0 → One ≡ f6Follow v t c
+  unfolding f6Follow
+  f6-one h k = rw (le-leb _ _ h, eq-eqb _ _ k)
 
-  pub sixth-two : v (CacheCount t c) ≤ perRegion c → v (CacheCount t c) ≢ 0 → Two ≡ sixth v t c
-  unfolding sixth
-  sixth-two h k = rw (le-leb _ _ h, ne-eqb _ _ k)
+  pub f6-two : v (CacheCount t c) ≤ perRegion c → v (CacheCount t c) ≢ 0 → Two ≡ f6Follow v t c
+  unfolding f6Follow
+  f6-two h k = rw (le-leb _ _ h, ne-eqb _ _ k)
 
-  pub fifth-offer : (was : ℕ) → was ≡ FULL → Offer ≡ fifth v t c was
-  unfolding fifth
-  fifth-offer was h = rw (eq-eqb _ _ h)
+  pub f5-offer : (was : ℕ) → was ≡ FULL → Offer ≡ f5Follow v t c was
+  unfolding f5Follow
+  f5-offer was h = rw (eq-eqb _ _ h)
 
-  pub fifth-six : (was : ℕ) → was ≢ FULL → sixth v t c ≡ fifth v t c was
-  unfolding fifth
-  fifth-six was h = rw (ne-eqb _ _ h)
+  pub f5-f6 : (was : ℕ) → was ≢ FULL → f6Follow v t c ≡ f5Follow v t c was
+  unfolding f5Follow
+  f5-f6 was h = rw (ne-eqb _ _ h)
 
 -- ---- the outcome, by the place
 
@@ -48,18 +48,18 @@ chosen true x y t e ws = refl
 chosen false x y t e ws = refl
 
 module _ (v : View) (regions t c : ℕ) (e : Decided) (ws : List Write) where
-  pub f6-follows : f6 v regions t c e ws ≡ following (sixth v t c) t e ws
-  unfolding f6 sixth
+  pub f6-follows : f6 v regions t c e ws ≡ following (f6Follow v t c) t e ws
+  unfolding f6 f6Follow
   f6-follows =
       rw (chosen (leb (v (CacheCount t c)) (perRegion c)), chosen (eqb (v (CacheCount t c)) 0))
 
-  pub f5-follows : (was : ℕ) → f5 v regions t c was e ws ≡ following (fifth v t c was) t e ws
-  unfolding f5 fifth
+  pub f5-follows : (was : ℕ) → f5 v regions t c was e ws ≡ following (f5Follow v t c was) t e ws
+  unfolding f5 f5Follow
   f5-follows was = rw (chosen (eqb was FULL), f6-follows)
 
   -- the same for a place that is known to be the one: after a match on it the outcome is that of its case
-  pub f6-at : (r : Follow) → r ≡ sixth v t c → f6 v regions t c e ws ≡ following r t e ws
+  pub f6-at : (r : Follow) → r ≡ f6Follow v t c → f6 v regions t c e ws ≡ following r t e ws
   f6-at r h = rw (f6-follows, ← h)
 
-  pub f5-at : (was : ℕ) (r : Follow) → r ≡ fifth v t c was → f5 v regions t c was e ws ≡ following r t e ws
+  pub f5-at : (was : ℕ) (r : Follow) → r ≡ f5Follow v t c was → f5 v regions t c was e ws ≡ following r t e ws
   f5-at was r h = rw (f5-follows was, ← h)

@@ -4,7 +4,7 @@ ghost use mathlib.Core.Path.{_≡_};
 ghost use Prim.Native.Nat.{_<_};
 ghost use Rattle.limits.specs.Limits.{TASKS, CLASSES};
 ghost use Rattle.control.specs.Layout.{Control, seen};
-ghost use Rattle.steps_lists.specs.Following.{sixth, fifth};
+ghost use Rattle.steps_lists.specs.Following.{f6Follow, f5Follow};
 
 pub enum Follow {
     // Step 1: the cache is empty and has room for the block.
@@ -18,9 +18,9 @@ pub enum Follow {
 }
 
 // Step 6: the cache tells whether another group is due.
-pub fn six(control: &[u8], task: usize, class: usize) -> Follow
+pub fn f6(control: &[u8], task: usize, class: usize) -> Follow
     requires { ⌜ Control (now control) × (task < TASKS) × (class < CLASSES) ⌝ }
-    ensures { λ r. ⌜ r ≡ sixth (seen (now (control .entry))) task class ⌝ }
+    ensures { λ r. ⌜ r ≡ f6Follow (seen (now (control .entry))) task class ⌝ }
 {
     let count = control::caches::cache_count(control, task, class) as usize;
     if classes::table::per_region(class) < count {
@@ -33,12 +33,12 @@ pub fn six(control: &[u8], task: usize, class: usize) -> Follow
 }
 
 // Step 5, for an anchor that was found in this state; else step 6.
-pub fn five(control: &[u8], task: usize, class: usize, state: u32) -> Follow
+pub fn f5(control: &[u8], task: usize, class: usize, state: u32) -> Follow
     requires { ⌜ Control (now control) × (task < TASKS) × (class < CLASSES) ⌝ }
-    ensures { λ r. ⌜ r ≡ fifth (seen (now (control .entry))) task class state ⌝ }
+    ensures { λ r. ⌜ r ≡ f5Follow (seen (now (control .entry))) task class state ⌝ }
 {
     if state == words::anchor::FULL {
         return Follow::Offer;
     }
-    six(control, task, class)
+    f6(control, task, class)
 }

@@ -24,7 +24,7 @@ pub fn pop_list(pop: Pop, class: usize) -> usize
 }
 
 // How many items there are; no more than with the most regions.
-pub fn pop_items(pop: Pop, regions: usize) -> usize
+pub fn pop_most(pop: Pop, regions: usize) -> usize
     requires { ⌜ regions ≤ REGIONS ⌝ }
     ensures { λ r. ⌜ (r ≡ howMany (popItems pop) regions) × (r ≤ howMany (popItems pop) REGIONS)
         × (r ≤ DESCRIPTORS) ⌝ }
@@ -95,7 +95,7 @@ pub fn push_list(push: Push, class: usize) -> usize
 }
 
 // How many items there are; no more than with the most regions.
-pub fn push_items(push: Push, regions: usize) -> usize
+pub fn push_most(push: Push, regions: usize) -> usize
     requires { ⌜ regions ≤ REGIONS ⌝ }
     ensures { λ r. ⌜ (r ≡ howMany (pushItems push) regions) × (r ≤ howMany (pushItems push) REGIONS)
         × (r ≤ DESCRIPTORS) ⌝ }

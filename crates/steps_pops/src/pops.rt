@@ -37,7 +37,7 @@ pub fn read(control: &mut [u8], regions: usize, task: usize, class: usize, pop: 
         tasks::set_task_place(control, task, reason::empty_place(pop));
         return reason::empty_answer(pop);
     }
-    if reason::pop_items(pop, regions) < item {
+    if reason::pop_most(pop, regions) < item {
         return Answer::Refused(14);
     }
     tasks::set_task_place(control, task, reason::pop_place(pop) + places::TO_NEXT);
@@ -53,7 +53,7 @@ fn next_of(control: &mut [u8], regions: usize, task: usize, pop: Pop, item: usiz
         (now (control .entry)) (now (control .exit)) r) ⌝ }
 {
     let next = items::next(control, pop, item);
-    if reason::pop_items(pop, regions) < next as usize {
+    if reason::pop_most(pop, regions) < next as usize {
         return Answer::Refused(14);
     }
     tasks::set_task_place(control, task, reason::pop_place(pop) + places::TO_EXCHANGE);
@@ -71,7 +71,7 @@ pub fn next(control: &mut [u8], regions: usize, task: usize, pop: Pop) -> Answer
     if item < 1 {
         return Answer::Refused(14);
     }
-    if reason::pop_items(pop, regions) < item {
+    if reason::pop_most(pop, regions) < item {
         return Answer::Refused(14);
     }
     next_of(control, regions, task, pop, item - 1)
@@ -93,7 +93,7 @@ pub fn exchange(control: &mut [u8], regions: usize, task: usize, class: usize, p
     ensures { λ r. ⌜ Done (popExchange (seen (now (control .entry))) regions task class pop)
         (now (control .entry)) (now (control .exit)) r ⌝ }
 {
-    let most = reason::pop_items(pop, regions);
+    let most = reason::pop_most(pop, regions);
     let noted = notes::task_head(control, task);
     let item = heads::item_of(noted);
     if item < 1 {

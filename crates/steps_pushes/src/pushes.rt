@@ -37,7 +37,7 @@ pub fn read(control: &mut [u8], regions: usize, task: usize, class: usize, push:
         (now (control .entry)) (now (control .exit)) r ⌝ }
 {
     let word = head(control, class, push);
-    if reason::push_items(push, regions) < heads::item_of(word) {
+    if reason::push_most(push, regions) < heads::item_of(word) {
         return Answer::Refused(14);
     }
     tasks::set_task_place(control, task, reason::push_place(push) + places::TO_NEXT);
@@ -51,7 +51,7 @@ pub fn next(control: &mut [u8], regions: usize, task: usize, push: Push) -> Answ
     ensures { λ r. ⌜ ((class : ℕ) → Done (pushNext (seen (now (control .entry))) regions task class push)
         (now (control .entry)) (now (control .exit)) r) ⌝ }
 {
-    let most = reason::push_items(push, regions);
+    let most = reason::push_most(push, regions);
     let item = items::held(control, task, push) as usize;
     if most <= item {
         return Answer::Refused(14);
@@ -119,11 +119,11 @@ fn won(control: &mut [u8], task: usize, class: usize, push: Push, list: usize, w
             if words::anchor::FULL < (state as u32) {
                 return Answer::Refused(14);
             }
-            let follow = follow::five(control, task, class, state as u32);
+            let follow = follow::f5(control, task, class, state as u32);
             go_on(control, task, follow, list, word)
         }
         Push::Offer => {
-            let follow = follow::six(control, task, class);
+            let follow = follow::f6(control, task, class);
             go_on(control, task, follow, list, word)
         }
     }
@@ -135,7 +135,7 @@ pub fn exchange(control: &mut [u8], regions: usize, task: usize, class: usize, p
     ensures { λ r. ⌜ Done (pushExchange (seen (now (control .entry))) regions task class push)
         (now (control .entry)) (now (control .exit)) r ⌝ }
 {
-    let most = reason::push_items(push, regions);
+    let most = reason::push_most(push, regions);
     let item = items::held(control, task, push) as usize;
     if most <= item {
         return Answer::Refused(14);

@@ -23,7 +23,7 @@ use Rattle.stepped.specs.Ranges.{isAnchor, hasFirst, hasRoom}
 use Rattle.stepped.specs.Lists.{f5}
 use Rattle.ranges.proofs.Passed.{failed, passed, room-passed}
 use Rattle.steps_lists.specs.declared.follow.Follow.the-variants.{One, Two, Offer, Bad}
-use Rattle.steps_lists.specs.Following.{fifth}
+use Rattle.steps_lists.specs.Following.{f5Follow}
 use Rattle.steps_lists.proofs.Following.{f5-at}
 use Rattle.stepped.specs.Free.{f3Read, f3ReadBy, f3ReadOf, f3Link, f3Exchange, f3ExchangeOf, f3Won}
 
@@ -190,19 +190,19 @@ module _ (v : View) (link : ℕ → ℕ) (regions t c : ℕ) where
   -- ---- f5, after the writes ws of a returned group of the descriptor d
 
   module _ (was d : ℕ) (ws : List Write) where
-    pub goes-one : One ≡ fifth v t c was
+    pub goes-one : One ≡ f5Follow v t c was
         → f5 v regions t c was (gave d) ws ≡ accept (gave d) (TaskPlace t := F1 ∷ ws) []
     goes-one h = f5-at v regions t c (gave d) ws was One h
 
-    pub goes-two : Two ≡ fifth v t c was
+    pub goes-two : Two ≡ f5Follow v t c was
         → f5 v regions t c was (gave d) ws ≡ accept (gave d) (TaskPlace t := F2 ∷ GroupCount t := 0 ∷ ws) []
     goes-two h = f5-at v regions t c (gave d) ws was Two h
 
-    pub goes-offer : Offer ≡ fifth v t c was
+    pub goes-offer : Offer ≡ f5Follow v t c was
         → f5 v regions t c was (gave d) ws ≡ accept (gave d) (TaskPlace t := PUSH-OFFER ∷ ws) []
     goes-offer h = f5-at v regions t c (gave d) ws was Offer h
 
-    pub goes-bad : Bad ≡ fifth v t c was → f5 v regions t c was (gave d) ws ≡ bad
+    pub goes-bad : Bad ≡ f5Follow v t c was → f5 v regions t c was (gave d) ws ≡ bad
     goes-bad h = f5-at v regions t c (gave d) ws was Bad h
 
 -- ---- the anchor that is stored

@@ -53,7 +53,7 @@ fn go_on(control: &mut [u8], regions: usize, task: usize, class: usize, stored: 
         (Anchor (stored .descriptor) := stored .anchor ∷ TaskState task := stored .state ∷ []))
         (now (control .entry)) (now (control .exit)) r ⌝ }
 {
-    let next = follow::five(control, task, class, stored.state as u32);
+    let next = follow::f5(control, task, class, stored.state as u32);
     match next {
         Follow::One => {
             control::tasks::set_task_place(control, task, places::F1);

@@ -37,18 +37,18 @@ returns-3 c =
 
 returns-4 : tie.Need-returns-4
 returns-4 c =
-    let at-five = c .before .before .before .before in
-    let at-match = at-five .before .before .before .before .before in
+    let at-f5 = c .before .before .before .before in
+    let at-match = at-f5 .before .before .before .before .before in
     λ regions e. rw (at-match .enum-told3 .given .1)
-    (released (seen (now (at-match .before .before .before .args .control))) regions _ _ e _ (at-five .five .result)
-    (c .before .before .go-on .ensures e) (omega arith) (at-five .before .before .before .task-state .ensures)
-    (at-five .five .ensures))
+    (released (seen (now (at-match .before .before .before .args .control))) regions _ _ e _ (at-f5 .f5 .result)
+    (c .before .before .go-on .ensures e) (omega arith) (at-f5 .before .before .before .task-state .ensures)
+    (at-f5 .f5 .ensures))
 
 returns-5 : tie.Need-returns-5
 returns-5 c =
-    let at-six = c .before .before .before .before in
-    λ regions e. rw (at-six .before .before .enum-told4 .given .1)
-    (offered _ regions _ _ e _ (at-six .six .result) (c .before .before .go-on2 .ensures e) (at-six .six .ensures))
+    let at-f6 = c .before .before .before .before in
+    λ regions e. rw (at-f6 .before .before .enum-told4 .given .1)
+    (offered _ regions _ _ e _ (at-f6 .f6 .result) (c .before .before .go-on2 .ensures e) (at-f6 .f6 .ensures))
 
 pub won-spec : {M : Type 1} → statement M
 won-spec =

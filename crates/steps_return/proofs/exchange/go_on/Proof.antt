@@ -12,7 +12,7 @@ returns c =
     let c6 = c2 .before .before .before .before in
     let c8 = c6 .before .before in
     let c10 = c8 .before .before in
-    done (goes-one _ (λ u. 0) _ _ _ _ _ _ (sym (c8 .enum-told .given .1) ∙ (c10 .five .ensures)))
+    done (goes-one _ (λ u. 0) _ _ _ _ _ _ (sym (c8 .enum-told .given .1) ∙ (c10 .f5 .ensures)))
     refl (rw (c6 .set-task-place .ensures) at (c2 .store .ensures)) refl
 
 returns-2 : tie.Need-returns-2
@@ -21,7 +21,7 @@ returns-2 c =
     let c6 = c2 .before .before .before .before in
     let c8 = c6 .before .before in
     let c10 = c8 .before .before in
-    done (goes-two _ (λ u. 0) _ _ _ _ _ _ (sym (c8 .enum-told2 .given .1) ∙ (c10 .five .ensures)))
+    done (goes-two _ (λ u. 0) _ _ _ _ _ _ (sym (c8 .enum-told2 .given .1) ∙ (c10 .f5 .ensures)))
     refl (rw (c6 .begin .ensures) at (c2 .store2 .ensures)) refl
 
 returns-3 : tie.Need-returns-3
@@ -30,12 +30,12 @@ returns-3 c =
     let c6 = c2 .before .before .before .before in
     let c8 = c6 .before .before in
     let c10 = c8 .before .before in
-    done (goes-offer _ (λ u. 0) _ _ _ _ _ _ (sym (c8 .enum-told3 .given .1) ∙ (c10 .five .ensures)))
+    done (goes-offer _ (λ u. 0) _ _ _ _ _ _ (sym (c8 .enum-told3 .given .1) ∙ (c10 .f5 .ensures)))
     refl (rw (c6 .set-task-place2 .ensures) at (c2 .store3 .ensures)) refl
 
 returns-4 : tie.Need-returns-4
 returns-4 c =
-    done (goes-bad _ (λ u. 0) _ _ _ _ _ _ (sym (c .enum-told4 .given .1) ∙ (c .before .before .five .ensures))) refl
+    done (goes-bad _ (λ u. 0) _ _ _ _ _ _ (sym (c .enum-told4 .given .1) ∙ (c .before .before .f5 .ensures))) refl
     refl refl
 
 pub go-on-spec : {M : Type 1} → statement M

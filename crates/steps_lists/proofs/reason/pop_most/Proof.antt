@@ -2,11 +2,11 @@
 use borrow.Author.Needs.{needs}
 use native.Mathlib.Omega.{arith}
 use mathlib.Core.Path.{refl}
-use Rattle.steps_lists.proofs.reason.pop_items.Statement.{statement}
-use Rattle.steps_lists.proofs.reason.pop_items.Tie as tie
+use Rattle.steps_lists.proofs.reason.pop_most.Statement.{statement}
+use Rattle.steps_lists.proofs.reason.pop_most.Tie as tie
 
-pub pop-items-spec : {M : Type 1} → statement M
-pop-items-spec =
+pub pop-most-spec : {M : Type 1} → statement M
+pop-most-spec =
     tie.close
     (tie.spec
     (λ c. search needs)

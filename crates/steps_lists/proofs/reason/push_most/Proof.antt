@@ -2,11 +2,11 @@
 use borrow.Author.Needs.{needs}
 use native.Mathlib.Omega.{arith}
 use mathlib.Core.Path.{refl}
-use Rattle.steps_lists.proofs.reason.push_items.Statement.{statement}
-use Rattle.steps_lists.proofs.reason.push_items.Tie as tie
+use Rattle.steps_lists.proofs.reason.push_most.Statement.{statement}
+use Rattle.steps_lists.proofs.reason.push_most.Tie as tie
 
-pub push-items-spec : {M : Type 1} → statement M
-push-items-spec =
+pub push-most-spec : {M : Type 1} → statement M
+push-most-spec =
     tie.close
     (tie.spec
     (λ c. search needs)
