@@ -40,7 +40,8 @@ use Rattle.agreement.specs.Ends.{FindsEmpty, WinsPush, InPush, placeAfte
 use Rattle.stepped.specs.Calls.{Tested, Lent, lengths}
 use Rattle.stepped.proofs.CallTests.{passed}
 use Rattle.agreement.proofs.Ways.{branch, tests}
-use Rattle.agreement.proofs.Ways.{accepted-no, more, among-tests, among-start-tests, start-tests, Cause, Ending, CallEnding, refused}
+use Rattle.agreement.proofs.Ways.{accepted-no, more, among-tests, among-start-tests, start-tests, Cause}
+use Rattle.agreement.proofs.Ways.{Ending, CallEnding, refused}
 use Rattle.agreement.proofs.Ways.{going, ended, at-call, sent}
 use Rattle.agreement.proofs.StepWays.{step-at}
 

@@ -23,7 +23,6 @@ use Rattle.control.specs.Layout.{Head, DescriptorNext, RegionNext, TaskPlace, T
 use Rattle.control.specs.Answers.{codeOf, valueOf}
 use Rattle.control.specs.declared.answer.Answer.{Answer}
 use Rattle.stepped.specs.Outcome.{Outcome, accept, over}
-use Rattle.control.specs.Places.{PLACES}
 use Rattle.stepped.specs.Lists.{Items, howMany, nextField}
 use Rattle.agreement.specs.Contents.{Slot, slotOf, contentsOf}
 use Rattle.agreement.specs.Relation.{wrap, HeadNoted, nexts, PlaceRelated, Related}
@@ -97,7 +96,7 @@ module _ {regions : ℕ} {v : View} {area : List ℕ} {m : Mem} {t : ℕ} {p : P
   kept p′ N = record { past = N .past; tags = N .tags; same = N .same }
 
   -- the place alone changes, as where a list is found empty or an exchange is lost
-  pub moves : (A : Answer) (e : Decided) (b : ℕ) (p′ : Place) → b < PLACES
+  pub moves : (A : Answer) (e : Decided) (b : ℕ) (p′ : Place) → b < 256
       → PlaceRelated regions (setSlot t (toPlace b (slotOf v t)) (contentsOf v area)) (atPlace t k p′ m)
       (toPlace b (slotOf v t)) p′
       → Both regions v area m (over A e (TaskPlace t := b ∷ []) [])
@@ -112,7 +111,7 @@ module _ {regions : ℕ} {v : View} {area : List ℕ} {m : Mem} {t : ℕ} {p : P
   }
 
   -- the head read: the head word is noted
-  pub notes : (ℓ b : ℕ) (p′ : Place) → ℓ < LISTS → b < PLACES
+  pub notes : (ℓ b : ℕ) (p′ : Place) → ℓ < LISTS → b < 256
       → PlaceRelated regions (setSlot t (toPlace b (toHead (headOf (v (Head ℓ))) (slotOf v t))) (contentsOf v area))
       (atPlace t k p′ m) (toPlace b (toHead (headOf (v (Head ℓ))) (slotOf v t))) p′
       → Both regions v area m (accept nothing (TaskPlace t := b ∷ TaskHead t := v (Head ℓ) ∷ []) [])

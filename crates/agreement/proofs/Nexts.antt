@@ -12,7 +12,6 @@ use Rattle.plain.specs.Steps.{atPlace}
 use Rattle.plain.proofs.PlaceAlone.{taskOf}
 use Rattle.control.specs.Layout.{DescriptorNext, RegionNext, TaskPlace}
 use Rattle.stepped.specs.Outcome.{accept}
-use Rattle.control.specs.Places.{PLACES}
 use Rattle.stepped.specs.Lists.{Items, descriptor-items, region-items, howMany, nextField}
 use Rattle.agreement.specs.Contents.{Slot, Contents, slotOf, contentsOf}
 use Rattle.agreement.specs.Relation.{nexts, PlaceRelated}
@@ -44,7 +43,7 @@ module _ {regions : ℕ} {v : View} {area : List ℕ} {m : Mem} {t : ℕ} {p : P
 
   -- the next of the item x is written, and the task goes to the place p′, whose number is b
   pub writes-next : (items : Items) (x n b : ℕ) (p′ : Place) → HoldsItem items x p → n ≤ howMany items regions
-      → b < PLACES
+      → b < 256
       → PlaceRelated regions (setSlot t (toPlace b (slotOf v t)) (setNext items x n (contentsOf v area)))
       (atPlace t k p′ m) (toPlace b (slotOf v t)) p′
       → Both regions v area m (accept nothing (TaskPlace t := b ∷ nextField items x := n ∷ []) [])

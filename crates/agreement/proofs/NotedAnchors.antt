@@ -74,7 +74,9 @@ SameAnchor a b = ((a .state ≡ b .state) × (a .avail ≡ b .avail)) × (a .cou
 -- such are the anchors of equal words alone
 pub same-anchor-word : (w x : ℕ) → SameAnchor (anchorOf w) (anchorOf x) → w ≡ x
 same-anchor-word w x s =
-    sym (word-of-anchor w) ∙ (λ i. anchorWord (record { state = s .0 .0 i; avail = s .0 .1 i; count = s .1 i })) ∙ word-of-anchor x
+    sym (word-of-anchor w)
+    ∙ (λ i. anchorWord (record { state = s .0 .0 i; avail = s .0 .1 i; count = s .1 i }))
+    ∙ word-of-anchor x
 
 pub anchor-word-same : (w x : ℕ) → w ≡ x → SameAnchor (anchorOf w) (anchorOf x)
 anchor-word-same w x e =

@@ -19,7 +19,7 @@ use Rattle.plain.specs.Steps.{top}
 use Rattle.plain.specs.Steps as Steps
 use Rattle.control.specs.Layout.{Head, TaskPlace, TaskHead, TaskNext, TaskClass, TaskDescriptor, TaskRegion}
 use Rattle.control.specs.Places.{IDLE, POP-SPARE, POP-REGION, PUSH-BACK, A3-READ, A7}
-use Rattle.control.specs.Places.{TO-NEXT, TO-EXCHANGE, PLACES}
+use Rattle.control.specs.Places.{TO-NEXT, TO-EXCHANGE}
 use Rattle.control.specs.declared.answer.Answer.the-variants.{Accepted, NoDescriptor}
 use Rattle.control.specs.declared.moves.Pop.{Pop}
 use Rattle.control.specs.declared.moves.Pop.the-variants.{Partial, Spare, Region}
@@ -140,7 +140,7 @@ module _ {regions : ℕ} {v : View} {area : List ℕ} {m : Mem} {t : ℕ} {k : �
   -- won with the descriptor x, which is then in hand
   descriptor-won : {items : Items} {ℓ : ℕ} {p : Place} {q : List ℕ} → At regions v area m t p k → ListOf items ℓ
       → Won v m t items ℓ (v (TaskNext t)) q
-      → (e : Decided) (x b : ℕ) (p′ : Place) → x < DESCRIPTORS → b < PLACES
+      → (e : Decided) (x b : ℕ) (p′ : Place) → x < DESCRIPTORS → b < 256
       → PlaceRelated regions (setSlot t (toPlace b (toDescriptor x (slotOf v t)))
       (setHead ℓ (headOf (advanced v t)) (contentsOf v area))) (Steps.atPlace t k p′ (setRow ℓ q m))
       (toPlace b (toDescriptor x (slotOf v t))) p′

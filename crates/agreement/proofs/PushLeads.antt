@@ -12,7 +12,7 @@ use Rattle.plain.specs.Moves.{Decided, going}
 use Rattle.plain.specs.Steps as Steps
 use Rattle.control.specs.Layout.{layout, Head, GroupCount, TaskPlace, TaskHead, TaskClass, TaskUnit, TaskDescriptor}
 use Rattle.control.specs.Layout.{TaskState}
-use Rattle.control.specs.Places.{PUSH-OFFER, F1, F2, PLACES}
+use Rattle.control.specs.Places.{PUSH-OFFER, F1, F2}
 use Rattle.control.specs.Answers.{codeOf, valueOf}
 use Rattle.control.specs.declared.answer.Answer.{Answer}
 use Rattle.control.specs.declared.moves.Push.the-variants.{Offer}
@@ -53,7 +53,7 @@ module _ {regions : ℕ} {v : View} {area : List ℕ} {m : Mem} {t : ℕ} {p : P
       wins w K W ws (toPlace b (slotOf v t)) p′ (head-written v (slotOf (assigned ws v)) area ℓ (advanced v t x))
       (rw (eq-eqb t t refl)) (λ j n. rw (ne-eqb t j n)) refl refl pl
 
-  pub leads-to : (A : Answer) (e : Decided) (b : ℕ) (p′ : Place) → b < PLACES
+  pub leads-to : (A : Answer) (e : Decided) (b : ℕ) (p′ : Place) → b < 256
       → PlaceRelated regions (setSlot t (toPlace b (slotOf v t))
       (setHead ℓ (headOf (advanced v t x)) (contentsOf v area))) (Steps.atPlace t k p′ (setRow ℓ q m))
       (toPlace b (slotOf v t)) p′

@@ -97,7 +97,8 @@ abbrev new : Start → ℕ → Pool
 new b regions = record { tasks = b .tasks; regions = regions; mem = Plain.startMem regions }
 
 -- an accepted start, in both pools: the control memory may have looked like a started pool, or have held anything
-new-alike : (b : Start) (lent : Lent) → StartTested b (lengths lent) → Good (new b (length (lent .area) / REGION-BYTES))
+new-alike : (b : Start) (lent : Lent) → StartTested b (lengths lent)
+    → Good (new b (length (lent .area) / REGION-BYTES))
     → Alike (λ z. Unit {0}) (ran (startEffect b lent)) (startedPool b (lengths lent))
 new-alike b lent T g =
     let regions = length (lent .area) / REGION-BYTES in

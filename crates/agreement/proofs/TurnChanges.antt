@@ -10,6 +10,7 @@ use Rattle.words.specs.declared.head.Head.{Head}
 use Rattle.rows.specs.Counting.{count}
 use Rattle.rows.specs.Linked.{Linked, links}
 use Rattle.rows.specs.Update.{update}
+use Rattle.rows.specs.Totals.{total}
 use Rattle.rows.proofs.Totals.{total-one}
 use Rattle.rows.proofs.Update.{update-all, update-all₂, update-other}
 use Rattle.rows.proofs.Weights.{below-max}
@@ -20,6 +21,7 @@ use Rattle.plain.specs.State.{setTask}
 use Rattle.plain.specs.Held.{holdsDescriptor, holdsRegion}
 use Rattle.plain.specs.ByState.{IfOpen}
 use Rattle.plain.specs.HolderWeights.{descriptorWeight, regionWeight, rowWeight}
+use Rattle.plain.proofs.PlaceAlone.{taskOf}
 use Rattle.agreement.specs.Contents.{Contents, Lists, Slot}
 use Rattle.agreement.specs.Relation.{ChainRelated, Core, ListsRelated, Related, SlotRelated, wrap}
 use Rattle.agreement.proofs.TurnInBoth.{Pair, descriptor-apart, region-apart}
@@ -67,26 +69,24 @@ module _ {regions : ℕ} {a : Contents} {m : Mem} {t : ℕ} {p : Place} {k : ℕ
       record { wins = wins m ℓ; still = still m ℓ q; descriptorNexts = λ x h. refl; regionNexts = λ x h. refl })
 
   -- ---- the next of an item in hand
+  -- it is on no list: of anything that at most one list or task has, n times on a list
+  off : (f : ℕ → Task → ℕ) (n : ℕ) → n + total TASKS f (m .task) ≤ 1 → 1 ≤ f t (taskOf p k)
+      → n ≡ 0
+  off f n once h = omega (arith, once, total-one TASKS f (m .task) t (w .turn .fits), ap (f t) (w .turn .is))
+
   off-lists : (x ℓ : ℕ) → ℓ < DESCRIPTOR-LISTS → 1 ≤ holdsDescriptor x p → count x (m .row ℓ) ≡ 0
-  off-lists x ℓ l h = omega (
-    arith,
-    w .turn .inv .descriptors x,
-    below-max x DESCRIPTORS,
-    total-one DESCRIPTOR-LISTS (rowWeight x) (m .row) ℓ l,
-    total-one TASKS (descriptorWeight x) (m .task) t (w .turn .fits),
-    ap (descriptorWeight x t) (w .turn .is),
-  )
+  off-lists x ℓ l =
+      off (descriptorWeight x) (count x (m .row ℓ)) (omega (
+        arith,
+        w .turn .inv .descriptors x,
+        below-max x DESCRIPTORS,
+        total-one DESCRIPTOR-LISTS (rowWeight x) (m .row) ℓ l,
+      ))
 
   off-regions : (x : ℕ) → 1 ≤ holdsRegion x p → count x (m .row SPARE-REGIONS) ≡ 0
-  off-regions x h =
-      omega (
-        arith,
-        w .turn .inv .regions x,
-        below-max x regions,
-        total-one TASKS (regionWeight x) (m .task) t
-            (w .turn .fits),
-        ap (regionWeight x t) (w .turn .is),
-      )
+  off-regions x =
+      off (regionWeight x) (count x (m .row SPARE-REGIONS))
+      (omega (arith, w .turn .inv .regions x, below-max x regions))
 
   pub descriptor-nexting : (x n : ℕ) (s : Slot) (T : Task) → 1 ≤ holdsDescriptor x p → n ≤ DESCRIPTORS
       → SlotRelated regions (setSlot t s (setDescriptorNext x n a)) (setTask t T m) s T

@@ -112,25 +112,19 @@ module _ {regions : ℕ} {a : Contents} {m : Mem} {t : ℕ} {p : Place} {k : ℕ
   pub mine : SlotRelated regions a m (a .slot t) (taskOf p k)
   mine = subst (SlotRelated regions a m (a .slot t)) (w .turn .is) (w .rel .slots t (w .turn .fits))
 
-  -- what this task holds, no other does
+  -- what this task holds, no other does: of anything that at most one holds
+  apart : (f : ℕ → Task → ℕ) → total TASKS f (m .task) ≤ 1 → (j : ℕ) → j < TASKS → j ≢ t
+      → 1 ≤ f t (taskOf p k) → f j (m .task j) ≡ 0
+  apart f once j l d h =
+      omega (arith, once, total-two TASKS f (m .task) j t d l (w .turn .fits), ap (f t) (w .turn .is))
+
   pub descriptor-apart : (x j : ℕ) → j < TASKS → j ≢ t → 1 ≤ holdsDescriptor x p
       → holdsDescriptor x (m .task j .place) ≡ 0
-  descriptor-apart x j l d h = omega (
-    arith,
-    w .turn .inv .descriptors x,
-    below-max x DESCRIPTORS,
-    total-two TASKS (descriptorWeight x) (m .task) j t d l (w .turn .fits),
-    ap (descriptorWeight x t) (w .turn .is),
-  )
+  descriptor-apart x =
+      apart (descriptorWeight x) (omega (arith, w .turn .inv .descriptors x, below-max x DESCRIPTORS))
 
   pub region-apart : (x j : ℕ) → j < TASKS → j ≢ t → 1 ≤ holdsRegion x p → holdsRegion x (m .task j .place) ≡ 0
-  region-apart x j l d h = omega (
-    arith,
-    w .turn .inv .regions x,
-    below-max x regions,
-    total-two TASKS (regionWeight x) (m .task) j t d l (w .turn .fits),
-    ap (regionWeight x t) (w .turn .is),
-  )
+  region-apart x = apart (regionWeight x) (omega (arith, w .turn .inv .regions x, below-max x regions))
 
   -- a block of this task: once there, and nowhere else
   pub own-block : (u : ℕ) → 1 ≤ blockWeight u t (taskOf p k)

@@ -26,7 +26,8 @@ use Rattle.stepped.specs.Calls as Calls
 use Rattle.stepped.specs.Calls.{Tested, HasTasks, HasRegions, Lent, lengths, startEffect}
 use Rattle.stepped.specs.Calls.{FirstFails, control-fails, tasks-fail, not-started, regions-fail, area-fails}
 use Rattle.stepped.specs.Calls.{task-fails}
-use Rattle.agreement.specs.Ends.{startRefusals, oneOf, testRefusals, placeRefusals, stepRefusals, Begins, FindsEmpty, WinsPush}
+use Rattle.agreement.specs.Ends.{startRefusals, oneOf, testRefusals, placeRefusals, stepRefusals, Begins}
+use Rattle.agreement.specs.Ends.{FindsEmpty, WinsPush}
 use Rattle.agreement.specs.Ends.{InPush}
 use Rattle.stepped.proofs.Conjunction.{both-true}
 use Rattle.stepped.proofs.CallTests.{one-to, start-failed, start-passed}
@@ -90,8 +91,8 @@ module _ (lent : Lengths) (v : View) (t : ℕ) where
       }))
       (λ l. r 5 (task-fails T R a (ltb-false t (v Tasks) l))))
       (λ j. r 2 (area-fails T R (eqb-false (lent .area) (REGION-BYTES * v Regions) j))))
-      (λ h. r 14 (regions-fail T
-      (λ R. false≢true (rw (← h) (both-true (le-leb 1 (v Regions) (R .0)) (le-leb (v Regions) REGIONS (R .1)))))))))
+      (λ h. r 14 (regions-fail T (λ R. false≢true
+      (rw (← h) (both-true (le-leb 1 (v Regions) (R .0)) (le-leb (v Regions) REGIONS (R .1)))))))))
       (λ f. r 14 (tasks-fail c (leb-false (v Tasks) TASKS f))))
       (λ e. r 1 (control-fails (eqb-false (lent .control) CONTROL-BYTES e)))
 
@@ -120,7 +121,8 @@ start-tests P b lent s r k =
     (λ T. subst P (sym (start-passed b lent s T)) (k T)) (start-tested b (lengths lent))
 
 -- a start is refused by one of its numbers
-pub among-start-tests : {b : Start} {lent : Lengths} {n : ℕ} → StartFails b lent n → oneOf startRefusals n ≡ true
+pub among-start-tests : {b : Start} {lent : Lengths} {n : ℕ} → StartFails b lent n
+    → oneOf startRefusals n ≡ true
 among-start-tests (start-control h) = refl
 among-start-tests (start-area c h) = refl
 among-start-tests (start-tasks c a h) = refl

@@ -8,7 +8,8 @@ use lib.Dec.{eqb, leb}
 use lib.ListN.{length}
 use Rattle.limits.specs.Limits.{CONTROL-BYTES, REGIONS, REGION-BYTES, AREA-BYTES, TASKS}
 use Rattle.fields.specs.Columns.{View}
-use Rattle.plain.specs.Calls.{Start, Lengths, StartArea, StartTested, StartFails, start-control, start-area, start-tasks}
+use Rattle.plain.specs.Calls.{Start, Lengths, StartArea, StartTested, StartFails, start-control, start-area}
+use Rattle.plain.specs.Calls.{start-tasks}
 use Rattle.control.specs.Layout.{Tasks, Regions}
 use Rattle.stepped.specs.Outcome.{Outcome, refuse, effect, Memories}
 use Rattle.stepped.specs.Ranges.{oneTo}

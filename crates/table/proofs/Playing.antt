@@ -103,7 +103,8 @@ module _ (input : List ℕ) where
       (h : at < length input) where
     pub goes-on : {e : Entry} → e ≡ entryAt input at n
         → {control area : List ℕ} {line : Line} → Does (shown onBytes e) (s .control) (s .area) control area line
-        → {out′ : List ℕ} {used′ : ℕ} → Appended out out′ used (textOf line) used′ × (length (textOf line) ≤ LINE-BYTES)
+        → {out′ : List ℕ} {used′ : ℕ}
+        → Appended out out′ used (textOf line) used′ × (length (textOf line) ≤ LINE-BYTES)
         → {next : ℕ} {z : Tally} → z ≡ counted y (line .code) → next ≡ endOf (e .body) at (length input)
         → TableAhead s₀ used′ next (n + 1) z (record { control = control; area = area }) out′
     goes-on {e} is {control} {area} {line} D {out′} {used′} w {next} {z} counts end = by (A .fuel) (A .enough) (A .said)

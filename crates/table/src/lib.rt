@@ -9,8 +9,8 @@ ghost use Rattle.schedule.specs.Bytes.{StandMemories};
 ghost use Rattle.text.specs.Texts.{Appended};
 ghost use Rattle.table.specs.Output.{TABLE-BYTES, output};
 
-// Room for the longest table. A line has at most LINE-BYTES, 35, bytes and its record at least one, so that the lines of 65,536
-// bytes of records fit into 65,536 * 35 bytes; the first and the last line fit into the rest.
+// Room for the longest table. A line has at most 35 bytes (LINE-BYTES) and its record at least one, so that the lines
+// of 65,536 bytes of records fit into 65,536 * 35 bytes; the first and the last line fit into the rest.
 pub const TABLE_BYTES: usize = 2293888;
 
 // Has the records treated one after the other, and puts the table's text at the start of `out`.

@@ -22,7 +22,8 @@ fn decimal(out: &mut [u8], at: usize, number: u64) -> usize
 // A number and the byte behind it. A number of 64 bits has at most 20 digits.
 fn field(out: &mut [u8], at: usize, number: u64, behind: u8) -> usize
     requires { ⌜ at + FIELD-BYTES ≤ length (now out) ⌝ }
-    ensures { λ r. ⌜ Appended (now (out .entry)) (now (out .exit)) at (fieldText number behind) r × (r ≤ at + FIELD-BYTES) ⌝ }
+    ensures { λ r. ⌜ Appended (now (out .entry)) (now (out .exit)) at (fieldText number behind) r
+        × (r ≤ at + FIELD-BYTES) ⌝ }
 {
     let end = decimal(out, at, number);
     out[end] = behind;
