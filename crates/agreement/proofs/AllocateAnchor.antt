@@ -46,6 +46,7 @@ use Rattle.agreement.specs.Contents.{slotOf, contentsOf}
 use Rattle.control.specs.declared.moves.Push.the-variants.{Retire}
 use Rattle.agreement.specs.Relation.{at-read, NoteRelated, r-pushing, r-a3-read, r-a3-exchange, r-a4, r-working}
 use Rattle.agreement.specs.Relation.{ChainRelated}
+use Rattle.agreement.proofs.BothPass.{both-true}
 use Rattle.agreement.proofs.Slots.{toPlace, toAnchor, toChain}
 use Rattle.agreement.proofs.Sets.{withSlots, setAnchor}
 use Rattle.agreement.proofs.AssignedContents.{anchor-written}
@@ -54,7 +55,6 @@ use Rattle.agreement.proofs.TurnInBoth.{mine}
 use Rattle.agreement.proofs.TurnChanges.{anchoring}
 use Rattle.agreement.proofs.NotedAnchors.{note-of, same-unmoved, unmoved-same, same-anchor-word}
 use Rattle.agreement.proofs.NotedAnchors.{anchor-word-same, number-open, re-note, anchor-tested}
-use Rattle.stepped.proofs.Conjunction.{both-true}
 use Rattle.agreement.proofs.Both.{Both, pass, meet, miss, decide, has-top}
 use Rattle.agreement.proofs.Turns.{At, goes}
 use Rattle.agreement.proofs.Sharing.{shares}

@@ -39,13 +39,14 @@ use Rattle.agreement.specs.Contents.{TaskCaches, Slot, Contents, slotOf,
 use Rattle.agreement.specs.Relation
 use Rattle.agreement.specs.Relation.{CachesRelated, PlaceRelated, r-idle, r-a1, r-f1, SlotRelated, Related}
 use Rattle.agreement.specs.Relation.{r-working}
+use Rattle.agreement.proofs.BothPass.{both-true}
 use Rattle.agreement.proofs.Slots.{toRequest}
 use Rattle.agreement.proofs.Sets.{setSlot, setMark}
 use Rattle.agreement.proofs.AssignedContents.{becomes, mark-written}
 use Rattle.agreement.proofs.TurnInBoth.{quiet, mine}
 use Rattle.agreement.proofs.TurnChanges.{marking}
 use Rattle.agreement.proofs.NotedAnchors.{anchor-tested}
-use Rattle.stepped.proofs.Conjunction.{both-true, left-true, right-true}
+use Rattle.stepped.proofs.Conjunction.{left-true, right-true}
 use Rattle.agreement.proofs.Both.{Both, pass, meet, choose, decide}
 use Rattle.agreement.proofs.Turns.{At}
 use Rattle.agreement.proofs.WorkPlaces.{work-place}

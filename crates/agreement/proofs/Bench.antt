@@ -12,7 +12,7 @@ use Rattle.limits.specs.Limits.{CONTROL-BYTES, REGION-BYTES, CLASSES, DESCRIPTO
 use Rattle.limits.specs.Limits.{SPARE-DESCRIPTORS}
 use Rattle.limits.specs.Limits.{SPARE-REGIONS}
 use Rattle.rows.specs.Branch.{if}
-use Rattle.rows.proofs.Branch.{if-yes, if-no}
+use Rattle.rows.proofs.Branch.{if-no}
 use Rattle.rows.proofs.Update.{update-same}
 use Rattle.fields.specs.Columns.{View, _:=_, assigned}
 use Rattle.words.specs.Head.{word, tagOf, nextTag, advancedWord}
@@ -31,7 +31,7 @@ use Rattle.plain.specs.Steps.{Result, stepOf}
 use Rattle.plain.specs.Calls.{Pool, Start, allocate, step, startMem, rising, unstarted}
 use Rattle.plain.specs.Calls as Plain
 use Rattle.plain.proofs.PlaceAlone.{taskOf}
-use Rattle.plain.proofs.CallTests.{passed}
+use Rattle.plain.proofs.CallTests.{passed, start-passed}
 use Rattle.control.specs.Layout.{TaskPlace, TaskClass}
 use Rattle.control.specs.Places.{A1}
 use Rattle.control.specs.Answers.{codeOf}
@@ -177,8 +177,7 @@ module _ (area : List ℕ) (b : Start) (t : ℕ) (a : Plain.StartArea (length ar
   starts : whole (starting b area) unstarted ≡ (pool (startMem regions), going nothing)
   unfolding Plain.plainCall
   starts =
-      if-yes (ℕ-discrete CONTROL-BYTES CONTROL-BYTES) _ _ refl ∙ if-yes (Plain.startArea? (length area)) _ _ a
-      ∙ if-yes (Plain.startTasks? (b .tasks)) _ _ T
+      start-passed unstarted (record { control-is = refl; area = a; tasks = T })
 
   -- the pool with the allocation begun: no cache has a block
   abbrev begun : ℕ → Mem

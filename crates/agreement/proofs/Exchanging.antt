@@ -36,11 +36,11 @@ use Rattle.agreement.specs.Contents.{Slot, slotOf, contentsOf}
 use Rattle.control.specs.declared.moves.Push.the-variants.{Offer}
 use Rattle.agreement.specs.Relation.{at-read, NoteRelated, GroupRelated, r-pushing, r-f1, r-f2, r-f3-read}
 use Rattle.agreement.specs.Relation.{r-f4-clear, PlaceRelated, r-working, ChainRelated, Related}
+use Rattle.agreement.proofs.BothPass.{both-true}
 use Rattle.agreement.proofs.Slots.{toGrouped, toPlace, toState}
 use Rattle.agreement.proofs.Sets.{setAnchor, setSlot}
 use Rattle.agreement.proofs.AssignedContents.{anchor-written}
 use Rattle.agreement.proofs.TaskBlocks.{re-slot}
-use Rattle.stepped.proofs.Conjunction.{both-true}
 use Rattle.agreement.proofs.Both.{Both, decide, meet, miss, pass}
 use Rattle.agreement.proofs.Turns.{At, goes}
 use Rattle.agreement.proofs.FollowingBoth.{five}

@@ -35,10 +35,10 @@ use Rattle.stepped.specs.Ranges.{oneTo, isTop}
 use Rattle.stepped.specs.Allocate as Allocate
 use Rattle.agreement.specs.Contents.{slotOf}
 use Rattle.agreement.specs.Relation.{r-a1, r-a4, r-a8, r-working}
+use Rattle.agreement.proofs.BothPass.{both-true}
 use Rattle.agreement.proofs.Slots.{toPlace, toChain}
 use Rattle.agreement.proofs.ListTops.{first-of, rest-of}
 use Rattle.agreement.proofs.TaskBlocks.{home-below, mine-under, row-agrees}
-use Rattle.stepped.proofs.Conjunction.{both-true}
 use Rattle.agreement.proofs.Both.{Both, pass, meet, miss}
 use Rattle.agreement.proofs.Turns.{At, cache-count}
 use Rattle.agreement.proofs.Caching.{top-tested, push-both}

@@ -27,10 +27,10 @@ use Rattle.control.specs.Places.{F2, F3-READ}
 use Rattle.stepped.specs.Free as Free
 use Rattle.agreement.specs.Contents.{slotOf, contentsOf}
 use Rattle.agreement.specs.Relation.{GroupRelated, r-f2-more, r-f3-read, r-working}
+use Rattle.agreement.proofs.BothPass.{both-true}
 use Rattle.agreement.proofs.Slots.{toPlace, toGroup, toCache}
 use Rattle.agreement.proofs.TurnInBoth.{mine}
 use Rattle.agreement.proofs.TaskBlocks.{cache-agrees, mine-apart, mine-under, re-cache, row-agrees, wrote}
-use Rattle.stepped.proofs.Conjunction.{both-true}
 use Rattle.agreement.proofs.Both.{Both, pass, meet, miss, decide, by-row, has-top}
 use Rattle.agreement.proofs.Turns.{At, goes, cache-count}
 use Rattle.agreement.proofs.CacheTop.{topped}

@@ -22,10 +22,10 @@ use Rattle.control.specs.Places.{IDLE, F2}
 use Rattle.stepped.specs.Free as Free
 use Rattle.agreement.specs.Contents.{slotOf}
 use Rattle.agreement.specs.Relation.{r-f2, r-idle, r-working}
+use Rattle.agreement.proofs.BothPass.{both-true}
 use Rattle.agreement.proofs.Slots.{toGrouped, toPlace}
 use Rattle.agreement.proofs.TurnInBoth.{mine}
 use Rattle.agreement.proofs.TaskBlocks.{mine-apart, mine-under, under-unit}
-use Rattle.stepped.proofs.Conjunction.{both-true}
 use Rattle.agreement.proofs.Both.{Both, decide, pass}
 use Rattle.agreement.proofs.Turns.{At, cache-count, goes}
 use Rattle.agreement.proofs.Caching.{cache-push, top-tested, under-max}

@@ -1,4 +1,6 @@
 -- The agreement of the stepped pool with the plain pool.
+pub mod PlaceSteps
+pub mod BothPass
 pub mod Parts
 pub mod Slots
 pub mod Sets

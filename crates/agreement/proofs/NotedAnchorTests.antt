@@ -14,7 +14,7 @@ use Rattle.classes.proofs.Tables.{perRegion-high}
 use Rattle.plain.specs.State.{Mem, Note}
 use Rattle.stepped.specs.Ranges.{isAnchor, hasFirst, hasRoom}
 use Rattle.agreement.specs.Relation.{FirstIn, NoteRelated, firstIndex}
-use Rattle.stepped.proofs.Conjunction.{both-true}
+use Rattle.agreement.proofs.BothPass.{both-true}
 use Rattle.agreement.proofs.NotedAnchors.{first-max, number-max}
 
 either-true : (p : Bool) {q : Bool} → q ≡ true → (p || q) ≡ true

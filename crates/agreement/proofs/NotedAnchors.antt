@@ -26,9 +26,9 @@ use Rattle.plain.specs.ByState.{IsOpen, ifOpen}
 use Rattle.plain.proofs.Blocks.{counts-block}
 use Rattle.control.specs.Layout as Layout
 use Rattle.stepped.specs.Ranges.{isAnchor}
-use Rattle.stepped.proofs.Conjunction.{both-true}
 use Rattle.agreement.specs.Contents.{contentsOf}
 use Rattle.agreement.specs.Relation.{ChainRelated, DescriptorRelated, FirstIn, NoteRelated, Related, firstIndex}
+use Rattle.agreement.proofs.BothPass.{both-true}
 
 -- a linked chain's first block
 first-index : (c : ℕ) {nx : ℕ → ℕ} {f : ℕ} {q : List ℕ} → Linked nx (indexOf c) (perRegion c) f q

@@ -29,17 +29,17 @@ use Rattle.stepped.specs.Ranges.{oneTo}
 use Rattle.stepped.specs.Lists as Lists
 use Rattle.stepped.specs.Lists.{Items, howMany, nextField, popItems}
 use Rattle.stepped.specs.Steps as Stepped
-use Rattle.stepped.proofs.PlaceSteps.{pop-steps}
+use Rattle.stepped.proofs.MovePlaces.{pop-steps}
 use Rattle.agreement.specs.Events.{Recent}
 use Rattle.agreement.specs.Contents.{slotOf, contentsOf}
 use Rattle.agreement.specs.Relation.{tail, at-read, at-next, at-exchange, PopRelated, plainPop, r-popping}
 use Rattle.agreement.specs.Relation.{r-pushing, r-a3-read, r-a7, PlaceRelated, r-idle, r-working}
+use Rattle.agreement.proofs.BothPass.{both-true}
 use Rattle.agreement.proofs.Slots.{toPlace, toNext, toDescriptor, toRegion}
 use Rattle.agreement.proofs.Sets.{setSlot, setHead}
 use Rattle.agreement.proofs.AssignedContents.{head-written}
 use Rattle.agreement.proofs.ListTops.{top-of, tail-of, next-of}
 use Rattle.agreement.proofs.TurnInBoth.{mine}
-use Rattle.stepped.proofs.Conjunction.{both-true}
 use Rattle.agreement.proofs.Both.{Both, pass, by-row, has-top}
 use Rattle.agreement.proofs.Turns.{At, goes}
 use Rattle.agreement.proofs.ListMoves.{pop-first, ListOf, popped-list}

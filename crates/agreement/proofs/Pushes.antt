@@ -29,14 +29,14 @@ use Rattle.control.specs.declared.moves.Push.the-variants.{Retire, Back, Releas
 use Rattle.stepped.specs.Lists as Lists
 use Rattle.stepped.specs.Lists.{Items, descriptor-items, region-items, howMany, nextField, handField, pushItems}
 use Rattle.stepped.specs.Steps as Stepped
-use Rattle.stepped.proofs.PlaceSteps.{push-steps}
+use Rattle.stepped.proofs.MovePlaces.{push-steps}
 use Rattle.agreement.specs.Events.{Recent}
 use Rattle.agreement.specs.Contents.{slotOf, contentsOf}
 use Rattle.agreement.specs.Relation.{at-read, at-next, at-exchange, nexts, inHand, PushRelated, plainPush}
 use Rattle.agreement.specs.Relation.{ReleaseNoted, r-popping, r-pushing, r-idle, r-working}
+use Rattle.agreement.proofs.BothPass.{both-true}
 use Rattle.agreement.proofs.Slots.{toPlace}
 use Rattle.agreement.proofs.TurnInBoth.{mine}
-use Rattle.stepped.proofs.Conjunction.{both-true}
 use Rattle.agreement.proofs.NotedAnchors.{number-max}
 use Rattle.agreement.proofs.Both.{Both, pass}
 use Rattle.agreement.proofs.Turns.{At}

@@ -28,9 +28,9 @@ use Rattle.control.specs.Places.{F3-LINK, F3-EXCHANGE}
 use Rattle.stepped.specs.Free as Free
 use Rattle.agreement.specs.Contents.{slotOf, contentsOf}
 use Rattle.agreement.specs.Relation.{GroupRelated, NoteRelated, r-f3-exchange, r-f3-link, r-working}
+use Rattle.agreement.proofs.BothPass.{both-true}
 use Rattle.agreement.proofs.Slots.{toPlace, toAnchor, toDescriptor}
 use Rattle.agreement.proofs.TaskBlocks.{cache-agrees, mine-apart, mine-under, re-link, row-agrees, wrote}
-use Rattle.stepped.proofs.Conjunction.{both-true}
 use Rattle.agreement.proofs.Both.{Both, pass}
 use Rattle.agreement.proofs.Turns.{At, goes}
 use Rattle.agreement.proofs.TurnWrites.{link-written}

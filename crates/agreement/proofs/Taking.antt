@@ -32,6 +32,7 @@ use Rattle.stepped.specs.Allocate as Allocate
 use Rattle.agreement.specs.Contents.{Contents, slotOf, contentsOf}
 use Rattle.control.specs.declared.moves.Pop.the-variants.{Partial}
 use Rattle.agreement.specs.Relation.{at-read, r-popping, r-idle, r-working, Related}
+use Rattle.agreement.proofs.BothPass.{both-true}
 use Rattle.agreement.proofs.Slots.{toPlace, toCache}
 use Rattle.agreement.proofs.Sets.{setMark}
 use Rattle.agreement.proofs.AssignedContents.{mark-written}
@@ -39,7 +40,6 @@ use Rattle.agreement.proofs.ListTops.{first-of, rest-of}
 use Rattle.agreement.proofs.TurnInBoth.{mine}
 use Rattle.agreement.proofs.TurnChanges.{marking}
 use Rattle.agreement.proofs.TaskBlocks.{cached-home, cached-unit, home-below, top-max, re-cache, below-tested}
-use Rattle.stepped.proofs.Conjunction.{both-true}
 use Rattle.agreement.proofs.Both.{Both, pass, by-row}
 use Rattle.agreement.proofs.Turns.{At, goes, cache-top, cache-count}
 use Rattle.agreement.proofs.Caching.{cache-becomes}

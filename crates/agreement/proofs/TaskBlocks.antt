@@ -28,7 +28,7 @@ use Rattle.stepped.specs.Ranges
 use Rattle.stepped.specs.Ranges.{isTop}
 use Rattle.agreement.specs.Contents.{TaskCaches, Contents, Slot}
 use Rattle.agreement.specs.Relation.{CachesRelated, PlaceRelated, SlotRelated}
-use Rattle.stepped.proofs.Conjunction.{both-true}
+use Rattle.agreement.proofs.BothPass.{both-true}
 use Rattle.agreement.proofs.Slots.{toCache}
 use Rattle.agreement.proofs.TurnInBoth
 use Rattle.agreement.proofs.TurnInBoth.{Pair, agrees, mine, own-block, region-below}

@@ -69,7 +69,8 @@ module _ {regions : ℕ} {a : Contents} {m : Mem} {t : ℕ} {p : Place} {k : ℕ
       record { wins = wins m ℓ; still = still m ℓ q; descriptorNexts = λ x h. refl; regionNexts = λ x h. refl })
 
   -- ---- the next of an item in hand
-  -- it is on no list: of anything that at most one list or task has, n times on a list
+
+  -- what the task holds is on no list: n counts it on a list, and lists and tasks together have it at most once
   off : (f : ℕ → Task → ℕ) (n : ℕ) → n + total TASKS f (m .task) ≤ 1 → 1 ≤ f t (taskOf p k)
       → n ≡ 0
   off f n once h = omega (arith, once, total-one TASKS f (m .task) t (w .turn .fits), ap (f t) (w .turn .is))

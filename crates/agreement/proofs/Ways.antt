@@ -29,8 +29,8 @@ use Rattle.stepped.specs.Calls.{task-fails}
 use Rattle.agreement.specs.Ends.{startRefusals, oneOf, testRefusals, placeRefusals, stepRefusals, Begins}
 use Rattle.agreement.specs.Ends.{FindsEmpty, WinsPush}
 use Rattle.agreement.specs.Ends.{InPush}
-use Rattle.stepped.proofs.Conjunction.{both-true}
 use Rattle.stepped.proofs.CallTests.{one-to, start-failed, start-passed}
+use Rattle.agreement.proofs.BothPass.{both-true}
 
 -- a test: what holds of both ways on holds of what follows
 pub branch : {A : Type 0} (P : A → Type 0) {x y : A} (b : Bool) → (b ≡ true → P x) → (b ≡ false → P y)

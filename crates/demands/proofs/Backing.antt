@@ -22,7 +22,7 @@ use Rattle.stepped.specs.Steps as Steps
 use Rattle.stepped.specs.Calls as Calls
 use Rattle.agreement.specs.Ends.{InPush, placeAfter}
 use Rattle.agreement.proofs.Ways.{branch, tests, Keeps, sent}
-use Rattle.stepped.proofs.PlaceSteps.{push-steps}
+use Rattle.stepped.proofs.MovePlaces.{push-steps}
 
 module _ (v : View) (t : ℕ) where
   -- the request ended with 13, or the task is in the push

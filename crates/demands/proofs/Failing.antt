@@ -21,7 +21,7 @@ use Rattle.stepped.specs.Outcome.{Outcome, Memories, Effect}
 use Rattle.stepped.specs.Ranges.{oneTo, isAnchor}
 use Rattle.stepped.specs.Steps as Steps
 use Rattle.stepped.specs.Calls as Calls
-use Rattle.demands.specs.Tests.{Test, _or_, firstFailed, Passes, startTests, callTests, idleTests, sizeTests}
+use Rattle.demands.specs.Tests.{Test, firstFailed, Passes, startTests, callTests, idleTests, sizeTests}
 use Rattle.demands.specs.Tests.{unitTests, requestTests, allocateTests, freeTests, stepTests}
 
 -- a test, and one that is asked the other way round, by the numbers of the two ways on

@@ -8,7 +8,7 @@ use native.Mathlib.Omega.{arith}
 use native.Mathlib.Decide.{ℕ-discrete, decLt}
 use Rattle.limits.specs.Limits.{CONTROL-BYTES, REGION-BYTES, LARGEST-SIZE, SPARE-DESCRIPTORS}
 use Rattle.rows.specs.Branch.{both}
-use Rattle.rows.proofs.Branch.{if-yes, if-no}
+use Rattle.rows.proofs.Branch.{if-yes}
 use Rattle.rows.proofs.Update.{update-same}
 use Rattle.classes.specs.Geometry.{regionOf}
 use Rattle.plain.specs.State.{read, spare, region, back, Place, idle, pushing, Task, Mem, working}
@@ -20,7 +20,7 @@ use Rattle.plain.specs.Calls.{whenIdle, refuse, became, tested, plainCal
 use Rattle.plain.specs.Codes.{StepCode, under-way, no-request, no-descriptor, no-region, finishes, ReadsNoSpare}
 use Rattle.plain.specs.Codes.{PushesBack, ReadsNoRegion, CallIs, starts, begins, steps, EndsBy12, EndsBy13}
 use Rattle.plain.specs.Codes.{AtMost}
-use Rattle.plain.proofs.CallTests.{either, by-tests, start-numbers, by-start-tests}
+use Rattle.plain.proofs.CallTests.{either, by-tests, passed, start-numbers, by-start-tests}
 use Rattle.plain.proofs.Steps.{step-facts}
 
 -- ---- 12 and 13 always come at these reads and exchanges
@@ -112,10 +112,7 @@ pub step-is-step : (t : ℕ) (lent : Lengths) (s : Pool) → t < s .tasks → le
     → lent .area ≡ REGION-BYTES * s .regions → plainCall (step t) lent s ≡ became s (stepOf t (s .mem))
 unfolding plainCall
 step-is-step t lent s l c e =
-    if-yes (ℕ-discrete (lent .control) CONTROL-BYTES) _ _ c
-    ∙ if-no (ℕ-discrete (s .tasks) 0) _ _ (omega arith)
-    ∙ if-yes (ℕ-discrete (lent .area) (REGION-BYTES * s .regions)) _ _ e
-    ∙ if-yes (decLt t (s .tasks)) _ _ l
+    passed (stepOf t (s .mem)) (record { control-is = c; started = omega arith; area-is = e; below = l })
 
 -- ---- what follows
 

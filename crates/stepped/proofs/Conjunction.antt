@@ -1,9 +1,6 @@
--- Tests that are asked together: both pass exactly where each does.
+-- Tests that are asked together: where both pass, each does.
 use mathlib.Core.Path.{_≡_, refl}
 use mathlib.Core.Bool.{Bool, true, false, _&&_}
-
-pub both-true : {a b : Bool} → a ≡ true → b ≡ true → (a && b) ≡ true
-both-true {a} {b} p q = rw (p, q)
 
 pub left-true : (a b : Bool) → (a && b) ≡ true → a ≡ true
 left-true true b h = refl

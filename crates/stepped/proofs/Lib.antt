@@ -2,4 +2,4 @@
 pub mod Conjunction
 pub mod CallTests
 pub mod Doing
-pub mod PlaceSteps
+pub mod MovePlaces

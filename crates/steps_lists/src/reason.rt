@@ -23,7 +23,7 @@ pub fn pop_list(pop: Pop, class: usize) -> usize
     }
 }
 
-// How many items there are; no more than with the most regions.
+// The most that an item's number plus one may be: how many items there are, no more than with the most regions.
 pub fn pop_most(pop: Pop, regions: usize) -> usize
     requires { ⌜ regions ≤ REGIONS ⌝ }
     ensures { λ r. ⌜ (r ≡ howMany (popItems pop) regions) × (r ≤ howMany (popItems pop) REGIONS)
@@ -94,7 +94,7 @@ pub fn push_list(push: Push, class: usize) -> usize
     }
 }
 
-// How many items there are; no more than with the most regions.
+// The most that an item's number plus one may be: how many items there are, no more than with the most regions.
 pub fn push_most(push: Push, regions: usize) -> usize
     requires { ⌜ regions ≤ REGIONS ⌝ }
     ensures { λ r. ⌜ (r ≡ howMany (pushItems push) regions) × (r ≤ howMany (pushItems push) REGIONS)

@@ -7,6 +7,10 @@ use Rattle.text.specs.Texts.{decimal}
 abbrev pub FIELD-BYTES : ℕ
 FIELD-BYTES = 21
 
+-- what a line is written into has so many bytes at least: more than four numbers with what is behind them
+abbrev pub LINE-ROOM : ℕ
+LINE-ROOM = 96
+
 -- the most bytes of a record's line: its four numbers have 5, 3, 3 and 20 digits at most, each with a character behind
 abbrev pub LINE-BYTES : ℕ
 LINE-BYTES = 35

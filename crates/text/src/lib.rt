@@ -3,7 +3,7 @@
 ghost use Prim.Native.Nat.{_+_, _≤_};
 ghost use lib.ListN.{length};
 ghost use Rattle.text.specs.Texts.{decimal as decimalText, Appended};
-ghost use Rattle.text.specs.Lines.{FIELD-BYTES, fieldText, columnsText, lineText, totalText};
+ghost use Rattle.text.specs.Lines.{FIELD-BYTES, LINE-ROOM, fieldText, columnsText, lineText, totalText};
 
 // Callers: `field`, and itself with all digits but the last.
 fn decimal(out: &mut [u8], at: usize, number: u64) -> usize
@@ -45,7 +45,7 @@ fn word(out: &mut [u8], at: usize, text: &[u8]) -> usize
 
 // The line of column names.
 pub fn columns(out: &mut [u8]) -> usize
-    requires { ⌜ 96 ≤ length (now out) ⌝ }
+    requires { ⌜ LINE-ROOM ≤ length (now out) ⌝ }
     ensures { λ r. ⌜ Appended (now (out .entry)) (now (out .exit)) 0 columnsText r ⌝ }
 {
     word(out, 0, b"record kind code value\n")
@@ -53,7 +53,7 @@ pub fn columns(out: &mut [u8]) -> usize
 
 // The line of a record.
 pub fn line(out: &mut [u8], number: u64, kind: u64, code: u64, value: u64) -> usize
-    requires { ⌜ 96 ≤ length (now out) ⌝ }
+    requires { ⌜ LINE-ROOM ≤ length (now out) ⌝ }
     ensures { λ r. ⌜ Appended (now (out .entry)) (now (out .exit)) 0 (lineText number kind code value) r ⌝ }
 {
     let first = field(out, 0, number, b' ');
@@ -64,7 +64,7 @@ pub fn line(out: &mut [u8], number: u64, kind: u64, code: u64, value: u64) -> us
 
 // The last line.
 pub fn total(out: &mut [u8], finished: u64, accepted: u64, others: u64) -> usize
-    requires { ⌜ 96 ≤ length (now out) ⌝ }
+    requires { ⌜ LINE-ROOM ≤ length (now out) ⌝ }
     ensures { λ r. ⌜ Appended (now (out .entry)) (now (out .exit)) 0 (totalText finished accepted others) r ⌝ }
 {
     let start = word(out, 0, b"total ");

@@ -6,7 +6,7 @@ use mathlib.Core.Logic.{_≢_}
 use Prim.Native.Nat.{ℕ, _+_, _-_, _≤_, _<_}
 use Rattle.control.specs.Places.{POP-PARTIAL, A3-READ, TO-NEXT, TO-EXCHANGE}
 use Rattle.stepped.proofs.Doing.{does}
-use Rattle.stepped.proofs.PlaceSteps.{pop-steps, push-steps}
+use Rattle.stepped.proofs.MovePlaces.{pop-steps, push-steps}
 use Rattle.steps.specs.StartsAt.{StartsAt}
 use Rattle.steps.specs.declared.moves.Move.the-variants.{Neither}
 use Rattle.steps.proofs.StepAt.{same}
