@@ -6,6 +6,7 @@ int main(void)
     check_examples();
     check_blocks();
     check_ends();
+    check_regions();
     check_refusals();
     check_lengths();
     check_damaged();

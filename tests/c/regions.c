@@ -1,0 +1,153 @@
+/*
+ * How many regions a pool needs: the examples of docs/POOL.md, and its rule tried on random workloads. Under the rule
+ * no request ends with 12 or 13; with one region less than it says, some do.
+ */
+#include <string.h>
+#include "check.h"
+#include "lent.h"
+#include "pool.h"
+
+enum { TASKS = 4, CLASSES = 3, HELD = 80, TURNS = 20000, WORKLOADS = 200 };
+
+/* The classes with the fewest blocks in a region, so that regions fill and empty often. */
+static const struct { unsigned block, n; } table[4] = {{160, 25}, {192, 21}, {224, 18}, {256, 16}};
+
+/* One class of a workload: which tasks use it, the most blocks at one time, and the blocks in hands. */
+struct use {
+    unsigned block, most, busy, count;
+    int used_by[TASKS];
+    uint64_t held[HELD];
+};
+
+static struct use uses[CLASSES];
+static unsigned tasks, classes;
+static struct { struct use *use; int frees; } request[TASKS];
+
+static uint64_t state;
+
+static unsigned below(unsigned bound)
+{
+    state ^= state << 13;
+    state ^= state >> 7;
+    state ^= state << 17;
+    return (unsigned)((state >> 11) % bound);
+}
+
+static void examples(void)
+{
+    struct lent lent = started(1, 1);
+    uint64_t unit = POOL_VALUE(allocate(&lent, 0, 8));
+    check_answer("regions: one region, a block of 8 bytes is freed", release(&lent, 0, unit), POOL_FINISHED, 0);
+    check_answer("regions: nothing is held, and 16 bytes end with 13", allocate(&lent, 0, 16), POOL_NO_REGION, 0);
+
+    lent = started(4, 1);
+    unsigned got = 0;
+    for (unsigned size = 8; size <= 32; size += 8)
+        got += POOL_CODE(allocate(&lent, 0, size)) == POOL_FINISHED;
+    check("regions: four sizes open four regions", got == 4);
+    check_answer("regions: 80 bytes are held, the fifth size ends with 13", allocate(&lent, 0, 40), POOL_NO_REGION, 0);
+}
+
+/* Draws a workload; answers the number of regions by the rule: 2 x tasks - 1 + (most - 1) / n for each class. */
+static unsigned draw(unsigned seed)
+{
+    state = 88172645463325252u + seed;
+    for (unsigned i = 0; i < 8; i++)
+        (void)below(2);
+    memset(uses, 0, sizeof uses);
+    memset(request, 0, sizeof request);
+    tasks = 1 + below(TASKS);
+    classes = 1 + below(CLASSES);
+    unsigned regions = 0, first = below(4);
+    for (unsigned i = 0; i < classes; i++) {
+        struct use *use = &uses[i];
+        unsigned row = (first + i) % 4, users = 0;
+        use->block = table[row].block;
+        use->most = 1 + below(HELD);
+        for (unsigned t = 0; t < tasks; t++)
+            users += (unsigned)(use->used_by[t] = below(3) != 0);
+        if (users == 0)
+            users = (unsigned)(use->used_by[0] = 1);
+        regions += 2 * users - 1 + (use->most - 1) / table[row].n;
+    }
+    return regions;
+}
+
+/* An idle task begins a request of one of its classes, if it may: a free of one of the held blocks, or an allocation.
+   It answers the beginning's code. */
+static unsigned begin(const struct lent *lent, unsigned task, unsigned frees)
+{
+    struct use *use = &uses[below(classes)];
+    if (!use->used_by[task])
+        return POOL_UNDER_WAY;
+    if (below(4) < frees && use->count > 0) {
+        unsigned i = below(3) == 0 ? below(use->count) : below(2) * (use->count - 1);
+        uint64_t unit = use->held[i];
+        memmove(&use->held[i], &use->held[i + 1], (use->count - i - 1) * sizeof unit);
+        use->count--;
+        request[task].use = use;
+        request[task].frees = 1;
+        return POOL_CODE(begin_free(lent, task, unit));
+    }
+    if (use->busy == use->most)
+        return POOL_UNDER_WAY;
+    use->busy++;
+    request[task].use = use;
+    request[task].frees = 0;
+    return POOL_CODE(begin_allocate(lent, task, use->block));
+}
+
+/* Some steps of a task that is at work; answers the code of the last. */
+static unsigned work(const struct lent *lent, unsigned task)
+{
+    struct use *use = request[task].use;
+    uint64_t answer = POOL_UNDER_WAY;
+    for (unsigned steps = 1 + below(below(3) ? 4 : 40); steps > 0 && POOL_CODE(answer) == POOL_UNDER_WAY; steps--)
+        answer = step(lent, task);
+    if (POOL_CODE(answer) == POOL_UNDER_WAY)
+        return POOL_UNDER_WAY;
+    request[task].use = NULL;
+    if (request[task].frees)
+        use->busy--;
+    else if (POOL_CODE(answer) == POOL_FINISHED)
+        use->held[use->count++] = POOL_VALUE(answer);
+    return POOL_CODE(answer);
+}
+
+/* Whether a workload on so many regions runs to its end: no request ends with 12 or 13, and no call is refused. */
+static int runs(unsigned regions)
+{
+    struct lent lent = started(regions, tasks);
+    unsigned frees = 2, favoured = 0;
+    for (unsigned turn = 0; turn < TURNS; turn++) {
+        if (below(200) == 0)
+            frees = 1 + below(3);
+        if (below(60) == 0)
+            favoured = below(tasks);
+        unsigned task = below(4) ? favoured : below(tasks);
+        unsigned code = request[task].use == NULL ? begin(&lent, task, frees) : work(&lent, task);
+        if (code != POOL_UNDER_WAY && code != POOL_FINISHED)
+            return 0;
+    }
+    return 1;
+}
+
+void check_regions(void)
+{
+    examples();
+    unsigned tried = 0, ran = 0, fewer = 0, ended = 0;
+    for (unsigned seed = 1; seed <= WORKLOADS; seed++) {
+        unsigned regions = draw(seed);
+        if (regions > POOL_REGIONS_MOST)
+            continue;
+        tried++;
+        ran += (unsigned)runs(regions);
+        if (regions == 1)
+            continue;
+        (void)draw(seed);
+        fewer++;
+        ended += (unsigned)!runs(regions - 1);
+    }
+    check("regions: with as many as the rule says none ends with 12 or 13", tried > WORKLOADS / 2 && ran == tried);
+    check("regions: with one less some do", fewer > WORKLOADS / 2 && ended > fewer / 5);
+}
