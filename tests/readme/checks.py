@@ -1,0 +1,58 @@
+"""The checks of the documents, each by name. A check answers what is wrong, as lines; it passes with none.
+
+Called from the repository's root with the library's file. The last line is 'N passed, M failed'.
+"""
+import sys
+
+import definitions
+import examples
+import figures
+import references
+import tables
+
+CHECKS = [
+    ("the README's program as C99", examples.as_c),
+    ("the README's program as C++98", examples.as_cpp),
+    ("the README's schedules give its tables", examples.on_the_stand),
+    ('links lead to files and headings', references.links),
+    ('paths in backticks exist', references.paths),
+    ('names are defined in the files that are said', references.names),
+    ('no paragraph or list item above 600 characters', references.lengths),
+    ("the README's table of crates is crates.txt", tables.crates),
+    ('the tables of codes have the numbers of the header', tables.codes),
+    ('the table of columns is the layout, and the constants are', tables.layout),
+    ('definitions begin with their section of docs/POOL.md', definitions.sections),
+    ("the README's sha256 is the library's", figures.library_sum),
+    ("the README's kit is KIT-ID", figures.kit),
+    *figures.numbers(),
+]
+SHOWN = 100  # lines of what is wrong, of one check
+
+
+def tried(check):
+    """A check that breaks off has failed, and the others still run."""
+    try:
+        return check()
+    except (OSError, ValueError, LookupError) as error:
+        return [f'{type(error).__name__}: {error}']
+
+
+def main():
+    passed = failed = 0
+    for name, check in CHECKS:
+        wrong = tried(check)
+        if wrong is None:
+            print(f'left out: {name}')
+            continue
+        for line in wrong[:SHOWN]:
+            print(f'  {line}')
+        if wrong[SHOWN:]:
+            print(f'  and {len(wrong) - SHOWN} more')
+        print(f'FAILED: {name}' if wrong else f'passed: {name}', flush=True)
+        passed += not wrong
+        failed += bool(wrong)
+    print(f'{passed} passed, {failed} failed')
+    return 1 if failed else 0
+
+
+sys.exit(main())

@@ -1,0 +1,59 @@
+"""The README's examples: the program for C, and the schedules for the stand."""
+import difflib
+import os
+import subprocess
+import sys
+
+from documents import README, blocks
+
+OUT = 'target/readme'
+STRICT = ['-Wall', '-Wextra', '-Werror', '-pedantic']
+
+
+def differences(due, printed):
+    return list(difflib.unified_diff(due, printed, README, 'printed', lineterm=''))
+
+
+def built_and_run(compiler, standard, suffix):
+    """The first program for C prints the first block of text behind it."""
+    programs, texts = blocks(README, 'c'), blocks(README, 'text')
+    if not programs or not texts:
+        return ['README.md has no block ```c, or none ```text']
+    os.makedirs(OUT, exist_ok=True)
+    source, program = f'{OUT}/example.{suffix}', f'{OUT}/example_{suffix}'
+    with open(source, 'w', encoding='utf-8') as file:
+        file.write(programs[0])
+    command = [compiler, f'-std={standard}', *STRICT, '-Iinclude', source, sys.argv[1], '-o', program]
+    build = subprocess.run(command, capture_output=True, text=True, check=False)
+    if build.returncode != 0:
+        return build.stderr.splitlines()
+    done = subprocess.run([program], capture_output=True, text=True, check=False, timeout=60)
+    wrong = differences(texts[0].splitlines(), done.stdout.splitlines())
+    if done.returncode != 0:
+        wrong.append(f'the program ended with status {done.returncode}')
+    return wrong
+
+
+def as_c():
+    return built_and_run('gcc', 'c99', 'c')
+
+
+def as_cpp():
+    return built_and_run('g++', 'c++98', 'cpp')
+
+
+def played(schedule, table):
+    """The stand names what it reads in its first line; where the README names a file there, that line may differ."""
+    done = subprocess.run(['./stand', '--text'], input=schedule, capture_output=True, text=True, check=False)
+    due, printed = table.splitlines(), done.stdout.splitlines()
+    if due and printed and 'standard input' in printed[0] and 'standard input' not in due[0]:
+        due, printed = due[1:], printed[1:]
+    wrong = differences(due, printed)
+    return wrong + done.stderr.splitlines() if wrong else []
+
+
+def on_the_stand():
+    schedules, due = blocks(README, 'schedule'), blocks(README, 'table')
+    if not schedules or len(schedules) != len(due):
+        return [f'README.md has {len(schedules)} blocks ```schedule and {len(due)} blocks ```table']
+    return [line for schedule, table in zip(schedules, due) for line in played(schedule, table)]
