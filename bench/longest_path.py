@@ -112,4 +112,5 @@ def main():
         print(f"{name}\tlibrary\tinstructions\t{longest(function, code, tables)}")
 
 
-main()
+if __name__ == "__main__":
+    main()
