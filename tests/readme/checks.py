@@ -33,7 +33,7 @@ def tried(check):
     """A check that breaks off has failed, and the others still run."""
     try:
         return check()
-    except (OSError, ValueError, LookupError) as error:
+    except Exception as error:  # whatever it is
         return [f'{type(error).__name__}: {error}']
 
 

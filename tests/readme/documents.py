@@ -35,9 +35,9 @@ def visible(text):
     return text
 
 
-def blocks(path, kind):
+def blocks(text, kind):
     """The fenced blocks of a kind, in order."""
-    return re.findall(rf'^```{kind}[ \t]*\n(.*?)^```[ \t]*$', read(path), re.M | re.S)
+    return re.findall(rf'^```{kind}[ \t]*\n(.*?)^```[ \t]*$', text, re.M | re.S)
 
 
 def without_fences_and_comments(path):

@@ -4,7 +4,7 @@ import os
 import subprocess
 import sys
 
-from documents import README, blocks
+from documents import README, blocks, read
 
 OUT = 'target/readme'
 STRICT = ['-Wall', '-Wextra', '-Werror', '-pedantic']
@@ -16,9 +16,10 @@ def differences(due, printed):
 
 def built_and_run(compiler, standard, suffix):
     """The first program for C prints the first block of text behind it."""
-    programs, texts = blocks(README, 'c'), blocks(README, 'text')
-    if not programs or not texts:
-        return ['README.md has no block ```c, or none ```text']
+    programs = blocks(read(README), 'c')
+    texts = blocks(read(README).split(programs[0], 1)[1], 'text') if programs else []
+    if not texts:
+        return ['README.md has no block ```c with a block ```text behind it']
     os.makedirs(OUT, exist_ok=True)
     source, program = f'{OUT}/example.{suffix}', f'{OUT}/example_{suffix}'
     with open(source, 'w', encoding='utf-8') as file:
@@ -53,7 +54,7 @@ def played(schedule, table):
 
 
 def on_the_stand():
-    schedules, due = blocks(README, 'schedule'), blocks(README, 'table')
+    schedules, due = blocks(read(README), 'schedule'), blocks(read(README), 'table')
     if not schedules or len(schedules) != len(due):
         return [f'README.md has {len(schedules)} blocks ```schedule and {len(due)} blocks ```table']
     return [line for schedule, table in zip(schedules, due) for line in played(schedule, table)]

@@ -9,6 +9,7 @@ import sys
 from documents import README, read, squeezed
 
 LINES = 'tests/readme/numbers'
+STAND = 'target/bin/stand'
 NUMBER = r'((?:\d{1,3}(?:,\d{3})+|\d+)(?:\.\d+)?(?!\d|[.,]\d))'  # 174, 9,001 or 9001, 2.5
 
 
@@ -51,18 +52,21 @@ def numbers():
     return [check_of(line) for line in read(LINES).splitlines() if line.strip() and not line.startswith('#')]
 
 
+def sum_of(path):
+    with open(path, 'rb') as file:
+        return hashlib.sha256(file.read()).hexdigest()
+
+
 def library_sum():
-    told = re.findall(r'\b[0-9a-f]{64}\b', read(README))
-    with open(sys.argv[1], 'rb') as file:
-        due = hashlib.sha256(file.read()).hexdigest()
-    if not told:
-        return [f'{README} has no sha256; that of the library is {due}']
-    return [f'{README} says {one}; that of the library is {due}' for one in told if one != due]
+    """Every sum of the README is the library's or that of the stand's program, and the library's is among them."""
+    told, due = re.findall(r'\b[0-9a-f]{64}\b', read(README)), sum_of(sys.argv[1])
+    known = [due] + [sum_of(path) for path in [STAND] if os.path.exists(path)]
+    result = [f'{README} has {one}; the library has {due}' for one in told if one not in known]
+    return result if due in told else [*result, f'{README} does not have the sha256 of the library, {due}']
 
 
 def kit():
-    told = re.findall(r'\brattle-kit\S* logic [0-9a-f]+', squeezed(read(README)))
-    due = read('KIT-ID').strip()
-    if not told:
-        return [f'{README} names no kit; KIT-ID has {due}']
-    return [f'{README} says {one}; KIT-ID has {due}' for one in told if one != due]
+    text, due = squeezed(read(README)), read('KIT-ID').strip()
+    result = [f'{README} has {one}; KIT-ID has {due}'
+              for one in re.findall(r'\brattle-kit\S* logic [0-9a-f]+', text) if one != due]
+    return result if due in text else [*result, f'{README} does not name the kit of KIT-ID, {due}']

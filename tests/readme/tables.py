@@ -37,7 +37,7 @@ def numbers_of(cell):
 def wrong_codes(document, known):
     if not os.path.exists(document):
         return [f'there is no {document}']
-    rows = tables_by(document, 'code', 'codes', 'number')
+    rows = tables_by(document, 'code', 'codes') or tables_by(document, 'number')
     if not rows:
         return [f'{document} has no table whose first column is "code"']
     told = [number for row in rows for number in numbers_of(row[0])]
