@@ -1,9 +1,10 @@
-# The tables of the benchmark from lines of workload, contender, measure and value. Ratios are the library's value by
-# the other's: below 1 the library needs less.
+# The tables of the benchmark, as Markdown, from lines of workload, contender, measure and value. Each measure has a table
+# of the pools and one of the heaps. A ratio is the library's value by the other's: below 1 the library needs less.
 BEGIN {
     FS = "\t"
-    pools = split("library|by hand, gcc|by hand, clang", pool, "|")
+    pools = split("by hand, gcc|by hand, clang", pool, "|")
     heaps = split("glibc|jemalloc|mimalloc", heap, "|")
+    whats = split("instructions|ns", what, "|")
 }
 
 {
@@ -15,40 +16,63 @@ BEGIN {
     }
 }
 
-function ratio(name, other, what) {
-    if (!((name, other, what) in value) || value[name, other, what] == 0)
+function ratio(name, other, unit) {
+    if (!((name, other, unit) in value) || value[name, other, unit] == 0)
         return "-"
-    return sprintf("%.2f", value[name, "library", what] / value[name, other, what])
+    return sprintf("%.2f", value[name, "library", unit] / value[name, other, unit])
 }
 
-function shown(name, other, what) {
-    return (name, other, what) in value ? value[name, other, what] : "-"
+function shown(name, other, unit) {
+    return (name, other, unit) in value ? value[name, other, unit] : "-"
+}
+
+function last_word(text) {
+    sub(/^.* /, "", text)
+    return text
+}
+
+# Whether the library has a row of this measure, and, where `other` is no empty text, so has the other.
+function has(row, unit, other) {
+    return measure[row] == unit && (other == "" || (order[row], other, unit) in value)
+}
+
+# A table of the measure: the library, the others and the ratios; only rows that `needed` has, if it is no empty text.
+function table(title, unit, others, count, needed,    i, k, any) {
+    for (i = 1; i <= rows; i++)
+        any = any || has(i, unit, needed)
+    if (!any)
+        return
+    printf "\n| %s | library |", title
+    for (k = 1; k <= count; k++)
+        printf " %s |", others[k]
+    for (k = 1; k <= count; k++)
+        printf " library / %s |", last_word(others[k])
+    printf "\n|---|---:|"
+    for (k = 1; k <= 2 * count; k++)
+        printf "---:|"
+    printf "\n"
+    for (i = 1; i <= rows; i++) {
+        if (!has(i, unit, needed))
+            continue
+        printf "| %s | %s |", order[i], shown(order[i], "library", unit)
+        for (k = 1; k <= count; k++)
+            printf " %s |", shown(order[i], others[k], unit)
+        for (k = 1; k <= count; k++)
+            printf " %s |", ratio(order[i], others[k], unit)
+        printf "\n"
+    }
 }
 
 END {
-    line = "%-42s %-13s %9s %9s %9s %8s %8s\n"
-    printf "\n" line, "one call, one pair or one start", "measure", "library", "by hand,", "by hand,", "library",
-        "library"
-    printf line, "", "", "", "gcc", "clang", "by gcc", "by clang"
-    for (i = 1; i <= rows; i++)
-        printf line, order[i], measure[i], shown(order[i], pool[1], measure[i]), shown(order[i], pool[2], measure[i]),
-            shown(order[i], pool[3], measure[i]), ratio(order[i], pool[2], measure[i]),
-            ratio(order[i], pool[3], measure[i])
-
-    line = "%-42s %9s %9s %9s %9s %8s %8s %8s\n"
-    whats = split("instructions|ns", what, "|")
     for (w = 1; w <= whats; w++) {
-        printf "\n" line, "for orientation, " what[w], "library", "glibc", "jemalloc", "mimalloc", "library", "library",
-            "library"
-        printf line, "", "", "", "", "", "by glibc", "by jem.", "by mim."
-        for (i = 1; i <= rows; i++)
-            if (measure[i] == what[w] && (order[i], "glibc", what[w]) in value)
-                printf line, order[i], shown(order[i], pool[1], what[w]), shown(order[i], heap[1], what[w]),
-                    shown(order[i], heap[2], what[w]), shown(order[i], heap[3], what[w]),
-                    ratio(order[i], heap[1], what[w]), ratio(order[i], heap[2], what[w]),
-                    ratio(order[i], heap[3], what[w])
+        table(what[w], what[w], pool, pools, "")
+        table(what[w] ", for orientation", what[w], heap, heaps, heap[1])
     }
-    for (i = 2; i <= heaps; i++)
-        if (!(("hot pair of 64 bytes", heap[i], "ns") in value))
-            printf "%s is not installed\n", heap[i]
+    made = "places where a step was made"
+    if ((made, "library", "of 33") in value) {
+        printf "\nPlaces where a step was made, of 33: library %s", value[made, "library", "of 33"]
+        for (k = 1; k <= pools; k++)
+            printf "; %s %s", pool[k], shown(made, pool[k], "of 33")
+        print "."
+    }
 }
