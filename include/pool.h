@@ -1,46 +1,86 @@
 /*
  * A pool of blocks of 1 to 256 bytes for 1 to 8 tasks, worked one step at a time.
  *
+ * ---- The two memories ----
+ *
  * The pool lives in two memories that the firmware lends to every call:
  *
- *   control  8,192 bytes, the pool's own: lists, descriptors, marks, caches and what each task is doing;
+ *   control  8,192 bytes, the pool's own: lists, descriptors, marks, caches, and what each task is doing;
  *   area     1 to 16 regions of 4,096 bytes, from which the blocks are cut.
- *
- * Both may lie anywhere and need no alignment. They must not overlap, and each must really have the length that is
- * lent with it; a pointer may be null where its length is 0. A pool is one control memory with one area: lend the area
- * that was started. A block has the alignment of the area, up to 8 bytes.
  *
  * A unit is 8 bytes. A block is named by its first unit, counted from the start of the area.
  *
- * How a request is driven: begin it, then step until the code is not POOL_UNDER_WAY.
+ * The calls need no alignment. A block has the alignment of the area, up to 8 bytes. So align the area to 8 if blocks
+ * are to hold numbers or structs: declare it as an array of uint64_t, or in a union with one:
  *
- *     uint64_t answer = pool_begin_allocate(control, sizeof control, area, sizeof area, task, size);
+ *     static uint8_t control[POOL_CONTROL_BYTES];
+ *     static union { uint64_t aligned; uint8_t bytes[4 * POOL_REGION_BYTES]; } area;
+ *
+ * ---- How a request is driven ----
+ *
+ * Begin it, then step until the code is not POOL_UNDER_WAY:
+ *
+ *     uint64_t answer = pool_begin_allocate(control, sizeof control, area.bytes, sizeof area.bytes, task, size);
  *     while (POOL_CODE(answer) == POOL_UNDER_WAY)
- *         answer = pool_step(control, sizeof control, area, sizeof area, task);
+ *         answer = pool_step(control, sizeof control, area.bytes, sizeof area.bytes, task);
  *     if (POOL_CODE(answer) == POOL_FINISHED)
- *         block = POOL_BLOCK(area, POOL_VALUE(answer));
+ *         block = POOL_BLOCK(area.bytes, POOL_VALUE(answer));
  *
  * Between any two of these calls other tasks may begin requests and step theirs. Any task may free any block.
  *
- * What is proved of each call, for any bytes in the memories and any numbers: its answer, and every byte of both
- * memories afterwards, are those that the definition of the call gives. So a refused call changes no byte.
+ * ---- What is proved ----
  *
- * What is proved of all calls of a run together: each block of an open region is in exactly one place, which is a
- * user's hands, a task or its region's chain; no call changes a byte of a block that is in a user's hands; and
- * POOL_DAMAGED does not occur. It holds under these premises, which the firmware has to see to:
+ * Of each call, for any bytes in the memories and any numbers: its answer, and every byte of both memories afterwards,
+ * are those that the definition of the call gives. So a refused call changes no byte. This needs premises 1 and 2.
  *
- *   - users write only inside blocks that they hold. A block is held from the step that finishes with its unit to the
- *     accepted beginning of its free, or to the next accepted start;
- *   - only the calls write the control memory. Before the first accepted start it may hold anything, but the claims hold
- *     from that start on; before it, they hold from a control memory that is not started, as one of zeros;
- *   - calls do not overlap in time: a step is one call, and the next call comes after it has returned. Where tasks
- *     interrupt each other, the firmware keeps them apart;
- *   - fewer than 2^32 changes of a list come between a task's read of its head and the same task's exchange.
+ * Of all calls of a run together, under all six premises:
  *
- * Not proved: how many steps a request takes while other tasks step between, and how long a call takes. The code of
- * the beginnings and of the step has no loop; that of the start loops over the control memory alone. No call makes a
- * system call, allocates memory or keeps anything outside the two memories. The library, target/staticlib/libpool.a of
- * 'rt staticlib pool', needs memset from the firmware's C library; its code for x86-64 uses SSE2 registers.
+ *   - each block of an open region is in exactly one place: a user's hands, a task or its region's chain;
+ *   - no call changes a byte of a block that is in a user's hands;
+ *   - POOL_DAMAGED does not occur.
+ *
+ * The premises, which the firmware has to see to:
+ *
+ *   1. The two memories do not overlap, and each really has the length that is lent with it. A pointer may be null
+ *      where its length is 0.
+ *   2. Calls do not overlap in time: mask interrupts or lock around each single call. The longest is a step of at most
+ *      174 instructions, or a start, for which 599 were measured (docs/BENCHMARKS.md).
+ *   3. Each call but a start lends the control memory and the area of the last accepted start. If it lends another
+ *      length, it is refused and does no harm.
+ *   4. Users write only inside blocks that they hold. A block is held from the step that finishes with its unit to the
+ *      accepted beginning of its free, or to the next accepted start.
+ *   5. Only the calls write the control memory. The claims hold from an accepted start on, whatever it held before. If
+ *      it was not started, as one of zeros, they hold also before that start.
+ *   6. Fewer than 2^32 changes of a list come between a task's read of its head and the same task's exchange.
+ *
+ * Not proved: how many steps a request takes while other tasks step between, and how long a call takes.
+ *
+ * ---- What keeps regions: POOL_NO_REGION and POOL_NO_DESCRIPTOR ----
+ *
+ * A region serves blocks of one size, its class, while it is open. It stays open while any of its blocks is in a user's
+ * hands, in a task's cache or under way in a request. A task's cache of a class keeps freed blocks, up to as many as a
+ * region has.
+ *
+ * So POOL_NO_REGION may come though nobody holds a block. An example, with one task and one region: allocate 8 bytes,
+ * free them, then allocate 16. The region's blocks of 8 bytes are all in the task's cache.
+ *
+ * A free that finds its cache full returns the cached blocks to their regions. A region with all its blocks back in its
+ * chain is released to the list of spare regions.
+ *
+ * Each open region uses one of 64 descriptors. A region that has emptied leaves its descriptor on the partial list of
+ * its class, until an allocation of that class pops it. A running request may have one in hand, too.
+ *
+ * What you can do:
+ *
+ *   - lend enough regions: docs/POOL.md, "How many regions do I need?";
+ *   - let the same task free and allocate blocks of a class: it reuses its cache;
+ *   - start again: that gives everything back, and all blocks are void.
+ *
+ * ---- What the code needs ----
+ *
+ * The beginnings and the step have no loop; the start loops over the control memory alone. No call makes a system call,
+ * allocates memory or keeps anything outside the two memories. The library is target/staticlib/libpool.a, made by
+ * 'rt staticlib pool'. It needs memset from the firmware's C library. Its code is for x86-64 and uses SSE2 registers.
  */
 #ifndef POOL_H
 #define POOL_H
@@ -63,18 +103,18 @@ extern "C" {
 
 /* ---- answers ---- */
 
-/* Every call answers one number: its code, and 256 times its value. The value is the unit of a finished allocation,
+/* Every call answers one number: its code plus 256 times its value. The value is the unit of a finished allocation,
    else 0. */
 #define POOL_CODE(answer) ((unsigned)((answer) % 256))
 #define POOL_VALUE(answer) ((answer) / 256)
 
-/* The address of the block that a unit names, and the unit of the block at an address. The second is for addresses
+/* The address of the block that a unit names, and the unit of the block at an address. Use the second only on addresses
    that the first gave: it rounds down to a whole unit and does not test that the address lies in the area. */
 #define POOL_BLOCK(area, unit) ((void *)((uint8_t *)(area) + POOL_UNIT_BYTES * (size_t)(unit)))
 #define POOL_UNIT(area, block) ((uint64_t)((const uint8_t *)(block) - (const uint8_t *)(area)) / POOL_UNIT_BYTES)
 
-/* The codes. POOL_NO_DESCRIPTOR and POOL_NO_REGION end a request: the task is idle afterwards and holds nothing new.
-   Every other code but POOL_UNDER_WAY and POOL_FINISHED refuses the call: it changed no byte of either memory. */
+/* The codes. POOL_UNDER_WAY and POOL_FINISHED accept a call. POOL_NO_DESCRIPTOR and POOL_NO_REGION end a request: the
+   task is idle afterwards and holds nothing new. Every other code refuses the call: it changed no byte. */
 enum pool_code {
     POOL_UNDER_WAY = 0, /* accepted; of a step: made, and the request goes on */
     POOL_FINISHED = 20, /* the step finished the request; the value of an allocation is its unit */
@@ -94,20 +134,20 @@ enum pool_code {
     POOL_NOT_A_BLOCK = 10,    /* a free of what is not the first unit of a block of an open region */
     POOL_NOT_IN_USE = 11,     /* a free of such a unit that is in nobody's hands, as after a first free */
 
-    /* Caused by other tasks, by holding blocks: the end of an allocation. */
-    POOL_NO_DESCRIPTOR = 12, /* the list of spare descriptors was empty when it was read */
-    POOL_NO_REGION = 13,     /* the list of spare regions was empty when it was read; the descriptor is back on its list */
+    /* The end of an allocation, caused by blocks in hands, in caches and under way: see "What keeps regions" above. */
+    POOL_NO_DESCRIPTOR = 12, /* the list of spare descriptors was empty when read */
+    POOL_NO_REGION = 13,     /* the list of spare regions was empty when read; the descriptor is back on its list */
 
     /* Caused by whoever writes outside their own blocks. The task keeps its request; only a start mends the pool. */
-    POOL_DAMAGED = 14 /* a value that was read for this call is none that the pool could have left there */
+    POOL_DAMAGED = 14 /* this call read a value that the pool cannot have left there */
 };
 
 /* ---- the calls ---- */
 
 /*
  * Starts a pool of so many tasks on the area, at any time and whatever the control memory holds. It fills the whole
- * control memory, and neither reads nor writes the area. The new run knows no block: all units of an earlier run are
- * void. A refused start leaves the pool as it was.
+ * control memory, and neither reads nor writes the area. All units of an earlier run are void. A refused start leaves
+ * the pool as it was.
  *
  * Answers, by the first test that fails: POOL_BAD_CONTROL, POOL_BAD_AREA, POOL_BAD_TASKS; else POOL_UNDER_WAY.
  */
@@ -115,8 +155,8 @@ uint64_t pool_start(uint8_t *control, size_t control_length, const uint8_t *area
 
 /*
  * Begins an allocation of 1 to 256 bytes for a task that is idle. It makes no step and neither reads nor writes the
- * area: the block comes with the step that answers POOL_FINISHED. A size gets the smallest block that holds it, of 8,
- * 16, 24, 32, 40, 48, 56, 64, 80, 96, 112, 128, 160, 192, 224 or 256 bytes.
+ * area. The block comes with the step that answers POOL_FINISHED. A size gets the smallest block that holds it, of 8,
+ * 16, 24, 32, 40, 48, 56, 64, 80, 96, 112, 128, 160, 192, 224 or 256 bytes. Do not rely on what it holds then.
  *
  * Answers, by the first test that fails: POOL_BAD_CONTROL, POOL_NOT_STARTED, POOL_BAD_AREA, POOL_NO_SUCH_TASK,
  * POOL_REQUEST_IN_HAND, POOL_SIZE_ZERO, POOL_SIZE_TOO_LARGE; else POOL_UNDER_WAY. POOL_DAMAGED comes where a bad value
@@ -127,8 +167,8 @@ uint64_t pool_begin_allocate(uint8_t *control, size_t control_length, const uint
 
 /*
  * Begins the free of the block that starts at this unit, by a task that is idle, whichever task allocated it. It makes
- * no step and neither reads nor writes the area. Once it is accepted the block is out of its user's hands: nobody may
- * read from it or write to it any more, though the request still has to be stepped to its end.
+ * no step and neither reads nor writes the area. Once it is accepted, the block is out of its user's hands: nobody may
+ * read or write it any more. The request still has to be stepped to its end.
  *
  * Answers, by the first test that fails: POOL_BAD_CONTROL, POOL_NOT_STARTED, POOL_BAD_AREA, POOL_NO_SUCH_TASK,
  * POOL_REQUEST_IN_HAND, POOL_NOT_A_BLOCK, POOL_NOT_IN_USE; else POOL_UNDER_WAY. POOL_DAMAGED comes where a bad value is
@@ -142,9 +182,8 @@ uint64_t pool_begin_free(uint8_t *control, size_t control_length, const uint8_t 
  * block, and under the premises never of a block in a user's hands.
  *
  * Answers, by the first test that fails: POOL_BAD_CONTROL, POOL_NOT_STARTED, POOL_BAD_AREA, POOL_NO_SUCH_TASK,
- * POOL_NO_REQUEST; then POOL_UNDER_WAY while the request goes on, POOL_FINISHED at its end, or, at the end of an
- * allocation that cannot be had now, POOL_NO_DESCRIPTOR or POOL_NO_REGION. POOL_DAMAGED comes where a bad value is
- * read.
+ * POOL_NO_REQUEST. Else POOL_UNDER_WAY while the request goes on, and POOL_FINISHED at its end. An allocation that
+ * cannot be had now ends with POOL_NO_DESCRIPTOR or POOL_NO_REGION. POOL_DAMAGED comes where a bad value is read.
  */
 uint64_t pool_step(uint8_t *control, size_t control_length, uint8_t *area, size_t area_length, uint64_t task);
 
