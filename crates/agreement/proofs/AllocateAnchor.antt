@@ -157,7 +157,7 @@ module _ {regions : ℕ} {v : View} {area : List ℕ} {m : Mem} {t : ℕ} {k : �
 
   -- ---- the exchange
 
-  -- it is won: the anchor is as noted
+  -- the exchange is won: the anchor is as noted
   exchange-won : (n : Note) → At regions v area m t (working (a3-exchange (v (TaskClass t)) (v (TaskDescriptor t)) n)) k
       → anchorOf (v (TaskAnchor t)) .count ≤ perRegion (v (TaskClass t))
       → anchorOf (v (TaskAnchor t)) .avail < perRegion (v (TaskClass t))

@@ -44,12 +44,12 @@ same-answers (e ∷ es) s₁ s A =
     ap (λ (a : Answer). a ∷ steppedAnswers es (stepped e s₁ .0)) (A .0 .0 .says)
     ∙ ap (λ (q : List Answer). whole e s .1 ∷ q) (same-answers es (stepped e s₁ .0) (whole e s .0) (A .1))
 
--- so from a pool that is not started, under the premises, the stepped run answers what the whole run does
+-- from a pool that is not started, under the premises, the stepped run answers what the whole run does
 pub answered : (es : List Event) (s₁ : Memories) → Unstarted s₁ → Premises es unstarted
     → steppedAnswers es s₁ ≡ wholeAnswers es unstarted
 answered es s₁ U p = same-answers es s₁ unstarted (agreement es s₁ U p)
 
--- the same from an accepted start on any memories
+-- from an accepted start on any memories, under the premises, the stepped run answers what the whole run does
 pub answered-from-start : (es : List Event) (s₁ : Memories) (s : Pool) (b : Start) (area : List ℕ)
     → Plain.StartArea (length area)
     → Plain.StartTasks (b .tasks) → Premises es (whole (starting b area) s .0)
@@ -77,7 +77,7 @@ near won (push-noted p φ) h = recent (won (pushList p)) φ (h (pushList p))
 near won (anchor-noted d n) h = tt
 near won (entry-noted y d n) h = tt
 
--- so no call of a pool whose lists have won so few exchanges fails its premise
+-- no call of a pool whose lists have won fewer than 2^32 exchanges each fails its premise
 call-near : (k : Call) (lent : Lengths) (s : Pool) → (1 ≤ s .tasks → (ℓ : ℕ) → s .mem .won ℓ < TAGS)
     → CallPremise k lent s
 call-near (start b) lent s h = tt
@@ -92,7 +92,7 @@ abbrev pub blockAt : ℕ → Pool → ℕ
 blockAt at s =
     let c = classThere (at / UNIT-BYTES) s in unitOf (regionOf (at / UNIT-BYTES)) c (indexOf c (at / UNIT-BYTES))
 
--- it is in a user's hands, and the byte lies in it
+-- the block that the byte lies in, by the class of its region, is in a user's hands, and has the byte
 abbrev pub ByteHeld : ℕ → Pool → Type 0
 ByteHeld at s =
     let u = blockAt at s in
@@ -104,7 +104,7 @@ WritesHeld [] s = Unit {0}
 WritesHeld (call k lent ∷ es) s = WritesHeld es (whole (call k lent) s .0)
 WritesHeld (write at b ∷ es) s = ByteHeld at s × WritesHeld es s
 
--- whether it is so is found by running the plain pool
+-- whether every write of the list is into a block in a user's hands is found by running the plain pool
 unfoldable pub writesHeld? : (es : List Event) (s : Pool) → Dec (WritesHeld es s)
 writesHeld? [] s = yes tt
 writesHeld? (call k lent ∷ es) s = writesHeld? es (whole (call k lent) s .0)

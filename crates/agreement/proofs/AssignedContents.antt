@@ -67,7 +67,7 @@ cache-here f t c x l = fun-ext (λ e. by e (decLt e CLASSES) (ℕ-discrete e c))
     by e (no p) (yes q) = absurd (p (omega arith))
     by e (no p) (no q) = refl
 
--- and as another task sees it
+-- the column of the caches, assigned at the task t and the class c, as another task sees it: it is as it was
 pub cache-there : (f : ℕ → ℕ) (t c x j : ℕ) → c < CLASSES → t ≢ j
     → byClass (λ e. cond (eqb (cacheAt t c) (cacheAt j e)) x (f (cacheAt j e))) ≡ byClass (λ e. f (cacheAt j e))
 cache-there f t c x j l n = fun-ext (λ e. by e (decLt e CLASSES))

@@ -95,10 +95,10 @@ abbrev pub allocating : (area : List ℕ) (b : Start) (t size n : ℕ) → List 
 allocating area b t size n =
     starting b area ∷ call (allocate t size) (lends area) ∷ replicate n (call (step t) (lends area))
 
--- Of sizes, in both pools, whatever they hold, and of every task. Of first allocations, on the bytes: after every
--- accepted start, whatever bytes the memories held before, and of each of its tasks; the start, the beginning and all
--- of the n steps but the last are code 0 with value 0, and the last finishes with the unit. Of tags, in every head word
--- and with every item put on top; of groups, with every first block.
+-- What a row says. Of sizes, in both pools, whatever they hold, and of every task. Of first allocations, on the bytes:
+-- after every accepted start, whatever bytes the memories held before, and of each of its tasks; the start, the
+-- beginning and all of the n steps but the last are code 0 with value 0, and the last finishes with the unit. Of tags,
+-- in every head word and with every item put on top; of groups, with every first block.
 abbrev pub RowHolds : Row → Type 0
 RowHolds (of-size s x) =
     (t : ℕ) (v : View) (m : Mem)

@@ -54,14 +54,14 @@ abbrev pub withCache : ℕ → ℕ → ℕ → ℕ → View → View
 withCache t c b n v = assigned (CacheTop t c := b ∷ CacheCount t c := n ∷ []) v
 
 module _ (v : View) (t c b n : ℕ) (l : c < CLASSES) where
-  -- the task's part with that cache
+  -- the task's part after the writes of a cache's two fields: it has that cache
   pub cache-own : slotOf (withCache t c b n v) t ≡ toCache c b n (slotOf v t)
   cache-own z = withCaches (record {
     top = cache-here (λ i. v (Layout.TopOfCache i)) t c b l z;
     count = cache-here (λ i. v (Layout.CountOfCache i)) t c n l z;
   }) (slotOf v t)
 
-  -- and the other tasks' parts, as they were
+  -- the other tasks' parts after the writes of a cache's two fields: they are as they were
   pub cache-others : (j : ℕ) → t ≢ j → slotOf (withCache t c b n v) j ≡ slotOf v j
   cache-others j d z = withCaches (record {
     top = cache-there (λ i. v (Layout.TopOfCache i)) t c b j l d z;
@@ -141,7 +141,8 @@ module _ {regions : ℕ} {v : View} {area : List ℕ} {m : Mem} {t : ℕ} {p : P
       (add-one (v (CacheCount t c)) ∙ ap suc (cache-count w)) f
       (ap (λ (z : TaskCaches). record { top = update (z .top) c u; count = update (z .count) c n }) g) pl)
 
-  -- The same, as a step: the cache has fewer than n blocks, and ws are sound.
+  -- The block u under way goes on top of the cache of the request's class, as a step: the cache has fewer than n
+  -- blocks, and ws are sound.
   pub push-both : (answer : Answer) (e : Decided) (ws : List Write) (u : ℕ) (s : Slot) (p′ : Place)
       → 1 ≤ count u (underWay p) → length (k (v (TaskClass t))) < perRegion (v (TaskClass t)) → Sound layout ws
       → (assigned ws v Tasks ≡ v Tasks) × (assigned ws v Regions ≡ v Regions)

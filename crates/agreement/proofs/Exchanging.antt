@@ -176,7 +176,7 @@ module _ {regions : ℕ} {v : View} {area : List ℕ} {m : Mem} {t : ℕ} {k : �
           apart = tt;
         })
 
-    -- or step 5 follows
+    -- some of the region's blocks are not back: step 5 follows
     some : (length J ≡ perRegion c → ⊥)
         → Both regions v area m
         (Free.f3Won v (link area) regions t c d a (v (GroupFirst t)) h) (

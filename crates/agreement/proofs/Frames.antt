@@ -45,7 +45,7 @@ pub record KeptLists (l l′ : Lists) (won won′ : ℕ → ℕ) (row row′ : �
   pub descriptorNexts : (x : ℕ) → 1 ≤ holdsDescriptor x p → l′ .descriptorNext x ≡ l .descriptorNext x
   pub regionNexts : (x : ℕ) → 1 ≤ holdsRegion x p → l′ .regionNext x ≡ l .regionNext x
 
--- the same lists
+-- lists that have not changed are kept
 pub lists-kept : {l : Lists} {won : ℕ → ℕ} {row : ℕ → List ℕ} {p : Place} → KeptLists l l won won row row p
 lists-kept =
     record { wins = λ ℓ. omega arith; still = λ ℓ e. refl; descriptorNexts = λ x h. refl; regionNexts = λ x h. refl }

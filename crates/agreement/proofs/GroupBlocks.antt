@@ -71,7 +71,7 @@ module _ {regions : ℕ} {a : Contents} {m : Mem} {t : ℕ} {p : Place} {k : ℕ
       let b = of-region (G .last) last-in in
       record { block = b; at = ap (unitOf (a .slot t .hand .region) (a .slot t .class)) (G .lastIs) ∙ unit-again b }
 
-  -- the indexes of its first and last block are below n
+  -- the indexes of the group's first and last block are below n
   pub last-below : a .slot t .group .last < perRegion (a .slot t .class)
   last-below = omega (arith, G .lastIs, index-below (of-region (G .last) last-in))
 
@@ -90,7 +90,7 @@ module _ {regions : ℕ} {a : Contents} {m : Mem} {t : ℕ} {p : Place} {k : ℕ
           )
       by (z ∷ q) e (links f l) = omega (arith, index-below (of-region z (omega (arith, ap (count z) e, when-same z 1))))
 
-  -- its region is one of the area's
+  -- the group's region is one of the area's
   pub region-below : a .slot t .hand .region < regions
   region-below =
       omega (arith, G .region, home-below w (home-of (w .turn) y (omega (arith, sub y, when-same y 1))))

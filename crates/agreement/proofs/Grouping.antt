@@ -166,7 +166,7 @@ module _ {regions : ℕ} {v : View} {area : List ℕ} {m : Mem} {t : ℕ} {k : �
       apart = tt;
     }
 
-  -- with an empty group the cache has a block
+  -- step 2 with an empty group: the cache has a block
   pub f2-both : At regions v area m t (working (f2 (v (TaskClass t)) (v (TaskUnit t)) [])) k → v (TaskPlace t) ≡ F2
       → v (GroupCount t) ≡ 0
       → Both regions v area m (Free.f2 v (link area) regions t (v (TaskClass t)))
@@ -184,7 +184,7 @@ module _ {regions : ℕ} {v : View} {area : List ℕ} {m : Mem} {t : ℕ} {k : �
       (has-top (λ q. Steps.f2Step t k c (v (TaskUnit t)) q [] m) (k c) (λ f. omega (arith, ap length f, o .1)) (λ x q f.
       pass _ (topped w x q f .block) (meet _ (eqb h 0) (eq-eqb h 0 z) (first-both w e x q f)))))
 
-  -- beside a group, the cache may be empty
+  -- step 2 with a group that has blocks: the cache may be empty
   pub f2-more-both : {y : ℕ} {g : List ℕ} → At regions v area m t
       (working (f2 (v (TaskClass t)) (v (TaskUnit t)) (y ∷ g))) k
       → v (TaskPlace t) ≡ F2 → GroupRelated (contentsOf v area) (slotOf v t) y g

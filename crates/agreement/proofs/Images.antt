@@ -33,7 +33,7 @@ pub assigned-append : (ws us : List Write) (v : View) (g : Field)
 assigned-append [] us v g = refl
 assigned-append (w ∷ ws) us v g = assigned-append ws us (assign w v) g
 
--- the fields past the first n of a column that are filled are left
+-- where the first n fields of a column are filled, those past them are left
 pub past-fill : (k : Column) (x : ℕ → ℕ) (n : ℕ) (v : View) (j : ℕ) → n ≤ j
     → assigned (fill (fieldOf k) x n) v (fieldOf k j) ≡ v (fieldOf k j)
 past-fill k x zero v j l = refl
@@ -41,7 +41,7 @@ past-fill k x (suc n) v j l =
     past-fill k x n (assign (fieldOf k n := x n) v) j (omega arith)
     ∙ rw (eq-eqb (k .start) (k .start) refl, ne-eqb n j (omega arith))
 
--- and those are filled
+-- where the first n fields of a column are filled, each of them has its value
 pub filled : (k : Column) (x : ℕ → ℕ) (n : ℕ) (v : View) (j : ℕ) → j < n
     → assigned (fill (fieldOf k) x n) v (fieldOf k j) ≡ x j
 filled k x zero v j l = absurd (omega arith)
@@ -51,7 +51,7 @@ filled k x (suc n) v j l = elim (ℕ-discrete n j) [
   | no e ↦ filled k x n (assign (fieldOf k n := x n) v) j (omega arith)
 ]
 
--- the other columns are left
+-- where fields of a column are filled, the other columns are left
 pub other-fill : (k : Column) (x : ℕ → ℕ) (n : ℕ) (v : View) (e : Column) (j : ℕ) → eqb (k .start) (e .start) ≡ false
     → assigned (fill (fieldOf k) x n) v (fieldOf e j) ≡ v (fieldOf e j)
 other-fill k x zero v e j h = refl

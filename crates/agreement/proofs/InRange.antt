@@ -181,11 +181,11 @@ in-range {s₁} {s} S started =
 
 -- ---- a run
 
--- wherever a run has come
+-- wherever a run has come, the fields are in their ranges
 pub reached-ranged : {h : History} {s₁ : Memories} {s : Pool} → Reached h s₁ s → AllRanged s₁
 reached-ranged R = (in-range (reached-tied R), reached-found R)
 
--- and after each event that meets its premise
+-- wherever a run has come, the fields are in their ranges after each event that meets its premise
 ranged-after : Wherever RangedAfter
 ranged-after h s₁ s R e p = reached-ranged (by-event R e p)
 
@@ -195,8 +195,8 @@ pub ranges : (es : List Event) (s₁ : Memories) → Unstarted s₁ → Premises
     → Along RangedAfter es s₁ unstarted
 ranges es s₁ U p = along RangedAfter ranged-after (from-unstarted U) es p
 
--- The same from an accepted start on any memories and in any pool: right after it, and along every list of events
--- behind it.
+-- From an accepted start on any memories and in any pool, every field that the pool stores is in its range: right after
+-- the start, and along every list of events behind it that meets the premises.
 pub ranges-from-start : (es : List Event) (s₁ : Memories) (s : Pool) (b : Start) (area : List ℕ)
     → Calls.StartArea (length area)
     → Calls.StartTasks (b .tasks) → Premises es (whole (starting b area) s .0)

@@ -56,7 +56,7 @@ module _ {regions : ℕ} {m : Mem} (I : Invariant regions m) where
 abbrev pub SameHead : Head → Head → Type 0
 SameHead g h = (g .item ≡ h .item) × (g .tag ≡ h .tag)
 
--- such are the heads of equal words alone
+-- the heads of two words have the same item and tag exactly if the words are equal
 pub same-word : (w x : ℕ) → SameHead (headOf w) (headOf x) → w ≡ x
 same-word w x s = omega (arith, s)
 

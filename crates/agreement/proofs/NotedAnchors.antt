@@ -71,7 +71,7 @@ note-of m d D C L = record {
 abbrev pub SameAnchor : Anchor → Anchor → Type 0
 SameAnchor a b = ((a .state ≡ b .state) × (a .avail ≡ b .avail)) × (a .count ≡ b .count)
 
--- such are the anchors of equal words alone
+-- the anchors of two words have the same parts exactly if the words are equal
 pub same-anchor-word : (w x : ℕ) → SameAnchor (anchorOf w) (anchorOf x) → w ≡ x
 same-anchor-word w x s =
     sym (word-of-anchor w)

@@ -114,7 +114,7 @@ module _ (regions : ℕ) (v : View) (area : List ℕ) (m : Mem) (t : ℕ) (k : �
       → Freeing v t p
   freeing i j e h = frees i j e (omega (arith, when-same u 1))
 
-  -- the same, and the descriptor that is owed where the anchor was found FULL
+  -- the block that is freed, and the descriptor that is owed where the anchor was found FULL
   owing : {p : Place} (z : State) → v (TaskState t) ≡ stateNumber z → count d (owed z d) ≤ holdsDescriptor d p
       → classAt p ≡ c
       → one u u ≤ count u (underWay p) → Freeing v t p

@@ -125,7 +125,7 @@ call-alike (step t) lent s₁ s S h =
     (seen-fitting (s₁ .control) (S .bytes))
     (S .related (T .started)) (S .good .inv (T .started)) (h T)))
 
--- one event
+-- one event: the same answer, the two tied again, and each byte in hands as it was
 pub alike : (e : Event) (s₁ : Memories) (s : Pool) → Tied s₁ s → Premise e s
     → Alike (EventKeeps e s₁ s) (stepped e s₁) (whole e s)
 alike (call k lent) s₁ s S h = call-alike k lent s₁ s S h

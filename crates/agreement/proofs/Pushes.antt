@@ -64,17 +64,17 @@ push-list v t z Back = refl
 push-list v t z Release = refl
 push-list v t z Offer = refl
 
--- the item is in the task's hand
+-- the item that a push has in hand is in the task's field of its kind
 item-is : (v : View) (t : ℕ) (items : Items) → inHand items (slotOf v t .hand) ≡ v (handField items t)
 item-is v t descriptor-items = refl
 item-is v t region-items = refl
 
--- and its next in the column
+-- the next of an item is in the column of its kind
 next-is : (v : View) (area : List ℕ) (items : Items) (x : ℕ) → nexts items (contentsOf v area) x ≡ v (nextField items x)
 next-is v area descriptor-items x = refl
 next-is v area region-items x = refl
 
--- the item is held
+-- a push holds its item
 item-held : (v : View) (t : ℕ) (P : Push) (z : State) (φ : Phase)
     → HoldsItem (pushItems P) (itemAt v t P) (working (pushing (pushOf v t z P) φ))
 item-held v t P z φ =

@@ -17,7 +17,8 @@ use Rattle.agreement.proofs.Turns.{At}
 module _ {regions : ℕ} {v : View} {area : List ℕ} {m : Mem} {t : ℕ} {p : Place} {k : ℕ → List ℕ}
     (w : At regions v area m t p k) where
   -- The writes ws make s of the task's own part, but not of its caches, and b of what is shared, as the plain pool's
-  -- m₁; the task goes to the place p′. `change` is the law of the kind of change: heading, anchoring, clearing, ..
+  -- m₁; the task goes to the place p′. `change` is the law of the kind of change, such as that of a head, an anchor
+  -- or a map entry.
   pub shares : (ws : List Write) (s : Slot) (p′ : Place) (b : Contents) (m₁ : Mem)
       → (SlotRelated regions (setSlot t s b) (atPlace t k p′ m₁) s (taskOf p′ k)
       → Related regions (setSlot t s b) (atPlace t k p′ m₁))

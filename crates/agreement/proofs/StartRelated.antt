@@ -48,7 +48,7 @@ module _ (b : Start) (regions : ℕ) where
   abbrev pub startView : View
   startView = assigned (fill TopOfCache (λ i. UNITS) CACHES) third
 
-  -- these are all its writes
+  -- `startView` has all the writes of a start
   pub start-view : (g : Field) → assigned (startWrites b regions) zeroed g ≡ startView g
   unfolding startWrites
   start-view g =

@@ -64,7 +64,7 @@ tied-agrees e s₁ s T p =
     let A = alike e s₁ s T p in
     ((agrees e s₁ s A, unchanged e s₁, untouched e s₁ s (A .shows)), A .tied)
 
--- .. wherever a run has come
+-- an event that meets its premise, wherever a run has come: the two runs agree
 pub reached-agrees : Wherever AgreesAt
 reached-agrees h s₁ s R e p = tied-agrees e s₁ s (reached-tied R) p .0
 
@@ -79,8 +79,8 @@ agreement-from-tied = along-kept Tied AgreesAt tied-agrees
 pub agreement : (es : List Event) (s₁ : Memories) → Unstarted s₁ → Premises es unstarted → Agree es s₁ unstarted
 agreement es s₁ U p = along AgreesAt reached-agrees (from-unstarted U) es p
 
--- The same from an accepted start on any memories and in any pool, the start itself with it: the control memory before
--- it may look like a started pool, or hold anything.
+-- The agreement from an accepted start on any memories and in any pool, the start itself with it: the control memory
+-- before it may look like a started pool, or hold anything.
 pub agreement-from-start : (es : List Event) (s₁ : Memories) (s : Pool) (b : Start) (area : List ℕ)
     → Plain.StartArea (length area) → Plain.StartTasks (b .tasks) → Premises es (whole (starting b area) s .0)
     → Agree (starting b area ∷ es) s₁ s

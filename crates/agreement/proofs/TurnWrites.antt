@@ -30,7 +30,7 @@ pub record OwnWrites (v v′ : View) (area : List ℕ) (t : ℕ) (s : Slot) (b :
   pub own : slotOf v′ t ≡ s
   pub others : (j : ℕ) → t ≢ j → slotOf v′ j ≡ slotOf v j
 
--- so they are with a cache's two fields
+-- `OwnWrites` with those of a cache's two fields behind them are `OwnWrites` again: the part of t has that cache.
 pub with-cache : {v : View} (v′ : View) {area : List ℕ} {t : ℕ} {s : Slot} {b : Contents} (c u n : ℕ) → c < CLASSES
     → OwnWrites v v′ area t s b → OwnWrites v (withCache t c u n v′) area t (toCache c u n s) b
 with-cache v′ {t = t} c u n l h = record {
@@ -41,14 +41,14 @@ with-cache v′ {t = t} c u n l h = record {
 
 module _ {regions : ℕ} {v : View} {area : List ℕ} {m : Mem} {t : ℕ} {p : Place} {k : ℕ → List ℕ}
     (w : At regions v area m t p k) (v′ : View) (s : Slot) (T : Task) where
-  -- the task's own part changes alone
+  -- the relation after writes that change the task's own part alone
   pub own-written : OwnWrites v v′ area t s (contentsOf v area)
       → SlotRelated regions (setSlot t s (contentsOf v area)) (setTask t T m) s T
       → Related regions (contentsOf v′ area) (setTask t T m)
   own-written c h =
       rw (becomes v v′ area t s (contentsOf v area) (c .shared) refl (c .own) (c .others)) (quiet (w .pair) s T h)
 
-  -- and the link of a block of the task
+  -- the relation after writes that change the task's own part and the link of a block of the task
   pub link-written : (u x : ℕ) → OwnWrites v v′ (withLink area u x) t s (setLink u x (contentsOf v area))
       → 1 ≤ blockWeight u t (taskOf p k)
       → SlotRelated regions (setSlot t s (setLink u x (contentsOf v area))) (setTask t T m) s T
@@ -57,7 +57,7 @@ module _ {regions : ℕ} {v : View} {area : List ℕ} {m : Mem} {t : ℕ} {p : P
       rw (becomes v v′ (withLink area u x) t s (setLink u x (contentsOf v area)) (c .shared) refl (c .own) (c .others))
       (linking (w .pair) u x s T o h)
 
-  -- and an anchor
+  -- the relation after writes that change the task's own part and an anchor
   pub anchor-exchanged : (d word : ℕ) (E : Descriptor)
       → OwnWrites v v′ area t s (setAnchor d (anchorOf word) (contentsOf v area))
       → d < DESCRIPTORS → anchorOf word .state ≡ stateNumber (E .state) → E .region ≡ m .descriptor d .region
@@ -70,7 +70,7 @@ module _ {regions : ℕ} {v : View} {area : List ℕ} {m : Mem} {t : ℕ} {p : P
       rw (becomes v v′ area t s (setAnchor d (anchorOf word) (contentsOf v area)) (c .shared) refl (c .own) (c .others))
       (anchoring (w .pair) d (anchorOf word) E s T l e f g i a n h)
 
-  -- and a map entry
+  -- the relation after writes that change the task's own part and clear a map entry
   pub entry-cleared : (r : ℕ) → OwnWrites v v′ area t s (setMap r 0 (contentsOf v area))
       → SlotRelated regions (setSlot t s (setMap r 0 (contentsOf v area))) (setTask t T (State.setMap r 0 m)) s T
       → Related regions (contentsOf v′ area) (setTask t T (State.setMap r 0 m))

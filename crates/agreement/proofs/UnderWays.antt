@@ -55,7 +55,7 @@ module _ {regions : ℕ} {a : Contents} {m : Mem} {t : ℕ} {k : ℕ → List �
       → blocksAt (underWays (a .slot t) a) (a .slot t .place) ≡ q
   at-place w n q e h = ap (λ (z : ℕ). blocksAt (underWays (a .slot t) a) z) e ∙ h
 
-  -- so it is at the three places of a list move
+  -- at the three places of a list move the table of what is under way has q
   in-move : {p : Place} {b ℓ items least : ℕ} {Ready : ℕ → Type 0} {φ : Phase} (w : Pair regions a m t p k) (q : List ℕ)
       → (blocksAt (underWays (a .slot t) a) b ≡ q) × (blocksAt (underWays (a .slot t) a) (b + TO-NEXT) ≡ q)
       × (blocksAt (underWays (a .slot t) a) (b + TO-EXCHANGE) ≡ q)

@@ -15,7 +15,7 @@ use Rattle.agreement.specs.Events.{Event, call, write, stepped, whole, I
 use Rattle.agreement.specs.Reached.{Along}
 use Rattle.agreement.specs.Observe.{SameObserved}
 
--- the two memories, column by column
+-- what the two memories hold, column by column
 abbrev pub contents : Memories → Contents
 contents s = contentsOf (seen (s .control)) (s .area)
 
@@ -46,7 +46,7 @@ CallUntouched (allocate t size) lent s₁ x s = HandsKept s₁ s (x .0)
 CallUntouched (free t u) lent s₁ x s = HandsKept s₁ s (x .0)
 CallUntouched (step t) lent s₁ x s = HandsKept s₁ s (x .0)
 
--- the same of an event
+-- An event that is a call is as `CallUntouched` says; of a user's own write nothing is asked.
 abbrev pub Untouched : Event → Memories → Memories × Answer → Pool → Type 0
 Untouched (call k lent) s₁ x s = CallUntouched k lent s₁ x s
 Untouched (write at b) s₁ x s = Unit {0}
@@ -60,6 +60,6 @@ abbrev pub AgreesAt : Event → Memories → Pool → Type 0
 AgreesAt e s₁ s =
     Agrees (stepped e s₁) (whole e s) × Unchanged s₁ (stepped e s₁) × Untouched e s₁ (stepped e s₁) s
 
--- every event of the list, in its order
+-- every event of a list, in its order, is as `AgreesAt` says
 abbrev pub Agree : List Event → Memories → Pool → Type 0
 Agree = Along AgreesAt

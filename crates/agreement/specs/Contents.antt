@@ -35,12 +35,13 @@ pub record TaskGroup : Type 0 where
   pub last : ℕ
   pub count : ℕ
 
--- of each class's cache: the top block, and how many
+-- a task's caches, by class: the top block, and how many blocks there are
 pub record TaskCaches : Type 0 where
   pub top : ℕ → ℕ
   pub count : ℕ → ℕ
 
--- all of it: the place in the step list, the class of the request, and the block that is freed, with these
+-- a task's part of the control memory: its place in the step list, the class of its request and the block that it
+-- frees; what it noted, what it has in hand, its group and its caches
 pub record Slot : Type 0 where
   pub place : ℕ
   pub class : ℕ
@@ -58,7 +59,7 @@ pub record Lists : Type 0 where
   pub descriptorNext : ℕ → ℕ
   pub regionNext : ℕ → ℕ
 
--- the descriptors
+-- the descriptors: the anchor, the region and the class of each
 pub record Descriptors : Type 0 where
   pub anchor : ℕ → Anchor
   pub region : ℕ → ℕ
@@ -83,7 +84,7 @@ pub record Contents : Type 0 where
 abbrev pub byClass : (ℕ → ℕ) → ℕ → ℕ
 byClass f c = if (decLt c CLASSES) (f c) 0
 
--- a task's part
+-- the part of the task t
 abbrev pub slotOf : View → ℕ → Slot
 slotOf v t = record {
   place = v (Layout.TaskPlace t);
@@ -116,7 +117,7 @@ slotOf v t = record {
 abbrev pub markOf : View → ℕ → ℕ
 markOf v u = bitAt (v (Layout.Marks (u / WORD-MARKS))) (u % WORD-MARKS)
 
--- all parts, with the area
+-- what the two memories hold, read off a view of the fields and the area
 abbrev pub contentsOf : View → List ℕ → Contents
 contentsOf v area = record {
   lists = record {

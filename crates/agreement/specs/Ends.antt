@@ -27,7 +27,7 @@ use Rattle.stepped.specs.Lists.{howMany, handField, popPlace, popList, pushPlac
 abbrev pub WritesNothing : Outcome → Type 0
 WritesNothing o = (n : ℕ) → o .answer ≡ Refused n → (o .writes ≡ []) × (o .links ≡ [])
 
--- the same of the bytes: they are those of the memories s
+-- "A refused call .. leaves both memories unchanged": the bytes are those of the memories s
 abbrev pub Leaves : Effect → Memories → Type 0
 Leaves e s = (n : ℕ) → e .answer ≡ Refused n → (e .control ≡ s .control) × (e .area ≡ s .area)
 
@@ -36,27 +36,28 @@ abbrev pub oneOf : List ℕ → ℕ → Bool
 oneOf [] n = false
 oneOf (m ∷ ms) n = eqb n m || oneOf ms n
 
--- The numbers by which each call can be refused. "Start tests 1, 2, 3."
+-- the numbers by which a start can be refused: "Start tests 1, 2, 3."
 abbrev pub startRefusals : List ℕ
 startRefusals = 1 ∷ 2 ∷ 3 ∷ []
 
--- "Other calls test 1, 4, 2, 5", and 14 where the started number of tasks or of regions is outside its range; then
+-- the numbers by which the tests that every call but a start passes first can refuse it: "Other calls test 1, 4, 2, 5",
+-- and 14 where the started number of tasks or of regions is outside its range
 abbrev pub testRefusals : List ℕ
 testRefusals = 1 ∷ 4 ∷ 2 ∷ 5 ∷ 14 ∷ []
 
--- "6 .., then 8, 9"
+-- the numbers by which the beginning of an allocation can be refused: those of the tests, and "6 .., then 8, 9"
 abbrev pub allocateRefusals : List ℕ
 allocateRefusals = testRefusals ++ (6 ∷ 8 ∷ 9 ∷ [])
 
--- "6 .., then .. 10, 11"
+-- the numbers by which the beginning of a free can be refused: those of the tests, and "6 .., then .. 10, 11"
 abbrev pub freeRefusals : List ℕ
 freeRefusals = testRefusals ++ (6 ∷ 10 ∷ 11 ∷ [])
 
--- "or 7"
+-- the numbers by which a step can be refused: those of the tests, "or 7"
 abbrev pub stepRefusals : List ℕ
 stepRefusals = testRefusals ++ (7 ∷ [])
 
--- "14 comes where the bad value is read": the numbers by which the step at a task's place can be refused
+-- the numbers by which the step at a task's place can be refused: "14 comes where the bad value is read"
 abbrev pub placeRefusals : List ℕ
 placeRefusals = 14 ∷ []
 
@@ -105,7 +106,7 @@ pub record WinsPush (p : Push) (v : View) (t : ℕ) : Type 0 where
   pub noted : itemOf (v (TaskHead t)) ≤ howMany (pushItems p) (v Regions)
   pub same : v (Head (pushList p (v (TaskClass t)))) ≡ v (TaskHead t)
 
--- one of the three places of the push p
+-- the place is one of the three of the push p
 pub record InPush (p : Push) (place : ℕ) : Type 0 where
   pub from : pushPlace p ≤ place
   pub to : place ≤ pushPlace p + TO-EXCHANGE

@@ -64,7 +64,7 @@ Recent won read = Unit {0}
 Recent won (next n) = Unit {0}
 Recent won (exchange n) = won < n + TAGS
 
--- .. of what a task has noted
+-- the premise on heads, by what a task has noted: of an anchor nothing is asked
 abbrev pub Near : (ℕ → ℕ) → Noted → Type 0
 Near won unnoted = Unit {0}
 Near won (pop-noted p φ) = Recent (won (popList p)) φ
@@ -86,7 +86,7 @@ pub record InHands (at : ℕ) (s : Pool) : Type 0 where
   pub from : UNIT-BYTES * unit ≤ at
   pub to : at < UNIT-BYTES * unit + block (classThere unit s)
 
--- of calls a step alone has a premise, and only where it passes the tests 1, 4, 2, 5
+-- the premise of a call: a step alone has one, and only where it passes the tests 1, 4, 2, 5
 abbrev pub CallPremise : Call → Lengths → Pool → Type 0
 CallPremise (start b) lent s = Unit {0}
 CallPremise (allocate t size) lent s = Unit {0}
@@ -98,7 +98,7 @@ abbrev pub Premise : Event → Pool → Type 0
 Premise (call k lent) s = CallPremise k (lengths lent) s
 Premise (write at b) s = InHands at s
 
--- along the run of the plain pool
+-- the premises of a list of events, each in the plain pool before its event
 abbrev pub Premises : List Event → Pool → Type 0
 Premises [] s = Unit {0}
 Premises (e ∷ es) s = Premise e s × Premises es (whole e s .0)

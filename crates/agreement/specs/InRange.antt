@@ -26,7 +26,7 @@ use Rattle.plain.specs.Calls.{Pool}
 use Rattle.agreement.specs.Events.{Event, stepped}
 use Rattle.agreement.specs.Tied.{FoundStates}
 
--- 1 to most
+-- x is from 1 to `most`
 abbrev pub OneTo : ℕ → ℕ → Type 0
 OneTo most x = (1 ≤ x) × (x ≤ most)
 
@@ -38,7 +38,8 @@ AtPlaces v t a b X = a ≤ v (TaskPlace t) → v (TaskPlace t) ≤ b → X
 -- What the task t noted of a list, and what it has under way, is in its range at the places from its write to its last
 -- read; elsewhere it is left over.
 
--- the noted head's item, where a pop has one, and the noted next: a number plus one, or 0
+-- what the task t noted of a list: the item of the head, which a pop has and a push may lack, and the next; each is a
+-- number plus one, or 0 for none
 pub record ListsInRange (regions : ℕ) (v : View) (t : ℕ) : Type 0 where
   pub pop-head : (p : Pop) → AtPlaces v t (popPlace p + TO-NEXT) (popPlace p + TO-EXCHANGE)
       (OneTo (howMany (popItems p) regions) (itemOf (v (TaskHead t))))
@@ -47,11 +48,11 @@ pub record ListsInRange (regions : ℕ) (v : View) (t : ℕ) : Type 0 where
   pub push-head : (p : Push) → AtPlaces v t (pushPlace p + TO-NEXT) (pushPlace p + TO-EXCHANGE)
       (itemOf (v (TaskHead t)) ≤ howMany (pushItems p) regions)
 
--- its place, and what it has in hand beside blocks
+-- the place of the task t, and what it has in hand beside blocks
 pub record HandInRange (regions : ℕ) (v : View) (t : ℕ) : Type 0 where
   -- idle, or a place of the step list
   pub place : v (TaskPlace t) < PLACES
-  -- the descriptor, spare or for the partial list
+  -- the descriptor in hand, held as spare or for the partial list
   pub descriptor-spare : AtPlaces v t POP-REGION (PUSH-BACK + TO-EXCHANGE) (v (TaskDescriptor t) < DESCRIPTORS)
   pub descriptor-listed : AtPlaces v t PUSH-OFFER A3-EXCHANGE (v (TaskDescriptor t) < DESCRIPTORS)
   pub descriptor-opens : AtPlaces v t A7 A7 (v (TaskDescriptor t) < DESCRIPTORS)
@@ -66,7 +67,7 @@ pub record HandInRange (regions : ℕ) (v : View) (t : ℕ) : Type 0 where
   pub state-released : AtPlaces v t PUSH-RELEASE (PUSH-RELEASE + TO-EXCHANGE) (v (TaskState t) ≤ FULL)
   pub state-cleared : AtPlaces v t F4-CLEAR F4-CLEAR (v (TaskState t) ≤ FULL)
 
--- what it noted of an anchor, and the blocks that it moves or groups
+-- what the task t noted of an anchor, and the blocks that it moves or groups
 pub record ChainsInRange (v : View) (t : ℕ) : Type 0 where
   -- the noted anchor from which an allocation takes the chain
   pub anchor-state : AtPlaces v t A3-EXCHANGE A3-EXCHANGE (anchorOf (v (TaskAnchor t)) .state ≡ PARTIAL)
@@ -74,7 +75,7 @@ pub record ChainsInRange (v : View) (t : ℕ) : Type 0 where
       (anchorOf (v (TaskAnchor t)) .avail < perRegion (v (TaskClass t)))
   pub anchor-count : AtPlaces v t A3-EXCHANGE A3-EXCHANGE
       (OneTo (perRegion (v (TaskClass t))) (anchorOf (v (TaskAnchor t)) .count))
-  -- and that before whose chain a free puts its group: n as avail is none
+  -- the noted anchor before whose chain a free puts its group: n as avail is none
   pub returns-state : AtPlaces v t F3-LINK F3-EXCHANGE (anchorOf (v (TaskAnchor t)) .state ≤ FULL)
   pub returns-avail : AtPlaces v t F3-LINK F3-EXCHANGE
       (anchorOf (v (TaskAnchor t)) .avail ≤ perRegion (v (TaskClass t)))
@@ -88,7 +89,7 @@ pub record ChainsInRange (v : View) (t : ℕ) : Type 0 where
   -- how many blocks the group has: 0 before its first
   pub grouped : AtPlaces v t F2 F2 (v (GroupCount t) ≤ perRegion (v (TaskClass t)))
   pub group : AtPlaces v t F3-READ F3-EXCHANGE (OneTo (perRegion (v (TaskClass t))) (v (GroupCount t)))
-  -- the indexes of its first and its last block
+  -- the indexes of the first and the last block of the group
   pub first-grouped : AtPlaces v t F2 F2 (1 ≤ v (GroupCount t) → v (GroupFirst t) < perRegion (v (TaskClass t)))
   pub first : AtPlaces v t F3-READ F3-EXCHANGE (v (GroupFirst t) < perRegion (v (TaskClass t)))
   pub last-grouped : AtPlaces v t F2 F2 (1 ≤ v (GroupCount t) → v (GroupLast t) < perRegion (v (TaskClass t)))
@@ -96,7 +97,7 @@ pub record ChainsInRange (v : View) (t : ℕ) : Type 0 where
 
 -- the fields of the task t
 pub record TaskInRange (regions : ℕ) (v : View) (t : ℕ) : Type 0 where
-  -- one of the classes
+  -- the class of the request is one of the classes
   pub class : v (TaskClass t) < CLASSES
   pub lists : ListsInRange regions v t
   pub hand : HandInRange regions v t
@@ -131,7 +132,7 @@ pub record InRange (v : View) : Type 0 where
   pub states : (d : ℕ) → d < DESCRIPTORS → anchorOf (v (Anchor d)) .state ≤ FULL
   pub avails : (d : ℕ) → d < DESCRIPTORS → anchorOf (v (Anchor d)) .avail ≤ MOST-BLOCKS
   pub chain-counts : (d : ℕ) → d < DESCRIPTORS → anchorOf (v (Anchor d)) .count ≤ MOST-BLOCKS
-  -- and as large as its own class has, unless it is EMPTY: n as avail is none
+  -- each anchor that is not EMPTY: an index and a count as large as its own class has; n as avail is none
   pub open-avails : (d : ℕ) → d < DESCRIPTORS → EMPTY < anchorOf (v (Anchor d)) .state
       → anchorOf (v (Anchor d)) .avail ≤ perRegion (v (DescriptorClass d))
   pub open-counts : (d : ℕ) → d < DESCRIPTORS → EMPTY < anchorOf (v (Anchor d)) .state
@@ -146,10 +147,11 @@ pub record InRange (v : View) : Type 0 where
 abbrev pub Ranged : Memories → Type 0
 Ranged s = 1 ≤ seen (s .control) Tasks → InRange (seen (s .control))
 
--- the same, and each task's noted state is in its range at every place, whether it is still to be read or not
+-- the fields of a memory are in their ranges, once it is started, and each task's noted state is at every place,
+-- whether it is still to be read or not
 abbrev pub AllRanged : Memories → Type 0
 AllRanged s = Ranged s × FoundStates (s .control)
 
--- after an event on the memories s₁
+-- the fields are in their ranges after the event e on the memories s₁
 abbrev pub RangedAfter : Event → Memories → Pool → Type 0
 RangedAfter e s₁ s = AllRanged (stepped e s₁ .0)

@@ -51,7 +51,8 @@ classBy (suc d) r a =
     if (both (ℕ-discrete (a .descriptors .region d) r) (decLt EMPTY (a .descriptors .anchor d .state)))
     (suc (a .descriptors .class d)) 0
 
--- its chain: as many blocks as the anchor counts, from avail on
+-- the chain of the region r, by its map entry: as many blocks as the anchor counts, from avail on; none where the
+-- region is not open
 abbrev pub chainBy : ℕ → ℕ → Contents → List ℕ
 chainBy zero r a = []
 chainBy (suc d) r a =
@@ -59,12 +60,12 @@ chainBy (suc d) r a =
     (walk (link (a .area)) (unitOf r (a .descriptors .class d)) (a .descriptors .anchor d .avail)
     (a .descriptors .anchor d .count)) []
 
--- the same of the plain pool: the class
+-- the class in which the plain pool has the region r open, plus one, 0 where it has not; by its map entry
 abbrev pub plainClassBy : ℕ → ℕ → Mem → ℕ
 plainClassBy zero r m = 0
 plainClassBy (suc d) r m = if (opens? (m .descriptor d) r) (suc (m .descriptor d .class)) 0
 
--- its chain, by its map entry
+-- the chain of the region r in the plain pool, by its map entry; none where the region is not open
 abbrev pub plainChainBy : ℕ → ℕ → Mem → List ℕ
 plainChainBy zero r m = []
 plainChainBy (suc d) r m = if (opens? (m .descriptor d) r) (m .descriptor d .chain) []
@@ -127,12 +128,13 @@ pub data Holder : Type 0 where
   chain : Holder
   nowhere : Holder
 
--- the first of n tasks that has the block, else the chain if it has
+-- the first of the n tasks from t on that has the block, else the chain if it has it
 abbrev pub holderOf : ℕ → (ℕ → ℕ) → ℕ → ℕ → Holder
 holderOf zero has inChain t = if (decLe 1 inChain) chain nowhere
 holderOf (suc n) has inChain t = if (decLe 1 (has t)) (task t) (holderOf n has inChain (suc t))
 
--- by the mark, the tasks and the chain
+-- the holder of a block: a user's hands if its mark is set, else the first task that has it, else the chain if it has
+-- it
 abbrev pub holder : ℕ → (ℕ → ℕ) → ℕ → Holder
 holder mark has inChain = if (decLe 1 mark) hands (holderOf TASKS has inChain 0)
 
@@ -140,7 +142,7 @@ holder mark has inChain = if (decLe 1 mark) hands (holderOf TASKS has inChain 0)
 abbrev pub holderIn : Contents → ℕ → ℕ → Holder
 holderIn a r v = holder (a .entries .mark v) (λ t. withTask a t v) (count v (chainBy (a .entries .map r) r a))
 
--- the same in the plain pool
+-- the holder of the block v with regard to the region r, in the plain pool
 abbrev pub plainHolder : Mem → ℕ → ℕ → Holder
 plainHolder m r v = holder (m .hands v) (λ t. blockWeight v t (m .task t)) (count v (plainChain m r))
 

@@ -198,12 +198,12 @@ pub record SlotRelated (regions : ℕ) (a : Contents) (m : Mem) (s : Slot) (T : 
 
 -- ---- a descriptor
 
--- its chain, linked from avail, with n at the end
+-- the chain of a descriptor, linked from avail, with n at the end
 pub record ChainRelated (nx : ℕ → ℕ) (a : Anchor) (D : Descriptor) : Type 0 where
   pub linked : Linked nx (indexOf (D .class)) (perRegion (D .class)) (a .avail) (D .chain)
   pub counts : a .count ≡ length (D .chain)
 
--- state, region and class; and the chain while it is not EMPTY
+-- a descriptor: its state, region and class; and its chain while it is not EMPTY
 pub record DescriptorRelated (nx : ℕ → ℕ) (a : Anchor) (r c : ℕ) (D : Descriptor) : Type 0 where
   pub state : a .state ≡ stateNumber (D .state)
   pub region : r ≡ D .region
@@ -224,7 +224,7 @@ pub record ListsRelated (regions : ℕ) (l : Lists) (won : ℕ → ℕ) (row : �
 -- the descriptors, with chains linked by nx
 pub record DescriptorsRelated (regions : ℕ) (nx : ℕ → ℕ) (D : Descriptors) (plain : ℕ → Descriptor) : Type 0 where
   pub each : (d : ℕ) → d < DESCRIPTORS → DescriptorRelated nx (D .anchor d) (D .region d) (D .class d) (plain d)
-  -- also of an EMPTY descriptor: its anchor, its region and its class are in their ranges
+  -- the anchor, the region and the class of every descriptor, also of an EMPTY one, are in their ranges
   pub avails : (d : ℕ) → d < DESCRIPTORS → D .anchor d .avail ≤ MOST-BLOCKS
   pub chainCounts : (d : ℕ) → d < DESCRIPTORS → D .anchor d .count ≤ MOST-BLOCKS
   pub regionNumbers : (d : ℕ) → d < DESCRIPTORS → D .region d < regions
@@ -235,7 +235,7 @@ pub record EntriesRelated (regions : ℕ) (e : Entries) (map hands : ℕ → ℕ
   pub maps : (r : ℕ) → r < regions → e .map r ≡ map r
   pub marks : (u : ℕ) → u < UNITS → e .mark u ≡ hands u
 
--- all but the tasks; the area has the started length
+-- the relation of all but the tasks; the area has the started length
 pub record Core (regions : ℕ) (a : Contents) (m : Mem) : Type 0 where
   pub lists : ListsRelated regions (a .lists) (m .won) (m .row)
   pub descriptors : DescriptorsRelated regions (link (a .area)) (a .descriptors) (m .descriptor)

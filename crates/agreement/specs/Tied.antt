@@ -22,7 +22,7 @@ pub record Tied (s₁ : Memories) (s : Pool) : Type 0 where
   pub bytes : Bytes (s₁ .control)
   pub tasks : seen (s₁ .control) Tasks ≡ s .tasks
   pub good : Good s
-  -- once it is started: it has a region, as many as the plain pool, and the relation
+  -- once the pool is started: it has a region, the stored number of regions is the plain pool's, and the relation holds
   pub some : 1 ≤ s .tasks → 1 ≤ s .regions
   pub regions : 1 ≤ s .tasks → seen (s₁ .control) Regions ≡ s .regions
   pub related : 1 ≤ s .tasks → Related (s .regions) (contentsOf (seen (s₁ .control)) (s₁ .area)) (s .mem)
@@ -31,6 +31,6 @@ pub record Tied (s₁ : Memories) (s : Pool) : Type 0 where
 abbrev pub States : List ℕ → Type 0
 States control = (t : ℕ) → t < TASKS → seen control (TaskState t) ≤ FULL
 
--- once the pool is started
+-- each task's noted state is one of the three, once the pool is started
 abbrev pub FoundStates : List ℕ → Type 0
 FoundStates control = 1 ≤ seen control Tasks → States control

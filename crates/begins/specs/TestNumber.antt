@@ -8,7 +8,7 @@ use Rattle.plain.specs.Calls.{Lengths}
 use Rattle.stepped.specs.Outcome.{Outcome, refuse}
 use Rattle.stepped.specs.Calls.{tested, Tested}
 
--- the first test that fails is r, or all pass where r is 0, and x follows
+-- the outcome of a call whose tests tell r: the first that fails refuses it; where r is 0 all pass, and x follows
 abbrev pub unlessRefused : ℕ → Outcome → Outcome
 unlessRefused r x = cond (eqb r 0) x (refuse r)
 

@@ -15,7 +15,7 @@ both : (a b : Bool) → T (a && b) → T a × T b
 both true b t = (tt, t)
 both false b t = absurd t
 
--- so it passes at each of them
+-- a test that passes at every number below n passes at each of them
 pub at : (f : ℕ → Bool) (n : ℕ) → T (all f n) → (k : ℕ) → k < n → T (f k)
 at f zero t k h = absurd (not-suc-le-zero h)
 at f (suc n) t k h =

@@ -21,12 +21,12 @@ pub inside : {r c u : ℕ} → BlockOf r c u
     → (REGION-UNITS * r ≤ u) × (u + units c ≤ REGION-UNITS * r + REGION-UNITS)
 inside {c = c} b = omega (arith, mul-le-mul-left (units c) (b .below), b .is, fits c)
 
--- .. and its bytes in the area
+-- the bytes of a block stay in the area, if its region is one of the area's
 pub in-area : {r c u : ℕ} (regions : ℕ) → BlockOf r c u → r < regions
     → UNIT-BYTES * u + block c ≤ REGION-BYTES * regions
 in-area regions b h = omega (arith, inside b)
 
--- its name is one of 0 to 8,191, as the area has at most 16 regions
+-- a block's name is one of 0 to 8,191, as the area has at most 16 regions
 pub unit-below : {r c u : ℕ} → BlockOf r c u → r < REGIONS → u < UNITS
 unit-below {c = c} b h = omega (arith, inside b, units-low c)
 
@@ -46,15 +46,15 @@ offset-is {c = c} b = omega (arith, inside b, units-low c, b .is)
 pub region-is : {r c u : ℕ} → BlockOf r c u → regionOf u ≡ r
 region-is {c = c} b = omega (arith, inside b, units-low c)
 
--- .. and its index
+-- a block's first unit gives its index
 pub index-is : {r c u : ℕ} (b : BlockOf r c u) → indexOf c u ≡ b .at
 index-is {c = c} b = rw (offset-is b) (mul-div-cancel-left (b .at) (units-low c))
 
--- which is below n
+-- a block's index is below n
 pub index-below : {r c u : ℕ} → BlockOf r c u → indexOf c u < perRegion c
 index-below b = rw (index-is b) (b .below)
 
--- from a unit to its index and back
+-- from a block's unit to its index and back
 pub unit-again : {r c u : ℕ} → BlockOf r c u → unitOf r c (indexOf c u) ≡ u
 unit-again b = rw (index-is b) (sym (b .is))
 
@@ -62,7 +62,7 @@ unit-again b = rw (index-is b) (sym (b .is))
 pub region-again : (r c i : ℕ) → i < perRegion c → regionOf (unitOf r c i) ≡ r
 region-again r c i h = region-is (block-at r c i h)
 
--- .. and back to the index
+-- from a region and an index to the unit, and back to the index
 pub index-again : (r c i : ℕ) → i < perRegion c → indexOf c (unitOf r c i) ≡ i
 index-again r c i h = index-is (block-at r c i h)
 
@@ -86,7 +86,7 @@ first-block c u e =
       is = omega (arith, div-add-mod (u % REGION-UNITS) (units c));
     }
 
--- .. and at every block
+-- the test of a first unit passes at every block
 pub block-first : {r c u : ℕ} → BlockOf r c u → isFirst c u ≡ true
 unfolding isFirst
 block-first {c = c} {u} b =

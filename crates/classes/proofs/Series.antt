@@ -17,6 +17,6 @@ abbrev pub usable : List ℕ → List ℕ
 usable [] = []
 usable (b ∷ bs) = cond (eqb (b % UNIT-BYTES) 0 && leb b LARGEST-SIZE) (b ∷ usable bs) (usable bs)
 
--- of the powers from 1 to 256 these are the blocks
+-- the usable members of the series for the powers of two from 1 to 256 are the blocks of the table
 pub in-series : usable (series 1 9) ≡ blockSizes
 in-series = refl

@@ -50,7 +50,7 @@ is-class s h = elim (decLt (classOf s) CLASSES) [
   | no k ↦ absurd (omega (arith, smallest s (CLASSES - 1) (omega arith)))
 ]
 
--- .. whose block holds it
+-- the block of the class of a size holds the size
 pub holds : (s : ℕ) → s ≤ LARGEST-SIZE → s ≤ block (classOf s)
 unfolding classOf
 holds s h = rw (rows (classOf s) .0) (found s blockSizes SMALLEST-SIZE (is-class s h))
@@ -75,7 +75,7 @@ rounded s h =
 abbrev little : ℕ → Bool
 little s = ltb (4 * (block (classOf s) - s)) (block (classOf s))
 
--- so it is for the sizes from 25 up
+-- "For sizes from 25 up, 4 × (block − size) is below the block."
 pub quarter : (s : ℕ) → 25 ≤ s → s ≤ LARGEST-SIZE → 4 * (block (classOf s) - s) < block (classOf s)
 unfolding classOf units
 quarter s l h =
@@ -83,22 +83,22 @@ quarter s l h =
     ltb→lt (4 * (block (classOf s) - s)) (block (classOf s))
     (subst (λ (k : ℕ). T (little k)) e (at (λ k. little (25 + k)) (suc LARGEST-SIZE - 25) tt (s - 25) (omega arith)))
 
--- and at 17 it is not
+-- at size 17, 4 × (block − size) is not below the block: "At 17 it is not."
 pub not-at-17 : 4 * (block (classOf 17) - 17) < block (classOf 17) → ⊥
 unfolding classOf units
 not-at-17 h = omega arith
 
--- the three answers: size 0,
+-- size 0 is refused by 8
 pub refuses-none : (s : ℕ) → s ≡ 0 → choice s ≡ Refused 8
 unfolding choice
 refuses-none s e = rw (eq-eqb s 0 e)
 
--- a size above the largest,
+-- a size above the largest is refused by 9
 pub refuses-large : (s : ℕ) → LARGEST-SIZE < s → choice s ≡ Refused 9
 unfolding choice
 refuses-large s h = rw (ne-eqb s 0 (omega arith), lt-ltb LARGEST-SIZE s h)
 
--- and the others
+-- every other size is served by its class
 pub serves : (s : ℕ) → 1 ≤ s → s ≤ LARGEST-SIZE → choice s ≡ Class (classOf s)
 unfolding choice
 serves s l h = rw (ne-eqb s 0 (omega arith), le-ltb LARGEST-SIZE s h)

@@ -48,12 +48,12 @@ abbrev pub Others : ℕ → ℕ → Type 0
 Others zero c = Unit {0}
 Others (suc n) c = Others n c × (c ≡ n → ⊥)
 
--- .. is n or more
+-- a number that is none of the first n is n or more
 from : (n c : ℕ) → Others n c → n ≤ c
 from zero c h = omega arith
 from (suc n) c h = let l : n ≤ c = from n c (h .0) in let k : c ≢ n = h .1 in omega arith
 
--- .. and is n, if it is not more
+-- a number that is none of the first n, and not more than n, is n
 pub last : (n c : ℕ) → c < suc n → Others n c → c ≡ n
 last n c l h = omega (arith, from n c h)
 
@@ -76,7 +76,7 @@ pub units-low : (c : ℕ) → 1 ≤ units c
 unfolding units entry
 units-low c = leb→le 1 (units c) (every-class (λ b n. leb 1 (b / UNIT-BYTES)) tt c)
 
--- .. and at most those of the largest
+-- a block has at most the units of the largest
 pub units-high : (c : ℕ) → units c ≤ LARGEST-UNITS
 unfolding units entry
 units-high c = leb→le (units c) LARGEST-UNITS (every-class (λ b n. leb (b / UNIT-BYTES) LARGEST-UNITS) tt c)
@@ -86,12 +86,12 @@ pub perRegion-low : (c : ℕ) → LEAST-BLOCKS ≤ perRegion c
 unfolding perRegion entry
 perRegion-low c = leb→le LEAST-BLOCKS (perRegion c) (every-class (λ b n. leb LEAST-BLOCKS n) tt c)
 
--- .. and at most those of the smallest
+-- a region has at most the blocks of the smallest class
 pub perRegion-high : (c : ℕ) → perRegion c ≤ MOST-BLOCKS
 unfolding perRegion entry
 perRegion-high c = leb→le (perRegion c) MOST-BLOCKS (every-class (λ b n. leb n MOST-BLOCKS) tt c)
 
--- its blocks fit into its units
+-- the blocks of a region fit into its units
 pub fits : (c : ℕ) → units c * perRegion c ≤ REGION-UNITS
 unfolding units perRegion entry
 fits c = leb→le (units c * perRegion c) REGION-UNITS (every-class (λ b n. leb (b / UNIT-BYTES * n) REGION-UNITS) tt c)

@@ -32,6 +32,6 @@ units c = getD blockSizes c SMALLEST-SIZE / UNIT-BYTES
 abbrev pub block : ℕ → ℕ
 block c = UNIT-BYTES * units c
 
--- n of class c
+-- how many blocks of class c a region has, n. Past the table it is that of class 0, so that laws hold for every c
 unfoldable pub perRegion : ℕ → ℕ
 perRegion c = getD blockCounts c MOST-BLOCKS

@@ -114,14 +114,14 @@ groupFirsts = column 5552 2 TASKS
 abbrev pub GroupFirst : ℕ → Field
 GroupFirst = fieldOf groupFirsts
 
--- the index of its last block
+-- the index of the last block of a task's group
 abbrev pub groupLasts : Column
 groupLasts = column 5568 2 TASKS
 
 abbrev pub GroupLast : ℕ → Field
 GroupLast = fieldOf groupLasts
 
--- how many blocks it has
+-- how many blocks a task's group has
 abbrev pub groupCounts : Column
 groupCounts = column 5584 2 TASKS
 

@@ -82,14 +82,14 @@ F3-EXCHANGE = 32
 abbrev pub F4-CLEAR : ℕ
 F4-CLEAR = 33
 
--- how many there are
+-- how many places there are, that of an idle task with them
 abbrev pub PLACES : ℕ
 PLACES = 34
 
--- from the place of a move's head read to that of its next
+-- the next of a move is so many places past its head read
 abbrev pub TO-NEXT : ℕ
 TO-NEXT = 1
 
--- .. and to that of its exchange
+-- the exchange of a move is so many places past its head read
 abbrev pub TO-EXCHANGE : ℕ
 TO-EXCHANGE = 2

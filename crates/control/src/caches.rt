@@ -39,7 +39,7 @@ pub fn set_top(c: &mut [u8], index: usize, value: u16)
     fields::store16(c, layout::CACHE_TOPS + index * 2, value);
 }
 
-// How many blocks that cache has.
+// How many blocks a task's cache of a class has.
 pub fn cache_count(c: &[u8], task: usize, class: usize) -> u16
     requires { ⌜ Control (now c) × (task < TASKS) × (class < CLASSES) ⌝ }
     ensures { λ r. ⌜ r ≡ seen (now (c .entry)) (CacheCount task class) ⌝ }

@@ -100,7 +100,7 @@ pub fn set_group_first(c: &mut [u8], task: usize, value: u16)
     fields::store16(c, layout::GROUP_FIRSTS + task * 2, value);
 }
 
-// The index of its last block.
+// The index of the last block of a task's group.
 pub fn group_last(c: &[u8], task: usize) -> u16
     requires { ⌜ Control (now c) × (task < TASKS) ⌝ }
     ensures { λ r. ⌜ r ≡ seen (now (c .entry)) (GroupLast task) ⌝ }
@@ -115,7 +115,7 @@ pub fn set_group_last(c: &mut [u8], task: usize, value: u16)
     fields::store16(c, layout::GROUP_LASTS + task * 2, value);
 }
 
-// How many blocks it has.
+// How many blocks a task's group has.
 pub fn group_count(c: &[u8], task: usize) -> u16
     requires { ⌜ Control (now c) × (task < TASKS) ⌝ }
     ensures { λ r. ⌜ r ≡ seen (now (c .entry)) (GroupCount task) ⌝ }

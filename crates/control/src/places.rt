@@ -50,10 +50,10 @@ pub const F3_EXCHANGE: u8 = 32;
 // Free 4: the map entry is cleared.
 pub const F4_CLEAR: u8 = 33;
 
-// How many there are.
+// How many places there are, that of an idle task with them.
 pub const PLACES: u8 = 34;
 
-// From the place of a move's head read to that of its next, and to that of its exchange.
+// The next and the exchange of a move are so many places past its head read.
 pub const TO_NEXT: u8 = 1;
 
 pub const TO_EXCHANGE: u8 = 2;

@@ -101,8 +101,7 @@ module _ (lent left : Memories) (r : ℕ) where
       (numberOf (stepAt v (link (lent .area)) (v Regions) t (v (TaskClass t)) (v (TaskPlace t)) .answer))
   step-refused-first t C = C .number ∙ step-first long (seen (lent .control)) t (link (lent .area))
 
-  -- .. and a step is refused by the numbers of its tests alone, and by 14, where the step at its place reads a bad
-  -- value
+  -- a step is refused by the numbers of its tests alone, and by 14, where the step at its place reads a bad value
   pub step-refused-by : (t : ℕ) → Contract (step t) lent left r → Refusal r → oneOf stepRefusals r ≡ true
   step-refused-by t C h =
       let o = Calls.stepOutcome long (seen (lent .control)) (link (lent .area)) t in
@@ -111,8 +110,8 @@ module _ (lent left : Memories) (r : ℕ) where
       subst (StepAnswers stepRefusals) (R .1) (step-ends long (seen (lent .control)) (link (lent .area)) t .answers) in
       ap (oneOf stepRefusals) (C .number ∙ ap numberOf (R .1)) ∙ G
 
-  -- .. and where all of its tests pass, by 14 alone: "14 comes where the bad value is read". A place past the step list
-  -- is such a value.
+  -- a step that passes all of its tests is refused by 14 alone: "14 comes where the bad value is read". A place past
+  -- the step list is such a value.
   pub step-refused-by-14 : (t : ℕ) → Contract (step t) lent left r
       → Passes (stepTests long (seen (lent .control)) t) → Refusal r → r ≡ 14
   step-refused-by-14 t C P h =
@@ -178,7 +177,7 @@ module _ (lent left : Memories) (r : ℕ) where
           ∙ step-place long (link (lent .area)) t (lent .control) bytes refl
 
       -- A task that is not in the push back comes to it exactly where it reads the head of the list of spare regions
-      -- and finds it empty;
+      -- and finds it empty.
       pub to-thirteen : (InPush Back (seen (lent .control) (TaskPlace t)) → ⊥)
           → InPush Back (seen (left .control) (TaskPlace t))
           ↔ (Tested long (seen (lent .control)) t × FindsEmpty Region (seen (lent .control)) t)
@@ -186,7 +185,7 @@ module _ (lent left : Memories) (r : ℕ) where
           let B = put-back long (seen (lent .control)) (link (lent .area)) t out in
           (λ i. B .0 (subst (InPush Back) left-place i), λ f. subst (InPush Back) (sym left-place) (B .1 f))
 
-      -- and a task that is in it stays there until it answers 13.
+      -- A task that is in the push back stays there until it answers 13.
       pub stays-thirteen : InPush Back (seen (lent .control) (TaskPlace t))
           → (r ≡ 13) ⊎ InPush Back (seen (left .control) (TaskPlace t))
       stays-thirteen here =
@@ -242,7 +241,7 @@ reached-tells h s p R a H P = tells-by a s p H (reached-agrees h s p R (eventOfA
 -- "For every list of calls with users' writes between them, the stepped run and the whole run (the plain pool) decide
 -- the same moves at the same calls, give the same code and value, never 14, and have after every call the same lists,
 -- chains and holders; each block of an open region is in exactly one place." Here the stepped run is made of the
--- contracts of the exported functions. From any control memory that is not started.
+-- contracts of the exported functions, from any control memory that is not started.
 pub run-told : (acts : List Act) (s : Memories) → Unstarted s → AllHappen acts s
     → Premises (eventsOfActs acts s) unstarted → Told acts s unstarted
 run-told acts s U R P = along-acts Tells reached-tells (from-unstarted U) acts R P
@@ -260,7 +259,8 @@ accepted-tests b lent l a t = rw (
   le-leb (b .tasks) TASKS (t .1),
 )
 
--- such a start agrees, and a run begins with it, on any memories and beside any pool
+-- a start whose lengths and number of tasks are right agrees, and a run begins with it, on any memories and beside any
+-- pool
 start-reaches : (s : Memories) (p : Pool) (b : Start) (control : ℕ) → control ≡ CONTROL-BYTES
     → Plain.StartArea (length (s .area))
     → Plain.StartTasks (b .tasks) → let e = Events.call (start b) (record { control = control; area = s .area }) in
@@ -271,7 +271,7 @@ start-reaches s p b control l a t =
     AgreesAt e s p × Reached (happened e s p ∷ []) (stepped e s .0) (whole e p .0))
     (sym l) (agreement-from-start [] s p b (s .area) a t tt .0, from-start s p b (s .area) a t)
 
--- The same from a start on any memories, whose lengths and number of tasks are right; it is accepted.
+-- What `run-told` says, from a start on any memories, whose lengths and number of tasks are right; it is accepted.
 pub run-told-from-start : (acts : List Act) (s left : Memories) (b : Start) (r : ℕ) (p : Pool)
     → length (s .control) ≡ CONTROL-BYTES → Plain.StartArea (length (s .area)) → Plain.StartTasks (b .tasks)
     → AllHappen (on-own (start b) left r ∷ acts) s

@@ -88,7 +88,7 @@ abbrev pub eventsOfActs : List Act → Memories → List Event
 eventsOfActs [] s = []
 eventsOfActs (a ∷ rest) s = eventOfAct a s ∷ eventsOfActs rest (afterAct a s)
 
--- the code, and CODES times the value: the number tells those of y
+-- The number tells the code and the value of y: it is the code, and CODES times the value.
 pub record Number (number : ℕ) (y : Answer) : Type 0 where
   pub code : number % CODES ≡ y .code
   pub value : number / CODES ≡ y .value
@@ -125,7 +125,7 @@ abbrev pub AlongActs : (Act → Memories → Pool → Type 0) → List Act → M
 AlongActs P [] s p = Unit {0}
 AlongActs P (a ∷ rest) s p = P a s p × AlongActs P rest (afterAct a s) (whole (eventOfAct a s) p .0)
 
--- every act of the run, in its order
+-- Every act of a run, in its order, is as `Tells` says.
 abbrev pub Told : List Act → Memories → Pool → Type 0
 Told = AlongActs Tells
 

@@ -67,7 +67,7 @@ call-good (free t u) lent s g =
     (λ a. I)))
 call-good (step t) lent s g = tested-good t lent s (stepOf t (s .mem)) g (λ l I. step-inv t l I)
 
--- So does every list of calls.
+-- Every list of calls of a good pool leaves a good pool.
 pub always : (cs : List (Call × Lengths)) (s : Pool) → Good s → Good (run cs s)
 unfolding run
 always [] s g = g

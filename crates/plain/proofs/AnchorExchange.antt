@@ -29,7 +29,7 @@ use Rattle.plain.proofs.PlaceAlone.{taskOf, lengths}
 -- ---- a descriptor that a task holds
 
 module _ {area : ℕ} {m : Mem} {t : ℕ} {T : Task} (w : Turn area m t T) where
-  -- It is one of the 64, and not FULL.
+  -- A descriptor that a task holds is one of the 64, and not FULL.
   pub in-hand : (d : ℕ) → 1 ≤ descriptorWeight d t T → (d < DESCRIPTORS) × (oneIfFull (m .descriptor d .state) ≡ 0)
   in-hand d h =
       let s = w .inv .descriptors d in
@@ -45,7 +45,7 @@ module _ {area : ℕ} {m : Mem} {t : ℕ} {T : Task} (w : Turn area m t T) where
         ),
       )
 
-  -- If it is held as spare, it is EMPTY.
+  -- A descriptor that a task holds as spare is EMPTY.
   pub spare-empty : (d : ℕ) → 1 ≤ spareWeight d t T → m .descriptor d .state ≡ EMPTY
   spare-empty d h = empty-is (m .descriptor d .state) (omega (
     arith,
@@ -54,7 +54,7 @@ module _ {area : ℕ} {m : Mem} {t : ℕ} {T : Task} (w : Turn area m t T) where
     ap (spareWeight d t) (w .is),
   ))
 
-  -- If it is held for a class, it is of that class.
+  -- A descriptor that a task holds for a class is of that class.
   pub class-of : (c d : ℕ) → c < CLASSES → 1 ≤ descriptorClassWeight c d t T → c ≡ m .descriptor d .class
   class-of c d l h = when-is c (m .descriptor d .class) 1 (omega (
     arith,
@@ -88,7 +88,7 @@ pub record Anchored (m : Mem) (d : ℕ) (E : Descriptor) (h h′ : Held) : Type 
   pub closed : IfEmpty (E .state) (ClosedDescriptor E)
 
 module _ {area : ℕ} {m : Mem} {t : ℕ} {p : Place} {k : ℕ → List ℕ} (w : Turn area m t (taskOf p k)) where
-  -- Such an exchange keeps the invariant.
+  -- An exchange of an anchor that shows what it has to show keeps the invariant.
   pub anchored : {h′ : Held} (p′ : Place) (d : ℕ) (E : Descriptor) → held p′ ≡ h′ → Anchored m d E (held p) h′
       → PlaceHolds k p′ → NoteHolds (m .row) (m .won) (m .map) p′
       → Invariant area (atPlace t k p′ (setDescriptor d E m))

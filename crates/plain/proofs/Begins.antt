@@ -48,7 +48,7 @@ module _ {area : ℕ} {m : Mem} (I : Invariant area m) (d u : ℕ) (l : d < DESC
   opened : OpenDescriptor (m .descriptor d)
   opened = open-holds (m .descriptor d .state) region-open (I .chains d l)
 
-  -- It is a block of an open region of the class.
+  -- The block of the free is a block of an open region of the class.
   is-block : 1 ≤ total DESCRIPTORS (insideClassWeight (m .descriptor d .class) u) (m .descriptor)
   is-block =
       let D = m .descriptor d in
@@ -61,13 +61,13 @@ module _ {area : ℕ} {m : Mem} (I : Invariant area m) (d u : ℕ) (l : d < DESC
         block-counts B,
       )
 
-  -- It is nowhere else.
+  -- The block of the free is in a user's hands once, and nowhere else.
   in-hands : m .hands u ≢ 0
       → (m .hands u ≡ 1) × (total TASKS (blockWeight u) (m .task) ≡ 0)
       × (total DESCRIPTORS (chainWeight u) (m .descriptor) ≡ 0)
   in-hands n = omega (arith, I .blocks u, inside-open I u)
 
-  -- So no task has it for the class, nor is it in a chain of the class.
+  -- No task has the block of the free for the class, nor is it in a chain of the class.
   for-no-class : m .hands u ≢ 0 → (total TASKS (blockClassWeight (m .descriptor d .class) u) (m .task) ≡ 0)
       × (total DESCRIPTORS (chainClassWeight (m .descriptor d .class) u) (m .descriptor) ≡ 0)
   for-no-class n =
@@ -102,14 +102,14 @@ module _ {area : ℕ} {m : Mem} (t : ℕ) (l : t < TASKS) (I : Invariant area m)
   turn : Turn area m t (taskOf idle (m .task t .cache))
   turn = turnAt I l e
 
-  -- The beginning of an allocate.
+  -- The beginning of an allocate keeps the invariant.
   pub allocate-inv : (size : ℕ) → KeepsInvariant area (beginAllocate t size m)
   allocate-inv size =
       either (KeepsInvariant area) (ℕ-discrete size 0) _ _ (λ a. I)
       (λ a. either (KeepsInvariant area) (decLt LARGEST-SIZE size) _ _ (λ b. I)
       (λ b. placed-empty turn _ refl refl (is-class size (omega arith)) tt))
 
-  -- The beginning of a free: the block leaves the user's hands and is under way.
+  -- The beginning of a free keeps the invariant: the block leaves the user's hands and is under way.
   pub free-inv : (d u : ℕ) → d < DESCRIPTORS → KeepsInvariant area (freeIn (m .descriptor d) t u m)
   free-inv d u h =
       let D = m .descriptor d in
@@ -139,7 +139,7 @@ module _ {area : ℕ} {m : Mem} (t : ℕ) (l : t < TASKS) (I : Invariant area m)
       })))
       (λ b. I)
 
-  -- The same by the map's entry of the unit's region.
+  -- The beginning of a free, by the map's entry of the unit's region, keeps the invariant.
   pub free-by-inv : (u z : ℕ) → z ≤ DESCRIPTORS → KeepsInvariant area (freeEntry z t u m)
   free-by-inv u zero h = I
   free-by-inv u (suc d) h = free-inv d u h

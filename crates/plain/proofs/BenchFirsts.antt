@@ -35,7 +35,7 @@ pub firsts-hold : map (λ r. last (r .1) (fresh (r .0))) firsts ≡ map (λ r. f
 unfolding plainCall stepOf startMem rising units perRegion update ℕ-discrete decLt decLe both fresh unstarted classOf
 firsts-hold = refl
 
--- and the step before does not
+-- the first allocation of 256 bytes is still under way at step 25
 pub not-before : map (λ r. last r (fresh 256)) (25 ∷ []) ≡ going nothing ∷ []
 unfolding plainCall stepOf startMem rising units perRegion update ℕ-discrete decLt decLe both fresh unstarted classOf
 not-before = refl

@@ -19,7 +19,7 @@ use Rattle.plain.specs.Blocks.{blocksFrom, countBlock}
 
 -- ---- k blocks from block i on
 
--- Such a row has k items.
+-- The row of k blocks from block i on has k items.
 pub length-blocks : (r c i k : ℕ) → length (blocksFrom r c i k) ≡ k
 length-blocks r c i zero = refl
 length-blocks r c i (suc k) = ap suc (length-blocks r c (suc i) k)
@@ -31,7 +31,7 @@ apart r c a i h = (
   λ e. omega (arith, mul-le-mul-left (units c) h, units-low c),
 )
 
--- A block before them is not among them.
+-- A block before block i is not in the row from block i on.
 before-them : (r c k i a : ℕ) → a < i → count (unitOf r c a) (blocksFrom r c i k) ≡ 0
 before-them r c zero i a h = refl
 before-them r c (suc k) i a h =
@@ -41,7 +41,7 @@ before-them r c (suc k) i a h =
       when-other (unitOf r c a) (unitOf r c i) 1 (apart r c a i h .0),
     )
 
--- Each of them stands there once.
+-- Each of the k blocks from block i on stands in their row once.
 among-them : (r c k i a : ℕ) → i ≤ a → a < i + k → count (unitOf r c a) (blocksFrom r c i k) ≡ 1
 among-them r c zero i a h l = absurd (omega arith)
 among-them r c (suc k) i a h l = elim (same? i a) [
@@ -53,7 +53,7 @@ among-them r c (suc k) i a h l = elim (same? i a) [
   )
 ]
 
--- What stands there is a block.
+-- What stands in the row of k blocks from block i on is a block, if they are among the n of the region.
 only-blocks : (r c v k i : ℕ) → i + k ≤ perRegion c → 1 ≤ count v (blocksFrom r c i k) → BlockOf r c v
 only-blocks r c v zero i l h = absurd (omega arith)
 only-blocks r c v (suc k) i l h = elim (same? v (unitOf r c i)) [
@@ -63,7 +63,7 @@ only-blocks r c v (suc k) i l h = elim (same? v (unitOf r c i)) [
 
 -- ---- all the blocks of a region
 
--- `countBlock` counts in the row of all of them.
+-- `countBlock` counts in the row of all the blocks of a region.
 pub isBlock-row : (v r c : ℕ) → countBlock v r c ≡ count v (blocksFrom r c 0 (perRegion c))
 unfolding countBlock
 isBlock-row v r c = refl
@@ -74,12 +74,12 @@ unfolding countBlock
 block-counts {r} {c} b =
     rw (b .is) (among-them r c (perRegion c) 0 (b .at) (omega arith) (omega (arith, b .below)))
 
--- What counts is a block.
+-- A unit that counts is a block.
 pub counts-block : (r c v : ℕ) → 1 ≤ countBlock v r c → BlockOf r c v
 unfolding countBlock
 counts-block r c v h = only-blocks r c v (perRegion c) 0 (omega arith) h
 
--- It counts at most 1, and only in the region that the unit lies in.
+-- A unit counts at most 1, and only in the region that it lies in.
 pub isBlock-region : (r c v : ℕ) → countBlock v r c ≤ one (regionOf v) r
 isBlock-region r c v = elim (order? 0 (countBlock v r c)) [
   | before h ↦ (let b : BlockOf r c v = counts-block r c v h in
@@ -89,12 +89,12 @@ isBlock-region r c v = elim (order? 0 (countBlock v r c)) [
 
 -- ---- the first unit of a block
 
--- What test 10 of a free finds to be the first unit of a block is a block, ..
+-- What test 10 of a free finds to be the first unit of a block is a block.
 pub first-is-block : (c u : ℕ) → First c u → BlockOf (regionOf u) c u
 first-is-block c u f =
     record { at = indexOf c u; below = f .1; is = omega (arith, div-add-mod (u % REGION-UNITS) (units c), f .0) }
 
--- .. and it finds every block to be one.
+-- Test 10 of a free finds every block to be the first unit of a block.
 pub block-is-first : {r c u : ℕ} → BlockOf r c u → First c u
 block-is-first {r} {c} {u} b =
     (omega (arith, div-add-mod (u % REGION-UNITS) (units c), unit-again b, region-is b), index-below b)

@@ -26,13 +26,13 @@ open-le-asked EMPTY m k h = omega arith
 open-le-asked PARTIAL m k h = h
 open-le-asked FULL m k h = h
 
--- An anchor that is not EMPTY counts everything, ..
+-- An anchor that is not EMPTY counts everything.
 pub open-is : (z : State) → NotEmpty z → IsOpen z
 open-is EMPTY h i = absurd h
 open-is PARTIAL h i = refl
 open-is FULL h i = refl
 
--- .. and one that counts anything is not EMPTY.
+-- An anchor that counts everything is not EMPTY.
 pub is-open : (z : State) → IsOpen z → NotEmpty z
 is-open EMPTY h = absurd (omega (arith, h 1))
 is-open PARTIAL h = tt
@@ -70,13 +70,13 @@ open-map FULL f x = f (λ i. refl) x
 
 -- ---- the states
 
--- A state that is not EMPTY has a larger number, ..
+-- A state that is not EMPTY has a larger number than EMPTY.
 pub not-empty : (z : State) → NotEmpty z → stateNumber EMPTY < stateNumber z
 not-empty EMPTY h = absurd h
 not-empty PARTIAL h = omega arith
 not-empty FULL h = omega arith
 
--- .. and one with a larger number is not EMPTY.
+-- A state with a larger number than EMPTY is not EMPTY.
 pub larger-is : (z : State) → stateNumber EMPTY < stateNumber z → NotEmpty z
 larger-is EMPTY h = absurd (omega arith)
 larger-is PARTIAL h = tt
@@ -88,7 +88,7 @@ pub data IsState (s : State) : Type 0 where
   is-partial : s ≡ PARTIAL → IsState s
   is-full : s ≡ FULL → IsState s
 
--- Which state it is.
+-- Which of the three a state is.
 pub state? : (s : State) → IsState s
 state? EMPTY = is-empty refl
 state? PARTIAL = is-partial refl

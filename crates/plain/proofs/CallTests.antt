@@ -31,7 +31,7 @@ by-tests Q t lent s x no-more h =
     (λ c. no-more 2 (omega arith))))
     (λ a. no-more 1 (omega arith))
 
--- a call that passes them does what follows
+-- a call that passes the tests 1, 4, 2, 5 does what follows them
 pub passed : {t : ℕ} {lent : Lengths} {s : Pool} (x : Result) → Tested t lent s → tested t lent s x ≡ became s x
 passed {t} {lent} {s} x T =
     if-yes (ℕ-discrete (lent .control) CONTROL-BYTES) _ _ (T .control-is)
@@ -58,7 +58,7 @@ start-tested b lent =
     by (yes c) (yes a) (yes t) = inr (record { control-is = c; area = a; tasks = t })
 
 module _ {b : Start} {lent : Lengths} where
-  -- a start that fails one is refused
+  -- a start that fails one of its tests is refused
   pub start-failed : (s : Pool) {n : ℕ} → StartFails b lent n → startCall b lent s ≡ refuse n s
   start-failed s (start-control h) = if-no (ℕ-discrete (lent .control) CONTROL-BYTES) _ _ h
   start-failed s (start-area c h) =
@@ -67,7 +67,7 @@ module _ {b : Start} {lent : Lengths} where
       if-yes (ℕ-discrete (lent .control) CONTROL-BYTES) _ _ c ∙ if-yes (startArea? (lent .area)) _ _ a
       ∙ if-no (startTasks? (b .tasks)) _ _ h
 
-  -- one that passes them begins a new run
+  -- a start that passes its tests begins a new run
   pub start-passed : (s : Pool) → StartTested b lent → startCall b lent s ≡ started b lent
   start-passed s T =
       if-yes (ℕ-discrete (lent .control) CONTROL-BYTES) _ _ (T .control-is)

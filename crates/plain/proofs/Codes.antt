@@ -31,7 +31,7 @@ isBack (back c d) = 1
 isBack (release c u d w r) = 0
 isBack (offer c u d) = 0
 
--- .. by what is noted
+-- 1 for what a push of a descriptor back has noted, else 0
 abbrev backNoted : Noted → ℕ
 backNoted unnoted = 0
 backNoted (pop-noted p φ) = 0
@@ -39,7 +39,7 @@ backNoted (push-noted p φ) = isBack p
 backNoted (anchor-noted d n) = 0
 backNoted (entry-noted y d n) = 0
 
--- .. by place
+-- 1 at a place of a push of a descriptor back, else 0
 abbrev backAt : Place → ℕ
 backAt p = backNoted (noted p)
 
@@ -102,12 +102,12 @@ module _ (t : ℕ) (m : Mem) where
     won = w;
   }
 
-  -- Such a step that goes on, ..
+  -- A step that sets the task to T, wins at most one exchange of a list, goes to no push back and goes on.
   goes : {x : Mem} {e : Decided} (T : Task) → x .task ≡ update (m .task) t T → backAt (T .place) ≡ 0
       → ((ℓ : ℕ) → x .won ℓ ≤ m .won ℓ + 1) → StepFacts t m (x, going e)
   goes {x} {e} T h b w = on x (going e) T h under-way plain-0 b w
 
-  -- .. and one that finishes.
+  -- A step that sets the task to T, wins at most one exchange of a list, goes to no push back and finishes.
   done : {x : Mem} {v : ℕ} (T : Task) → x .task ≡ update (m .task) t T → backAt (T .place) ≡ 0
       → ((ℓ : ℕ) → x .won ℓ ≤ m .won ℓ + 1) → StepFacts t m (x, finished v)
   done {x} {v} T h b w = on x (finished v) T h finishes plain-20 b w

@@ -39,7 +39,7 @@ pub record DescriptorsExchanged (ℓ : ℕ) (r q : List ℕ) (h h′ : Held) : T
   pub regions : (x : ℕ) → regionIn x h′ ≡ regionIn x h
   pub unmapped : (x : ℕ) → unmappedIn x h′ ≤ unmappedIn x h
 
--- what an exchange of the list of spare regions, from the row r to q, has to show of it
+-- what an exchange of the list of spare regions, from the row r to q, has to show of what the task has under way
 pub record RegionsExchanged (r q : List ℕ) (h h′ : Held) : Type 0 where
   pub blocks : (v : ℕ) → blockIn v h′ ≡ blockIn v h
   pub blockClasses : (c v : ℕ) → classBlockIn c v h′ ≤ classBlockIn c v h
@@ -91,7 +91,7 @@ module _ {area : ℕ} {m : Mem} {t : ℕ} {p : Place} {k : ℕ → List ℕ} (w 
     exchanges = exchanged m ℓ q;
   })
 
-  -- So does one of the list of spare regions.
+  -- An exchange of the list of spare regions keeps the invariant.
   pub released : {h′ : Held} (p′ : Place) (q : List ℕ) → held p′ ≡ h′
       → RegionsExchanged (m .row SPARE-REGIONS) q (held p) h′
       → PlaceHolds k p′

@@ -47,7 +47,7 @@ module _ {area : ℕ} {m : Mem} {t : ℕ} {p : Place} {k : ℕ → List ℕ} {c 
       let o = owner w y d (omega (arith, counted y, when-same y 1)) (G .named) in
       record { fits = o .fits; counts = o .counts; class = o .class ∙ G .class; region = o .region }
 
-  -- What holds of it.
+  -- What holds of the descriptor of an open region holds of that of the group's region.
   pub group-opened : OpenDescriptor (m .descriptor d)
   group-opened = open-holds (m .descriptor d .state) (group-owner .counts) (w .inv .chains d (group-owner .fits))
 
@@ -78,7 +78,8 @@ module _ {area : ℕ} {m : Mem} {t : ℕ} {p : Place} {k : ℕ → List ℕ} {c 
       let e : f .d ≡ d = omega (arith, f .named, ap (m .map) (same-region v h), G .named) in
       block-counts (rw (← e) (f .block))
 
-  -- So are the group and the chain together, each block once, and the block being freed is not among them.
+  -- The group and the chain together have blocks of the region alone, each once, and the block being freed is not among
+  -- them.
   pub group-joined : (v : ℕ)
       → (count v (y ∷ (g ++ m .descriptor d .chain)) ≡ count v (y ∷ g) + count v (m .descriptor d .chain))
       × (count v (y ∷ (g ++ m .descriptor d .chain)) ≤ countBlock v (m .descriptor d .region) (m .descriptor d .class))
@@ -107,7 +108,7 @@ module _ {area : ℕ} {m : Mem} {t : ℕ} {p : Place} {k : ℕ → List ℕ} {c 
   pub group-fits : length (y ∷ (g ++ m .descriptor d .chain)) ≤ perRegion c
   group-fits = omega (arith, pigeonhole (y ∷ (g ++ m .descriptor d .chain)) all among, all-length)
 
-  -- If they have n, they are all of the region's blocks.
+  -- If the group and the chain have n blocks, they are all of the region's blocks.
   pub group-whole : length (y ∷ (g ++ m .descriptor d .chain)) ≡ perRegion c → (v : ℕ)
       → countBlock v (m .descriptor d .region) (m .descriptor d .class) ≡ count v (y ∷ (g ++ m .descriptor d .chain))
   group-whole e v =

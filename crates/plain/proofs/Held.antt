@@ -10,10 +10,10 @@ use Rattle.plain.specs.Held.{held, holdsDescriptor, holdsSpare, holdsFor
 pub spare-held : (d : ℕ) (p : Place) → holdsSpare d p ≤ holdsDescriptor d p
 spare-held d p = omega arith
 
--- So is one held for a class, ..
+-- A descriptor held for a class is held.
 pub class-held : (c d : ℕ) (p : Place) → holdsForClass c d p ≤ holdsDescriptor d p
 class-held c d p = omega (arith, when-max c (held p .class) (count d (held p .listed)))
 
--- .. and a region held without an entry.
+-- A region held without an entry in the map is held.
 pub unmapped-held : (r : ℕ) (p : Place) → holdsUnmapped r p ≤ holdsRegion r p
 unmapped-held r p = omega arith

@@ -27,7 +27,7 @@ pop-note (next i) (one-more l) h = (omega arith, λ f. absurd (omega arith))
 pop-note (exchange i) (as-before e l) h = (omega arith, λ f. omega (arith, h .1 (omega arith)))
 pop-note (exchange i) (one-more l) h = (omega arith, λ f. absurd (omega arith))
 
--- So does a push's.
+-- A push's note stays true.
 push-note : {n : ℕ} {r : List ℕ} {n′ : ℕ} {q : List ℕ} (φ : Phase) → Exchanges n r n′ q
     → PushNote n φ → PushNote n′ φ
 push-note read x h = tt
@@ -36,7 +36,7 @@ push-note (next i) (one-more l) h = omega arith
 push-note (exchange i) (as-before e l) h = omega arith
 push-note (exchange i) (one-more l) h = omega arith
 
--- And every note of a task that has h under way, if the map's entries of its blocks' regions stay.
+-- Every note of a task that has h under way stays true, if the map's entries of its blocks' regions stay.
 pub note-kept : (m m′ : Mem) (h : Held) (n : Noted)
     → ((ℓ : ℕ) → Exchanges (m .won ℓ) (m .row ℓ) (m′ .won ℓ) (m′ .row ℓ))
     → ((y : ℕ) → 1 ≤ blockIn y h → m′ .map (regionOf y) ≡ m .map (regionOf y))

@@ -53,7 +53,7 @@ module _ {area : ℕ} {m : Mem} {t : ℕ} {p : Place} {k : ℕ → List ℕ} (w 
     unmapped = λ r. omega (arith, ap (unmappedIn r) e);
   }) (record { lengths = lengths; place = h; note = n })
 
-  -- So does a step between places that hold nothing, of whatever class.
+  -- A step between places that hold nothing, of whatever class, keeps the invariant.
   pub placed-empty : {c e : ℕ} (p′ : Place) → held p ≡ hold c [] [] [] [] → held p′ ≡ hold e [] [] [] []
       → PlaceHolds k p′ → NoteHolds (m .row) (m .won) (m .map) p′ → Invariant area (atPlace t k p′ m)
   placed-empty {c} {e} p′ a b h n = within w (taskOf p′ k) (record {

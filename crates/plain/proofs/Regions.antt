@@ -34,7 +34,7 @@ use Rattle.plain.proofs.AnchorExchange.{in-hand, spare-empty}
 
 -- ---- a region that a task holds
 
--- It is not open.
+-- A region that a task holds is not open.
 pub no-open : {area : ℕ} {m : Mem} {t : ℕ} {T : Task} (w : Turn area m t T) (r : ℕ) → 1 ≤ regionWeight r t T
     → total DESCRIPTORS (openWeight r) (m .descriptor) ≡ 0
 no-open {area} {m} {t} w r h = omega (
@@ -45,7 +45,7 @@ no-open {area} {m} {t} w r h = omega (
   ap (regionWeight r t) (w .is),
 )
 
--- So its entry in the map may be written: the entries of open regions still name their descriptors, ..
+-- The entry of a region that is not open may be written: the entries of open regions still name their descriptors.
 maps-kept : {area : ℕ} {m : Mem} (I : Invariant area m) (r z : ℕ) → total DESCRIPTORS (openWeight r) (m .descriptor) ≡ 0
     → (j : ℕ) → j < DESCRIPTORS
     → IfOpen (m .descriptor j .state) (update (m .map) r z (m .descriptor j .region) ≡ suc j)
@@ -62,7 +62,7 @@ maps-kept {m = m} I r z h j l =
       when-same r 1,
     ))
 
--- .. as they did.
+-- The entry of a region that is not open may be written: the entries of open regions are as they were.
 entries-kept : (m : Mem) (r z : ℕ) → total DESCRIPTORS (openWeight r) (m .descriptor) ≡ 0
     → (x : ℕ) → 1 ≤ total DESCRIPTORS (openWeight x) (m .descriptor) → update (m .map) r z x ≡ m .map x
 entries-kept m r z h x g =
@@ -169,7 +169,7 @@ module _ {area : ℕ} {m : Mem} {t : ℕ} {k : ℕ → List ℕ} where
       empty : m .descriptor d .state ≡ EMPTY
       empty = spare-empty w d (omega (arith, when-same d 1))
 
-      -- so the descriptor counted for nothing
+      -- the descriptor, which was EMPTY, counted for nothing
       shut : (i : ℕ) → ifOpen (m .descriptor d .state) i ≡ 0
       shut i = ap (λ (s : State). ifOpen s i) empty
 

@@ -38,7 +38,7 @@ owed-full FULL EMPTY x d e = absurd (omega arith)
 owed-full FULL PARTIAL x d e = absurd (omega arith)
 owed-full FULL FULL x d e = omega arith
 
--- It owes no other descriptor.
+-- A free owes no descriptor but d, and d at most once.
 owed-le : (s : State) (x d : ℕ) → count x (owed s d) ≤ one x d
 owed-le EMPTY x d = omega arith
 owed-le PARTIAL x d = omega arith

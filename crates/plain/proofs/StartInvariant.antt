@@ -22,14 +22,14 @@ use Rattle.plain.specs.Invariant.{never-opened, Invariant}
 
 -- ---- the n items from i on
 
--- An item before them is not among them.
+-- An item before i is not among the n items from i on.
 rising-before : (n i d : ℕ) → d < i → count d (rising n i) ≡ 0
 unfolding rising
 rising-before zero i d h = refl
 rising-before (suc n) i d h =
     omega (arith, rising-before n (suc i) d (omega arith), when-other d i 1 (omega arith))
 
--- The others are among them once, up to the last.
+-- An item from i on is among the n items from i on once, if it is below i + n, and else not.
 rising-from : (n i d : ℕ) → i ≤ d → count d (rising n i) ≡ below d (i + n)
 unfolding rising
 rising-from zero i d h = sym (below-no d (i + 0) (omega arith))
@@ -48,7 +48,7 @@ rising-from (suc n) i d h = elim (same? d i) [
 pub rising-count : (n d : ℕ) → count d (rising n 0) ≡ below d n
 rising-count n d = rising-from n 0 d (omega arith) ∙ ap (below d) (omega arith)
 
--- It has n items.
+-- The row of n items from i on has n items.
 pub length-rising : (n i : ℕ) → length (rising n i) ≡ n
 unfolding rising
 length-rising zero i = refl

@@ -197,7 +197,7 @@ module _ {area : ℕ} {m : Mem} {t : ℕ} {T : Task} (w : Turn area m t T) where
 
 -- ---- a step that changes the task alone
 
--- what such a step has to show
+-- what a step that changes the task alone has to show
 pub record Within (t : ℕ) (T T′ : Task) : Type 0 where
   pub blocks : (v : ℕ) → blockWeight v t T′ ≡ blockWeight v t T
   pub blockClasses : (c v : ℕ) → blockClassWeight c v t T′ ≤ blockClassWeight c v t T
@@ -208,7 +208,7 @@ pub record Within (t : ℕ) (T T′ : Task) : Type 0 where
   pub unmapped : (r : ℕ) → unmappedWeight r t T′ ≤ unmappedWeight r t T
 
 module _ {area : ℕ} {m : Mem} {t : ℕ} {T : Task} (w : Turn area m t T) where
-  -- Such a step keeps the invariant.
+  -- A step that changes the task alone, and shows what it has to show, keeps the invariant.
   pub within : (T′ : Task) → Within t T T′ → TaskHolds m T′ → Invariant area (setTask t T′ m)
   within T′ s o = turn-inv w _ T′ refl (record {
     descriptors = λ x. omega (arith, s .descriptors x);

@@ -63,19 +63,19 @@ startMem regions = record {
   task = λ t. record { place = idle; cache = λ c. [] };
 }
 
--- "2 area length zero, no multiple of 4,096 or above 65,536"
+-- "2 area length zero, no multiple of 4,096 or above 65,536": the area's length passes this test
 abbrev pub StartArea : ℕ → Type 0
 StartArea area = (area % REGION-BYTES ≡ 0) × ((0 < area) × (area ≤ AREA-BYTES))
 
--- whether it is so
+-- whether the area's length passes test 2 of a start
 abbrev pub startArea? : (area : ℕ) → Dec (StartArea area)
 startArea? area = both (ℕ-discrete (area % REGION-BYTES) 0) (both (decLt 0 area) (decLe area AREA-BYTES))
 
--- "3 tasks not 1 to 8"
+-- "3 tasks not 1 to 8": the number of tasks passes this test
 abbrev pub StartTasks : ℕ → Type 0
 StartTasks n = (1 ≤ n) × (n ≤ TASKS)
 
--- whether it is so
+-- whether the number of tasks passes test 3 of a start
 abbrev pub startTasks? : (n : ℕ) → Dec (StartTasks n)
 startTasks? n = both (decLe 1 n) (decLe n TASKS)
 
@@ -85,7 +85,7 @@ pub record StartTested (b : Start) (lent : Lengths) : Type 0 where
   pub area : StartArea (lent .area)
   pub tasks : StartTasks (b .tasks)
 
--- the first of them that fails refuses the start by its number; those before it pass
+-- the first of the tests 1, 2, 3 of a start that fails refuses it by its number; those before it pass
 pub data StartFails (b : Start) (lent : Lengths) : ℕ → Type 0 where
   start-control : lent .control ≢ CONTROL-BYTES → StartFails b lent 1
   start-area : lent .control ≡ CONTROL-BYTES → (StartArea (lent .area) → ⊥) → StartFails b lent 2
@@ -111,7 +111,7 @@ NotEmpty EMPTY = ⊥
 NotEmpty PARTIAL = Unit {0}
 NotEmpty FULL = Unit {0}
 
--- whether it is so
+-- whether a state is not EMPTY
 abbrev pub notEmpty? : (s : State) → Dec (NotEmpty s)
 notEmpty? EMPTY = no (λ x. x)
 notEmpty? PARTIAL = yes tt
@@ -122,15 +122,15 @@ notEmpty? FULL = yes tt
 abbrev pub Opens : Descriptor → ℕ → Type 0
 Opens D r = (D .region ≡ r) × NotEmpty (D .state)
 
--- whether it is so
+-- whether the descriptor D opens the region r
 abbrev pub opens? : (D : Descriptor) (r : ℕ) → Dec (Opens D r)
 opens? D r = both (ℕ-discrete (D .region) r) (notEmpty? (D .state))
 
--- the first unit of a block of the class c in its region
+-- u is the first unit of a block of the class c in its region
 abbrev pub First : ℕ → ℕ → Type 0
 First c u = (u % REGION-UNITS % units c ≡ 0) × (indexOf c u < perRegion c)
 
--- whether it is so
+-- whether u is the first unit of a block of the class c in its region
 abbrev pub first? : (c u : ℕ) → Dec (First c u)
 first? c u = both (ℕ-discrete (u % REGION-UNITS % units c) 0) (decLt (indexOf c u) (perRegion c))
 
@@ -143,7 +143,7 @@ freeIn D t u m =
     (if (ℕ-discrete (m .hands u) 0) (m, refused 11) (setTask t T (setHands u 0 m), going nothing))
     (m, refused 10)
 
--- the map's entry of the unit's region
+-- the beginning of a free, by the map's entry of the unit's region: none, or a descriptor's number plus one
 abbrev pub freeEntry : ℕ → ℕ → ℕ → Mem → Result
 freeEntry zero t u m = (m, refused 10)
 freeEntry (suc d) t u m = freeIn (m .descriptor d) t u m

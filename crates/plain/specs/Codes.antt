@@ -68,7 +68,7 @@ pub record EndsBy12 (s : Pool) (a : Answer) : Type 0 where
   pub reads : ReadsNoSpare t (s .mem)
   pub decided : a .decided ≡ found-empty SPARE-DESCRIPTORS
 
--- it is a step that wins the exchange that pushes a descriptor back
+-- the call that was answered a is a step that wins the exchange that pushes a descriptor back
 pub record EndsBy13 (s : Pool) (a : Answer) : Type 0 where
   pub t : ℕ
   pub d : ℕ

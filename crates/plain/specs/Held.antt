@@ -36,7 +36,7 @@ popHeld (partial c) = hold c [] [] [] []
 popHeld (spare c) = hold c [] [] [] []
 popHeld (region c d) = hold c [] (d ∷ []) [] []
 
--- .. and in a push
+-- what a task has under way in a push, whatever its phase
 abbrev pub pushHeld : Push → Held
 pushHeld (retire c d) = hold c [] (d ∷ []) [] []
 pushHeld (back c d) = hold c [] (d ∷ []) [] []
@@ -62,67 +62,67 @@ heldAt (f3-exchange c u y g d n) = hold c (u ∷ y ∷ g) [] [] []
 heldAt (f4-clear c u d w r) =
     record { class = c; blocks = u ∷ []; spares = []; listed = owed w d; regions = []; closing = r ∷ [] }
 
--- an idle task has nothing under way
+-- what a task has under way at its place: an idle one has nothing
 abbrev pub held : Place → Held
 held idle = hold 0 [] [] [] []
 held (working w) = heldAt w
 
 -- ---- how often something is under way
 
--- the block v
+-- how often the block v is under way
 abbrev pub blockIn : ℕ → Held → ℕ
 blockIn v h = count v (h .blocks)
 
--- .. for the class c
+-- how often the block v is under way for the class c
 abbrev pub classBlockIn : ℕ → ℕ → Held → ℕ
 classBlockIn c v h = when c (h .class) (count v (h .blocks))
 
--- the descriptor d
+-- how often the descriptor d is under way, as spare or for a partial list
 abbrev pub descriptorIn : ℕ → Held → ℕ
 descriptorIn d h = count d (h .spares) + count d (h .listed)
 
--- .. as spare
+-- how often the descriptor d is under way as spare
 abbrev pub spareIn : ℕ → Held → ℕ
 spareIn d h = count d (h .spares)
 
--- .. for the partial list of the class c
+-- how often the descriptor d is under way for the partial list of the class c
 abbrev pub listedIn : ℕ → ℕ → Held → ℕ
 listedIn c d h = when c (h .class) (count d (h .listed))
 
--- the region r
+-- how often the region r is under way, with an entry in the map or without
 abbrev pub regionIn : ℕ → Held → ℕ
 regionIn r h = count r (h .regions) + count r (h .closing)
 
--- .. without an entry in the map
+-- how often the region r is under way without an entry in the map
 abbrev pub unmappedIn : ℕ → Held → ℕ
 unmappedIn r h = count r (h .regions)
 
--- ---- the same of a place
+-- ---- what a task at a place has under way
 
--- the class of what is under way
+-- the class of what a task at the place p has under way
 abbrev pub classAt : Place → ℕ
 classAt p = held p .class
 
--- the blocks under way
+-- the blocks that a task at the place p has under way
 abbrev pub underWay : Place → List ℕ
 underWay p = held p .blocks
 
--- how often the descriptor d is held
+-- how often a task at the place p holds the descriptor d
 abbrev pub holdsDescriptor : ℕ → Place → ℕ
 holdsDescriptor d p = descriptorIn d (held p)
 
--- .. as spare
+-- how often a task at the place p holds the descriptor d as spare
 abbrev pub holdsSpare : ℕ → Place → ℕ
 holdsSpare d p = spareIn d (held p)
 
--- .. for the partial list of the class c
+-- how often a task at the place p holds the descriptor d for the partial list of the class c
 abbrev pub holdsForClass : ℕ → ℕ → Place → ℕ
 holdsForClass c d p = listedIn c d (held p)
 
--- how often the region r is held
+-- how often a task at the place p holds the region r
 abbrev pub holdsRegion : ℕ → Place → ℕ
 holdsRegion r p = regionIn r (held p)
 
--- .. without an entry in the map
+-- how often a task at the place p holds the region r without an entry in the map
 abbrev pub holdsUnmapped : ℕ → Place → ℕ
 holdsUnmapped r p = unmappedIn r (held p)

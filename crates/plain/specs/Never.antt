@@ -33,7 +33,7 @@ pub record GroupNamed (m : Mem) (c y : ℕ) (g : List ℕ) : Type 0 where
   pub class : m .descriptor d .class ≡ c
   pub count : length (y ∷ (g ++ m .descriptor d .chain)) ≤ perRegion c
 
--- what never happens at a step of the task t
+-- what holds at a step of the task t: the cases that it rules out never happen, though the definitions speak of them
 pub record NeverHappens (m : Mem) (t : ℕ) : Type 0 where
   -- a pop's exchange whose list has the noted number finds a top item
   pub popExchange : (p : Pop) (n : ℕ) → m .task t .place ≡ working (popping p (exchange n)) → m .won (popList p) ≡ n

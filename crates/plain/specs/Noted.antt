@@ -11,7 +11,7 @@ pub data Noted : Type 0 where
   push-noted : Push → Phase → Noted
   -- "An anchor read notes the state and the chain's first block, if any, and length": that of the descriptor d
   anchor-noted : (d : ℕ) (n : Note) → Noted
-  -- .. which is the one that the map names for the region of the block y
+  -- what a free's anchor read notes: that of the descriptor d, which the map names for the region of the block y
   entry-noted : (y d : ℕ) (n : Note) → Noted
 
 -- what each place of a task at work has noted

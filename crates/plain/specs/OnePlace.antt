@@ -23,10 +23,10 @@ pub record OnePlace (m : Mem) (v : ℕ) : Type 0 where
   -- a block of an open region is once in a user's hands, or with a task, or in the region's chain
   pub once : (d : ℕ) → OpenBlock m v d
       → m .hands v + total TASKS (blockWeight v) (m .task) + count v (m .descriptor d .chain) ≡ 1
-  -- .. and it is with a task for its class alone
+  -- no task has a block of an open region for another class than the region's
   pub class : (d : ℕ) → OpenBlock m v d → (c : ℕ) → c ≢ m .descriptor d .class
       → total TASKS (blockClassWeight c v) (m .task) ≡ 0
-  -- a unit that is no such block is nowhere
+  -- a unit that is no block of an open region is nowhere
   pub nowhere : ((d : ℕ) → ¬ OpenBlock m v d)
       → (m .hands v ≡ 0) × (total TASKS (blockWeight v) (m .task) ≡ 0)
       × (total DESCRIPTORS (chainWeight v) (m .descriptor) ≡ 0)
@@ -35,11 +35,11 @@ pub record OnePlace (m : Mem) (v : ℕ) : Type 0 where
 pub record OnceListed (area : ℕ) (m : Mem) : Type 0 where
   -- a descriptor is at most once on all the lists of descriptors together
   pub descriptors : (d : ℕ) → total DESCRIPTOR-LISTS (rowWeight d) (m .row) ≤ 1
-  -- .. and so on each
+  -- a descriptor is at most once on each list of descriptors
   pub descriptor : (ℓ d : ℕ) → ℓ < DESCRIPTOR-LISTS → count d (m .row ℓ) ≤ 1
-  -- it is one of the 64
+  -- a descriptor on a list is one of the 64
   pub below : (ℓ d : ℕ) → ℓ < DESCRIPTOR-LISTS → 1 ≤ count d (m .row ℓ) → d < DESCRIPTORS
-  -- a region is at most once on the list of spare regions, ..
+  -- a region is at most once on the list of spare regions
   pub region : (r : ℕ) → count r (m .row SPARE-REGIONS) ≤ 1
-  -- .. and one of the area's
+  -- a region on the list of spare regions is one of the area's
   pub inArea : (r : ℕ) → 1 ≤ count r (m .row SPARE-REGIONS) → r < area

@@ -7,7 +7,7 @@ use Rattle.rows.specs.Update.{update}
 pub data State : Type 0 where
   EMPTY PARTIAL FULL : State
 
--- its number in an anchor's word
+-- the number of a state in an anchor's word
 abbrev pub stateNumber : State → ℕ
 stateNumber EMPTY = 0
 stateNumber PARTIAL = 1
@@ -69,7 +69,7 @@ pub data Work : Type 0 where
   -- block i of the region r is carved next
   a8 : (c r i : ℕ) → Work
   f1 : (c u : ℕ) → Work
-  -- the group so far
+  -- g is the group so far
   f2 : (c u : ℕ) (g : List ℕ) → Work
   f3-read : (c u y : ℕ) (g : List ℕ) → Work
   f3-link : (c u y : ℕ) (g : List ℕ) (d : ℕ) (n : Note) → Work

@@ -99,7 +99,7 @@ abbrev pub AsNoted : Descriptor → Note → Type 0
 AsNoted D n =
     ((stateNumber (D .state) ≡ stateNumber (n .state)) × (top (D .chain) ≡ n .first)) × (length (D .chain) ≡ n .length)
 
--- whether it is so
+-- whether the state, the first block and the length are all as noted
 abbrev pub asNoted? : (D : Descriptor) (n : Note) → Dec (AsNoted D n)
 asNoted? D n =
     both

@@ -64,7 +64,7 @@ HoldsAt k (f3-exchange c u y g d n) =
     × (n .length + suc (length g) ≤ perRegion c)
 HoldsAt k (f4-clear c u d w r) = RoomInCache k c
 
--- the same of an idle task, too, of which nothing is asked
+-- What holds of the caches k at a place: of an idle task nothing is asked.
 abbrev pub PlaceHolds : (ℕ → List ℕ) → Place → Type 0
 PlaceHolds k idle = Unit {0}
 PlaceHolds k (working w) = HoldsAt k w
@@ -91,7 +91,7 @@ NotedHolds row won map h (push-noted p φ) = PushNote (won (pushList p)) φ
 NotedHolds row won map h (anchor-noted d n) = 1 ≤ descriptorIn d h
 NotedHolds row won map h (entry-noted y d n) = (1 ≤ blockIn y h) × (map (regionOf y) ≡ suc d)
 
--- the note of a task, by its place
+-- what holds of the note of a task, by its place
 abbrev pub NoteHolds : (ℕ → List ℕ) → (won map : ℕ → ℕ) → Place → Type 0
 NoteHolds row won map p = NotedHolds row won map (held p) (noted p)
 

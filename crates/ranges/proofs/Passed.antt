@@ -27,7 +27,7 @@ passed {b} e h = sym e ∙ not-false b h
 pub shown-at : (test : ℕ → Bool) {x y : ℕ} {b s : Bool} → x ≡ y → b ≡ test x → b ≡ s → test y ≡ s
 shown-at test e d h = ap test (sym e) ∙ sym d ∙ h
 
--- ---- the same, where the value x that was tested is the field's, y
+-- ---- an answer b, tested as `!b`, where the value x that was tested is the field's, y
 
 pub failed-at : (test : ℕ → Bool) {x y : ℕ} {b : Bool} → x ≡ y → b ≡ test x → not b ≡ true → test y ≡ false
 failed-at test e d h = ap test (sym e) ∙ failed d h
@@ -35,7 +35,7 @@ failed-at test e d h = ap test (sym e) ∙ failed d h
 pub passed-at : (test : ℕ → Bool) {x y : ℕ} {b : Bool} → x ≡ y → b ≡ test x → not b ≡ false → test y ≡ true
 passed-at test e d h = ap test (sym e) ∙ passed d h
 
--- .. and n is the class's, m
+-- the value x, tested for n, is the field's, y, and n is the class's, m
 pub failed-for : (test : ℕ → ℕ → Bool) {n m x y : ℕ} {b : Bool} → n ≡ m → x ≡ y → b ≡ test n x → not b ≡ true
     → test m y ≡ false
 failed-for test {n} {m} {x} {y} f e d h = ap (λ k. test k y) (sym f) ∙ failed-at (test n) e d h
@@ -44,7 +44,7 @@ pub passed-for : (test : ℕ → ℕ → Bool) {n m x y : ℕ} {b : Bool} → n 
     → test m y ≡ true
 passed-for test {n} {m} {x} {y} f e d h = ap (λ k. test k y) (sym f) ∙ passed-at (test n) e d h
 
--- the same of a cache's top, whose fields are m and y
+-- the top x of k cached blocks that was tested is the field's, y, and k is the field's, m
 pub failed-top : (regions c k m x y : ℕ) {b : Bool} → k ≡ m → x ≡ y → b ≡ isTop regions c k x → not b ≡ true
     → isTop regions c m y ≡ false
 failed-top regions c k m x y f e d h = failed-for (isTop regions c) f e d h

@@ -35,7 +35,7 @@ linked-frame a (ends p) = ends p
 linked-frame a (links {u = u} {r = r} p k) =
     links {r = r} p (rw (a u (count-first u r)) (linked-frame (λ v h. a v (omega arith)) k))
 
--- It does so if only the link of a number that is no item of the row is changed.
+-- A row stays linked if only the link of a number that is no item of the row is changed.
 pub linked-update : {next code : ℕ → ℕ} {end f : ℕ} {r : List ℕ} (u x : ℕ)
     → count u r ≡ 0 → Linked next code end f r → Linked (update next u x) code end f r
 linked-update {next} {r = r} u x h =

@@ -20,7 +20,8 @@ pigeonhole (u ∷ r) s h =
     without : (p : Split u s) (v : ℕ) → count v r ≤ count v (p .front ++ p .back)
     without p v = omega (arith, h v, ap (count v) (p .is), count-remove v (p .front) u (p .back))
 
--- If it is as long as s, it has every item as often as s has it: with one more it would be too long.
+-- A row that has no item more often than s, and is as long as s, has every item as often as s has it: with one more it
+-- would be too long.
 pub pigeonhole-full : (r s : List ℕ) → ((v : ℕ) → count v r ≤ count v s)
     → length r ≡ length s → (v : ℕ) → count v r ≡ count v s
 pigeonhole-full r s h e v = elim (order? (count v r) (count v s)) [

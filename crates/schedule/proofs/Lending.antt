@@ -45,7 +45,7 @@ module _ (c a : List ℕ) (k : ℕ) (c′ : List ℕ) where
   shown-part q r C =
       subst (λ (z : List ℕ). Does (onPart q k) c a c′ z r) (put-same 0 k a) (lent-part q (midOf 0 k a) r C)
 
--- the same function of the memories
+-- a function that does f does g, if the two make the same of the memories
 pub does-as : {f g : Memories → Memories × ℕ} (c a c′ a′ : List ℕ) (r : ℕ)
     → g (record { control = c; area = a }) ≡ f (record { control = c; area = a }) → Does f c a c′ a′ r
     → Does g c a c′ a′ r
@@ -79,13 +79,13 @@ module _ (q : Call) (regions : ℕ) (c a : List ℕ) where
 
 -- a call that is lent what was started
 module _ (q : Call) (c a c′ : List ℕ) (k r : ℕ) (e : k ≡ REGION-BYTES * lentRegions (seen c)) where
-  -- .. and only reads it
+  -- a call that is lent what was started, and only reads it
   pub shown-does : Ensures q c (midOf 0 k a) c′ (midOf 0 k a) r → Does (onBytes q as-started) c a c′ a r
   shown-does C =
       does-as {f = onPart q (REGION-BYTES * lentRegions (seen c))} c a c′ a r refl
       (subst (λ (n : ℕ). Does (onPart q n) c a c′ a r) e (shown-part c a k c′ q r C))
 
-  -- .. and leaves part′ of it
+  -- a call that is lent what was started, and leaves part′ of it
   pub written-does : (part′ : List ℕ) → Ensures q c (midOf 0 k a) c′ part′ r
       → Does (onBytes q as-started) c a c′ (putMid 0 k a part′) r
   written-does part′ C =

@@ -35,7 +35,7 @@ onPart k n s =
     let e = effectOf k (record { control = s .control; area = midOf 0 n (s .area) }) in
     (record { control = e .control; area = putMid 0 n (s .area) (e .area) }, numberOf (e .answer))
 
--- "more than 4 regions is 2"
+-- a call, by what the stand lends it: "more than 4 regions is 2"
 abbrev pub onBytes : Call → Lends → Memories → Memories × ℕ
 onBytes k (named regions) s = cond (ltb STAND-REGIONS regions) (s, 2) (onPart k (REGION-BYTES * regions) s)
 onBytes k as-started s = onPart k (REGION-BYTES * lentRegions (seen (s .control))) s

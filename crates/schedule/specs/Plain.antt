@@ -10,7 +10,7 @@ use Rattle.control.specs.Answers.{CODES}
 use Rattle.schedule.specs.Stand.{STAND-REGIONS}
 use Rattle.schedule.specs.Stand.{Lends, named, as-started}
 
--- the code, and CODES times the value
+-- an answer as one number: the code, and CODES times the value
 abbrev pub answerNumber : Answer → ℕ
 answerNumber y = y .code + CODES * y .value
 
@@ -24,7 +24,7 @@ feeding k area p =
 abbrev pub regionsFed : Pool → ℕ
 regionsFed p = cond (eqb (p .tasks) 0) 0 (p .regions)
 
--- "more than 4 regions is 2"
+-- a call on the plain pool, by what the stand lends it: "more than 4 regions is 2"
 abbrev pub onPlain : Call → Lends → Pool → Pool × ℕ
 onPlain k (named regions) p = cond (ltb STAND-REGIONS regions) (p, 2) (feeding k (REGION-BYTES * regions) p)
 onPlain k as-started p = feeding k (REGION-BYTES * regionsFed p) p

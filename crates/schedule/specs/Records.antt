@@ -9,7 +9,7 @@ use Rattle.schedule.specs.declared.record.Entry.{Entry}
 use Rattle.schedule.specs.declared.record.Record.{Record}
 use Rattle.schedule.specs.declared.record.Record.the-variants.{Start, Allocate, Free, Step, Run, Bad}
 
--- the longest schedule: the stand reads no byte past these
+-- the longest schedule: "Input past 65,536 bytes is not read"
 abbrev pub INPUT-BYTES : ℕ
 INPUT-BYTES = 65536
 
@@ -33,27 +33,28 @@ STEP-KIND = 4
 abbrev pub RUN-KIND : ℕ
 RUN-KIND = 5
 
--- how many bytes a record has, its kind with it: "start (tasks, regions)"
+-- how many bytes a start has, its kind with it: "start (tasks, regions)"
 abbrev pub START-BYTES : ℕ
 START-BYTES = 3
 
--- "step (task)"
+-- how many bytes a step has, its kind with it: "step (task)"
 abbrev pub STEP-BYTES : ℕ
 STEP-BYTES = 2
 
--- a task, and a number in two bytes
+-- how many bytes an allocate, a free or a run has, its kind with it: a task, and a number in two bytes
 abbrev pub WIDE-BYTES : ℕ
 WIDE-BYTES = 4
 
--- where the body's numbers stand behind the record's first byte: the tasks of a start, or the task, in one byte
+-- how far behind a record's first byte its body has the tasks of a start, or the task, in one byte
 abbrev pub TASK-AT : ℕ
 TASK-AT = 1
 
--- the regions of a start, in one byte; or the size, the unit or the most steps
+-- how far behind a record's first byte its body has the regions of a start, in one byte; or the size, the unit or the
+-- most steps
 abbrev pub NUMBER-AT : ℕ
 NUMBER-AT = 2
 
--- "in two bytes, low first"
+-- how many bytes a size, a unit or the most steps have: "in two bytes, low first"
 abbrev pub NUMBER-BYTES : ℕ
 NUMBER-BYTES = 2
 
@@ -84,7 +85,7 @@ recordAt input at =
     Bad)
     Bad
 
--- the same with what its line repeats: "record from 0, kind byte"
+-- the record that begins at the byte `at`, with what its line repeats: "record from 0, kind byte"
 abbrev pub entryAt : List ℕ → ℕ → ℕ → Entry
 entryAt input at n = record { number = n; kind = getD input at 0; body = recordAt input at }
 

@@ -19,7 +19,7 @@ use Rattle.schedule.specs.Tally.{counted}
 abbrev pub STAND-REGIONS : ℕ
 STAND-REGIONS = 4
 
--- its bytes
+-- the bytes of the stand's area
 abbrev pub STAND-AREA : ℕ
 STAND-AREA = REGION-BYTES * STAND-REGIONS
 
@@ -43,7 +43,7 @@ module _ {S : Type 0} (call : Call → Lends → S → S × ℕ) where
       let x = call (step t) as-started s in
       cond (eqb (x .1) 0) (runs 0 t m (x .0)) x
 
-  -- "15 unknown kind or cut record"
+  -- what a record does, and its answer: "15 unknown kind or cut record"
   abbrev pub treated : Record → S → S × ℕ
   treated (Start tasks regions) s = call (start (record { tasks = tasks })) (named regions) s
   treated (Allocate t size) s = call (allocate t size) as-started s

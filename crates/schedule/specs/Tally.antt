@@ -4,15 +4,15 @@ use mathlib.Core.Bool.{cond}
 use lib.Dec.{eqb}
 use Rattle.schedule.specs.declared.tally.Tally.{Tally}
 
--- one more, in 64 bits
+-- one more than n, in 64 bits
 abbrev pub more : ℕ → ℕ
 more n = (n + 1) % 2 ^ 64
 
--- before the first record
+-- the tally before the first record
 abbrev pub noneCounted : Tally
 noneCounted = record { finished = 0; accepted = 0; others = 0 }
 
--- one more record of this code
+-- the tally with one more record of this code
 unfoldable pub counted : Tally → ℕ → Tally
 counted y code =
     cond (eqb code 20) (record { finished = more (y .finished); accepted = y .accepted; others = y .others })

@@ -41,7 +41,8 @@ use Rattle.stand_agreement.proofs.Fed.{SameStart, allocate-keeps, free-
 abbrev pub partOf : ℕ → Memories → Memories
 partOf n s = record { control = s .control; area = midOf 0 (REGION-BYTES * n) (s .area) }
 
--- No list has won more than n exchanges.
+-- The stand's memories beside the plain pool: a run reaches the part of them that is lent, and no list has won more
+-- than n exchanges.
 pub record Beside (n : ℕ) (s : Memories) (p : Pool) : Type 0 where
   pub area-is : length (s .area) ≡ STAND-AREA
   pub few : regionsFed p ≤ STAND-REGIONS
@@ -49,11 +50,11 @@ pub record Beside (n : ℕ) (s : Memories) (p : Pool) : Type 0 where
   pub reached : Reached history (partOf (regionsFed p) s) p
   pub most-won : AtMost n p
 
--- so the bytes that are lent are tied to the plain pool
+-- the memories that are lent are tied to the plain pool
 pub tied : {n : ℕ} {s : Memories} {p : Pool} → Beside n s p → Tied (partOf (regionsFed p) s) p
 tied B = reached-tied (B .reached)
 
--- after more calls
+-- what is beside the plain pool with at most n won exchanges is so with at most m, as after more calls
 pub later : {n m : ℕ} {s : Memories} {p : Pool} → n ≤ m → Beside n s p → Beside m s p
 later h B =
     record {

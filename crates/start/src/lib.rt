@@ -19,7 +19,7 @@ const CACHES: usize = layout::CACHES_OF_TASK * limits::TASKS;
 
 const BOTTOM: u16 = limits::UNITS as u16;
 
-// Every byte is zero.
+// Sets every byte to zero.
 fn clear(control: &mut [u8])
     ensures { λ r. ⌜ now (control .exit) ≡ replicate (length (now (control .entry))) 0 ⌝ }
 {
@@ -38,7 +38,7 @@ fn next_up(n: u8, i: u8) -> u8
     if i + 1 == n { 0 } else { i + 2 }
 }
 
-// The list of spare descriptors, all that there are.
+// Writes the nexts of the list of spare descriptors, all that there are.
 fn chain_descriptors(control: &mut [u8])
     requires { ⌜ Control (now control) ⌝ }
     ensures { λ r. ⌜ now (control .exit) ≡ filled DescriptorNext (nextUp DESCRIPTORS) DESCRIPTORS
@@ -51,7 +51,7 @@ fn chain_descriptors(control: &mut [u8])
     }
 }
 
-// The list of spare regions, all that the area has.
+// Writes the nexts of the list of spare regions, all that the area has.
 fn chain_regions(control: &mut [u8], regions: u8)
     requires { ⌜ Control (now control) × (regions ≤ REGIONS) ⌝ }
     ensures { λ r. ⌜ now (control .exit) ≡ filled RegionNext (nextUp regions) regions (now (control .entry)) ⌝ }
@@ -63,7 +63,7 @@ fn chain_regions(control: &mut [u8], regions: u8)
     }
 }
 
-// The top of each of the caches: no block.
+// Writes the top of each of the caches: no block.
 fn empty_caches(control: &mut [u8])
     requires { ⌜ Control (now control) ⌝ }
     ensures { λ r. ⌜ now (control .exit) ≡ filled TopOfCache (λ i. UNITS) CACHES (now (control .entry)) ⌝ }

@@ -29,7 +29,7 @@ module _ (v : View) (link : ℕ → ℕ) (regions t c : ℕ) where
 
   -- ---- step 1: "If the cache has a block, take the top, set its mark and finish. Else go on."
 
-  -- the top u of a cache of k blocks
+  -- the top u of a cache of k blocks is taken
   unfoldable pub a1Take : ℕ → ℕ → Outcome
   a1Take k u =
       cond (isBlock regions c u && isTop regions c (k - 1) (link u))
@@ -42,7 +42,7 @@ module _ (v : View) (link : ℕ → ℕ) (regions t c : ℕ) where
       [])
       bad
 
-  -- the step
+  -- step 1, by how many blocks the cache has
   unfoldable pub a1 : Outcome
   a1 =
       let k = v (CacheCount t c) in
@@ -53,7 +53,7 @@ module _ (v : View) (link : ℕ → ℕ) (regions t c : ℕ) where
   -- ---- step 3: "Read the anchor. EMPTY: push the descriptor on the spare list, then 2. Else exchange it for (FULL, n,
   -- 0); lost: read again."
 
-  -- the anchor of the descriptor d
+  -- the read of the anchor of the descriptor d
   unfoldable pub a3ReadOf : ℕ → Outcome
   a3ReadOf d =
       let word = v (Anchor d) in
@@ -109,7 +109,7 @@ module _ (v : View) (link : ℕ → ℕ) (regions t c : ℕ) where
       (u ⇒ top ∷ []))
       bad)
 
-  -- the step, by the task's region, index and number of blocks left
+  -- step 4, by the task's region, index and number of blocks left
   unfoldable pub a4 : Outcome
   a4 =
       let r = v (TaskRegion t) in
@@ -122,7 +122,7 @@ module _ (v : View) (link : ℕ → ℕ) (regions t c : ℕ) where
 
   -- ---- step 7: "One step writes the descriptor (FULL, n, 0) and the map."
 
-  -- the step, by the task's descriptor and region
+  -- step 7, by the task's descriptor and region
   unfoldable pub a7 : Outcome
   a7 =
       let d = v (TaskDescriptor t) in
@@ -148,7 +148,7 @@ module _ (v : View) (link : ℕ → ℕ) (regions t c : ℕ) where
       (accept nothing (TaskPlace t := A1 ∷ CacheTop t c := u ∷ CacheCount t c := (k + 1) ∷ []) (u ⇒ top ∷ []))
       (accept nothing (TaskIndex t := (i + 1) ∷ CacheTop t c := u ∷ CacheCount t c := (k + 1) ∷ []) (u ⇒ top ∷ []))
 
-  -- the step, by the task's region and index
+  -- step 8, by the task's region and index
   unfoldable pub a8 : Outcome
   a8 =
       let r = v (TaskRegion t) in

@@ -101,7 +101,7 @@ freeMarked v t u c =
     [])
     (refuse 11)
 
--- the class of the descriptor d, which opens the unit's region
+-- the unit u, whose region the descriptor d opens: "10 not the first unit of a block", by the class of d
 unfoldable pub freeOpen : View → ℕ → ℕ → ℕ → Outcome
 freeOpen v t u d =
     let c = v (DescriptorClass d) in
@@ -118,7 +118,7 @@ freeBy v regions t u d =
     (refuse 10))
     bad
 
--- the map's entry: none, or a descriptor
+-- the map's entry of the unit's region: none, or a descriptor's number plus one
 unfoldable pub freeEntry : View → ℕ → ℕ → ℕ → ℕ → Outcome
 freeEntry v regions t u entry =
     cond (eqb entry 0) (refuse 10) (cond (leb entry DESCRIPTORS) (freeBy v regions t u (entry - 1)) bad)
@@ -163,11 +163,11 @@ startIn b lent s =
 unfoldable pub allocateOutcome : Lengths → View → ℕ → ℕ → Outcome
 allocateOutcome lent v t size = tested lent v t (whenIdle v t (beginAllocate t size))
 
--- the beginning of a free
+-- the beginning of a free, by the lengths lent and the fields
 unfoldable pub freeOutcome : Lengths → View → ℕ → ℕ → Outcome
 freeOutcome lent v t u = tested lent v t (whenIdle v t (beginFree v (v Regions) t u))
 
--- "one call is one step of one task", by the links too
+-- "one call is one step of one task": by the lengths lent, the fields and the links
 unfoldable pub stepOutcome : Lengths → View → (ℕ → ℕ) → ℕ → Outcome
 stepOutcome lent v link t = tested lent v t (Steps.stepOf v link (v Regions) t)
 

@@ -19,7 +19,7 @@ pub record Given (memory : List ℕ) (r t c : ℕ) : Type 0 where
   pub task : t < TASKS
   pub class : c < CLASSES
 
--- the same, with an area of so many regions
+-- what `Given` says, and an area of the r started regions
 pub record GivenArea (memory blocks : List ℕ) (r t c : ℕ) : Type 0 where
   pub given : Given memory r t c
   pub area : length blocks ≡ REGION-BYTES * r

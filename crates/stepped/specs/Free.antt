@@ -34,7 +34,7 @@ module _ (v : View) (link : ℕ → ℕ) (regions t c : ℕ) where
       (over Freed nothing (TaskPlace t := IDLE ∷ CacheTop t c := u ∷ CacheCount t c := (k + 1) ∷ []) (u ⇒ top ∷ []))
       bad
 
-  -- the step
+  -- step 1, by how many blocks the cache has
   unfoldable pub f1 : Outcome
   f1 =
       let k = v (CacheCount t c) in
@@ -76,7 +76,7 @@ module _ (v : View) (link : ℕ → ℕ) (regions t c : ℕ) where
   abbrev pub f2Close : Outcome
   f2Close = accept nothing (TaskPlace t := F3-READ ∷ []) []
 
-  -- the top u of a cache of k blocks beside a group of g blocks
+  -- the top u of a cache of k blocks beside a group of g blocks: it goes into the group, or closes it
   unfoldable pub f2Top : ℕ → ℕ → ℕ → Outcome
   f2Top k u g =
       let r = v (TaskRegion t) in
@@ -85,7 +85,7 @@ module _ (v : View) (link : ℕ → ℕ) (regions t c : ℕ) where
       (cond (ltb r regions) (cond (eqb (regionOf u) r) (f2More k u g r) f2Close) bad))
       bad
 
-  -- the step
+  -- step 2, by how many blocks the cache and the group have
   unfoldable pub f2 : Outcome
   f2 =
       let k = v (CacheCount t c) in
@@ -97,7 +97,7 @@ module _ (v : View) (link : ℕ → ℕ) (regions t c : ℕ) where
   -- ---- step 3: "Read the anchor. Write the last link to its avail. Exchange: avail is the group's first, count grows
   -- by the group, state is EMPTY if count is now n, else PARTIAL. Lost: read again."
 
-  -- the anchor of the descriptor d, for a group of g blocks
+  -- the read of the anchor of the descriptor d, for a group of g blocks
   unfoldable pub f3ReadOf : ℕ → ℕ → Outcome
   f3ReadOf d g =
       let word = v (Anchor d) in
@@ -105,7 +105,7 @@ module _ (v : View) (link : ℕ → ℕ) (regions t c : ℕ) where
       (accept nothing (TaskPlace t := F3-LINK ∷ TaskDescriptor t := d ∷ TaskAnchor t := word ∷ []) [])
       bad
 
-  -- the descriptor that the map's entry of the group's region names
+  -- the read of the anchor of the descriptor that a map entry names, for a group of g blocks
   unfoldable pub f3ReadBy : ℕ → ℕ → Outcome
   f3ReadBy entry g = cond (oneTo DESCRIPTORS entry) (f3ReadOf (entry - 1) g) bad
 

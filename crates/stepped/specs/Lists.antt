@@ -45,7 +45,7 @@ pushPlace Offer = PUSH-OFFER
 pub data Items : Type 0 where
   descriptor-items region-items : Items
 
--- how many there are, in an area of so many regions
+-- how many items of a kind there are, in an area of so many regions
 abbrev pub howMany : Items → ℕ → ℕ
 howMany descriptor-items regions = DESCRIPTORS
 howMany region-items regions = regions
@@ -68,7 +68,7 @@ popList Partial c = c
 popList Spare c = SPARE-DESCRIPTORS
 popList Region c = SPARE-REGIONS
 
--- its items
+-- what the items of the list of a pop are
 abbrev pub popItems : Pop → Items
 popItems Partial = descriptor-items
 popItems Spare = descriptor-items
@@ -81,7 +81,7 @@ pushList Back c = SPARE-DESCRIPTORS
 pushList Release c = SPARE-REGIONS
 pushList Offer c = c
 
--- its items; the task has in hand the one that it pushes
+-- what the items of the list of a push are; the task has in hand the one that it pushes
 abbrev pub pushItems : Push → Items
 pushItems Retire = descriptor-items
 pushItems Back = descriptor-items
@@ -106,7 +106,8 @@ module _ (v : View) (regions t c : ℕ) where
 
   -- ---- pops
 
-  -- step 2 "Empty: go to 5", step 5 "Empty: end with 12", step 6 "Empty: push the descriptor back"
+  -- where a pop that finds its list empty leads: step 2 "Empty: go to 5", step 5 "Empty: end with 12", step 6 "Empty:
+  -- push the descriptor back"
   abbrev pub whenEmpty : Pop → Decided → Outcome
   whenEmpty Partial e = accept e (TaskPlace t := popPlace Spare ∷ []) []
   whenEmpty Spare e = over NoDescriptor e (TaskPlace t := IDLE ∷ []) []
@@ -130,7 +131,7 @@ module _ (v : View) (regions t c : ℕ) where
       (accept nothing (TaskPlace t := (popPlace p + TO-EXCHANGE) ∷ TaskNext t := next ∷ []) [])
       bad
 
-  -- the item is the noted head's
+  -- "read the item's next": the item is that of the noted head
   unfoldable pub popNext : Pop → Outcome
   popNext p =
       let item = itemOf (v (TaskHead t)) in
@@ -158,7 +159,7 @@ module _ (v : View) (regions t c : ℕ) where
 
   -- ---- pushes
 
-  -- "read head"
+  -- "read head": the head word is noted
   unfoldable pub pushRead : Push → Outcome
   pushRead p =
       let word = v (Head (pushList p c)) in
@@ -182,7 +183,7 @@ module _ (v : View) (regions t c : ℕ) where
   whenPushed Release e ws = cond (isState (v (TaskState t))) (f5 (v (TaskState t)) e ws) bad
   whenPushed Offer e ws = f6 e ws
 
-  -- "exchange"
+  -- "exchange": won where the head word is the noted one
   unfoldable pub pushExchange : Push → Outcome
   pushExchange p =
       let ℓ = pushList p c in

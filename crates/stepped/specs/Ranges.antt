@@ -8,32 +8,33 @@ use Rattle.limits.specs.Limits.{UNITS, MOST-BLOCKS}
 use Rattle.words.specs.Anchor.{PARTIAL, isState, anchorOf}
 use Rattle.classes.specs.Geometry.{regionOf, isFirst}
 
--- 1 to most
+-- whether x is from 1 to `most`
 abbrev pub oneTo : ℕ → ℕ → Bool
 oneTo most x = leb 1 x && leb x most
 
--- the first unit of a block of the class c in an area of so many regions
+-- whether u is the first unit of a block of the class c in an area of so many regions
 abbrev pub isBlock : ℕ → ℕ → ℕ → Bool
 isBlock regions c u = ltb (regionOf u) regions && isFirst c u
 
--- the top of k cached blocks, as a cache's field or the link of the block above names it: "the unit of the block below,
--- with 8,192 at the bottom"
+-- whether u is the top of k cached blocks, as a cache's field or the link of the block above names it: "the unit of the
+-- block below, with 8,192 at the bottom"
 abbrev pub isTop : ℕ → ℕ → ℕ → ℕ → Bool
 isTop regions c k u = cond (eqb k 0) (eqb u UNITS) (isBlock regions c u)
 
--- an anchor's word: a state, and an index and a count as large as any class has
+-- whether w is an anchor's word: a state, and an index and a count as large as any class has
 abbrev pub isAnchor : ℕ → Bool
 isAnchor w = isState (anchorOf w .state) && leb (anchorOf w .avail) MOST-BLOCKS && leb (anchorOf w .count) MOST-BLOCKS
 
--- a chain can be taken: the anchor is not "FULL, or PARTIAL with count 0", avail names a block, and the count does not
--- pass n
+-- whether a chain can be taken: the state is PARTIAL, not "FULL, or PARTIAL with count 0", avail names a block, and the
+-- count does not pass n
 abbrev pub hasChain : ℕ → ℕ → Bool
 hasChain n w = eqb (anchorOf w .state) PARTIAL && oneTo n (anchorOf w .count) && ltb (anchorOf w .avail) n
 
--- avail names a block where the chain has one
+-- whether the chain has no block, or avail names one
 abbrev pub hasFirst : ℕ → ℕ → Bool
 hasFirst n w = eqb (anchorOf w .count) 0 || ltb (anchorOf w .avail) n
 
--- a group of g blocks can be put before the chain: the count does not pass n
+-- whether a group of g blocks can be put before the chain: the chain has no block, or avail names one, and the count
+-- does not pass n
 abbrev pub hasRoom : ℕ → ℕ → ℕ → Bool
 hasRoom n g w = hasFirst n w && leb (anchorOf w .count + g) n

@@ -55,7 +55,7 @@ module _ (v : View) (link : ℕ → ℕ) (regions t c : ℕ) where
       ∷ f4Clear v link regions t c
       ∷ []
 
-  -- a place past the list is outside its range
+  -- the step at a place; a place past the list is outside its range
   unfoldable pub stepAt : ℕ → Outcome
   stepAt place = getD stepList place bad
 

@@ -12,7 +12,7 @@ use Rattle.control.specs.Places.{IDLE, PLACES}
 use Rattle.stepped.specs.Outcome.{Outcome, refuse, bad}
 use Rattle.stepped.specs.Steps.{stepList, stepAt, stepOf}
 
--- a number past a list gives the other value
+-- a number past a list of outcomes gives 14
 past : (os : List Outcome) (n : ℕ) → length os ≤ n → getD os n bad ≡ bad
 past [] n h = refl
 past (o ∷ os) zero h = absurd (omega (arith, h))
@@ -25,7 +25,7 @@ module _ (v : View) (link : ℕ → ℕ) (regions t c : ℕ) {place : ℕ} where
   unfolding stepAt
   at n p e = ap (λ (k : ℕ). getD (stepList v link regions t c) k bad) e ∙ p
 
-  -- the same place
+  -- equal places have the same step
   pub same : {n : ℕ} → place ≡ n → stepAt v link regions t c place ≡ stepAt v link regions t c n
   same e = ap (stepAt v link regions t c) e
 

@@ -58,7 +58,7 @@ pub fn step(control: &mut [u8], regions: usize, task: usize, class: usize, place
     match move_from(place - places::TO_EXCHANGE) {
         Move::Pop(pop) => return pops::exchange(control, regions, task, class, pop),
         Move::Push(push) => return pushes::exchange(control, regions, task, class, push),
-        // It is not reached: each of these places is one of the three of a move.
+        // This is not reached: each of these places is one of the three of a move.
         Move::Neither => return Answer::Refused(14),
     }
 }

@@ -19,7 +19,7 @@ pub block-link : (regions c u : ℕ) {m a : List ℕ} {t : ℕ} → GivenArea m 
     → UNIT-BYTES * u + UNIT-BYTES ≤ length a
 block-link regions c u l e = omega (arith, block-passed regions c u e, l .area)
 
--- its unit has a mark
+-- a block's unit has a mark
 pub block-unit : (regions c u : ℕ) {m a : List ℕ} {t : ℕ} → GivenArea m a regions t c → isBlock regions c u ≡ true
     → u < UNITS
 block-unit regions c u l e = omega (arith, block-passed regions c u e, l .given)

@@ -87,7 +87,7 @@ fn first_of(word: u64) -> u16
     anchor.avail as u16
 }
 
-// How many blocks the chain has. Caller: `exchange_of`, as before.
+// How many blocks the chain has, by its anchor's word. Caller: `exchange_of`, which has tested the word.
 fn count_of(word: u64) -> u16
     requires { ⌜ isAnchor word ≡ true ⌝ }
     ensures { λ r. ⌜ r ≡ anchorOf word .count ⌝ }

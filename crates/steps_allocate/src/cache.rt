@@ -84,7 +84,7 @@ fn take_top(
     finish(control, task, class, unit, left, below as u16)
 }
 
-// The step. Caller: the step of a task at A1.
+// Step 1. Caller: the step of a task at A1.
 pub fn take(control: &mut [u8], area: &[u8], regions: usize, task: usize, class: usize) -> Answer
     requires { ⌜ GivenArea (now control) (now area) regions task class ⌝ }
     ensures { λ r. ⌜ Done (a1 (seen (now (control .entry))) (link (now (area .entry))) regions task class)

@@ -38,7 +38,8 @@ struct MoveToCache {
     pub top: u16,
 }
 
-// Puts the block on top of the cache and goes on with the chain. Caller: `move_on`.
+// Puts the block on top of the cache and goes on with the chain; the block's link is the caller's to write. Caller:
+// `move_on`.
 fn push_next(control: &mut [u8], task: usize, class: usize, on: MoveOn)
     requires { ⌜ Control (now control) × (task < TASKS) × (class < CLASSES) × (on .count < MOST-BLOCKS) ⌝ }
     ensures { λ r. ⌜ now (control .exit) ≡ changed (TaskIndex task := on .next ∷ TaskLeft task := on .left
@@ -54,7 +55,8 @@ fn push_next(control: &mut [u8], task: usize, class: usize, on: MoveOn)
     caches::set_cache_count(control, task, class, count + 1);
 }
 
-// The same, and writes the block's link, the cache's top so far. Caller: `move_block`.
+// Puts the block on top of the cache, writes its link, the cache's top so far, and goes on with the chain. Caller:
+// `move_block`.
 fn move_on(control: &mut [u8], area: &mut [u8], task: usize, class: usize, on: MoveOn) -> Answer
     requires { ⌜ Control (now control) × (task < TASKS) × (class < CLASSES)
         × (UNIT-BYTES * (on .unit) + UNIT-BYTES ≤ length (now area)) × (on .count < MOST-BLOCKS) ⌝ }
@@ -116,7 +118,7 @@ struct NextOfChain {
     pub left: u16,
 }
 
-// Moves it. Caller: `step`, which has read and tested the numbers.
+// Moves the next block of the chain to the cache. Caller: `step`, which has read and tested the numbers.
 fn move_at(
     control: &mut [u8],
     area: &mut [u8],
@@ -150,7 +152,7 @@ fn move_at(
     move_block(control, area, task, class, moved)
 }
 
-// The step. Caller: the step of a task at A4.
+// Step 4. Caller: the step of a task at A4.
 pub fn step(
     control: &mut [u8],
     area: &mut [u8],

@@ -1,5 +1,5 @@
-// Steps 7 and 8, by which a region is opened for the class: "One step writes the descriptor (FULL, n, 0) and the map.
-// Put blocks 0 to n − 1 on the cache, one a step; then 1."
+// Steps 7 and 8, by which a region is opened for the class: "One step writes the descriptor (FULL, n, 0) and the map."
+// "Put blocks 0 to n − 1 on the cache, one a step; then 1."
 use crate::cache;
 use crate::units;
 use control::answer::Answer;

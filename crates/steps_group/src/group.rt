@@ -54,7 +54,8 @@ struct TopForGroup {
     pub group: u16,
 }
 
-// The same, and the region of the group.
+// The top of a cache that is taken into a group of the region `region`: how many blocks the cache has, the unit of its
+// top, and how many blocks the group has.
 struct TopForGroupIn {
     pub count: u16,
     pub unit: u16,

@@ -57,7 +57,8 @@ module _ (v : View) (regions t c : ℕ) (e : Decided) (ws : List Write) where
   unfolding f5 f5Follow
   f5-follows was = rw (chosen (eqb was FULL), f6-follows)
 
-  -- the same for a place that is known to be the one: after a match on it the outcome is that of its case
+  -- steps 6 and 5 have the outcome of a place that is known to be theirs: after a match on it the outcome is that of
+  -- its case
   pub f6-at : (r : Follow) → r ≡ f6Follow v t c → f6 v regions t c e ws ≡ following r t e ws
   f6-at r h = rw (f6-follows, ← h)
 

@@ -16,17 +16,17 @@ use Rattle.stepped.specs.Lists.{pushPlace}
 use Rattle.steps_lists.specs.declared.follow.Follow.{Follow}
 use Rattle.steps_lists.specs.declared.follow.Follow.the-variants.{One, Two, Offer, Bad}
 
--- step 6, by the blocks in the cache
+-- step 6 of a free, by the blocks in the cache
 unfoldable pub f6Follow : View → ℕ → ℕ → Follow
 f6Follow v t c =
     let k = v (CacheCount t c) in
     cond (leb k (perRegion c)) (cond (eqb k 0) One Two) Bad
 
--- step 5, by the state in which the anchor was found
+-- step 5 of a free, by the state in which the anchor was found
 unfoldable pub f5Follow : View → ℕ → ℕ → ℕ → Follow
 f5Follow v t c was = cond (eqb was FULL) Offer (f6Follow v t c)
 
--- the outcome of a step that goes on so, after the writes ws of the move e
+-- the outcome of a step after which a free goes on there, after the writes ws of the move e
 abbrev pub following : Follow → ℕ → Decided → List Write → Outcome
 following One t e ws = accept e (TaskPlace t := F1 ∷ ws) []
 following Two t e ws = accept e (TaskPlace t := F2 ∷ GroupCount t := 0 ∷ ws) []

@@ -11,19 +11,20 @@ use Rattle.control.specs.declared.moves.Push.the-variants.{Back}
 use Rattle.control.specs.Places.{IDLE, A3-READ, A7}
 use Rattle.stepped.specs.Lists.{popPlace, popList, popItems, pushPlace, handField}
 
--- allocate, step 2 "Empty: go to 5", step 5 "Empty: end with 12", step 6 "Empty: push the descriptor back"
+-- the place to which a pop that finds its list empty leads: allocate, step 2 "Empty: go to 5", step 5 "Empty: end with
+-- 12", step 6 "Empty: push the descriptor back"
 abbrev pub emptyPlace : Pop → ℕ
 emptyPlace Partial = popPlace Spare
 emptyPlace Spare = IDLE
 emptyPlace Region = pushPlace Back
 
--- the answer there
+-- the answer of a pop that finds its list empty
 abbrev pub emptyAnswer : Pop → Answer
 emptyAnswer Partial = Accepted
 emptyAnswer Spare = NoDescriptor
 emptyAnswer Region = Accepted
 
--- a won pop leads from step 2 to 3, from step 5 to 6, from step 6 to 7
+-- the place to which a won pop leads: from step 2 to 3, from step 5 to 6, from step 6 to 7
 abbrev pub poppedPlace : Pop → ℕ
 poppedPlace Partial = A3-READ
 poppedPlace Spare = popPlace Region

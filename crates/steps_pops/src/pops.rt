@@ -87,7 +87,7 @@ fn take(control: &mut [u8], task: usize, class: usize, pop: Pop, item: u8, word:
     lists::set_head(control, reason::pop_list(pop, class), word);
 }
 
-// Exchanges the head for the item's next: won where the head is the noted one, tag and all.
+// Exchanges the head for the item's next: won where the head word is the noted one, its tag with it.
 pub fn exchange(control: &mut [u8], regions: usize, task: usize, class: usize, pop: Pop) -> Answer
     requires { ⌜ Given (now control) regions task class ⌝ }
     ensures { λ r. ⌜ Done (popExchange (seen (now (control .entry))) regions task class pop)

@@ -129,7 +129,7 @@ fn won(control: &mut [u8], task: usize, class: usize, push: Push, list: usize, w
     }
 }
 
-// Exchanges the head for the item: won where the head is the noted one, tag and all.
+// Exchanges the head for the item: won where the head word is the noted one, its tag with it.
 pub fn exchange(control: &mut [u8], regions: usize, task: usize, class: usize, push: Push) -> Answer
     requires { ⌜ Given (now control) regions task class ⌝ }
     ensures { λ r. ⌜ Done (pushExchange (seen (now (control .entry))) regions task class push)

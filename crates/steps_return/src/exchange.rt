@@ -34,7 +34,7 @@ struct Stored {
     pub state: u8,
 }
 
-// Stores it. Callers: `won` and `go_on`.
+// Stores what every won exchange stores. Callers: `won` and `go_on`.
 fn store(control: &mut [u8], task: usize, stored: Stored)
     requires { ⌜ Control (now control) × (task < TASKS) × (stored .descriptor < DESCRIPTORS) ⌝ }
     ensures { λ r. ⌜ now (control .exit)

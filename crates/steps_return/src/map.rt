@@ -6,7 +6,7 @@ ghost use Rattle.control.specs.Layout.{seen};
 ghost use Rattle.stepped.specs.Done.{Given, Done};
 ghost use Rattle.stepped.specs.Free.{f4Clear};
 
-// Caller: the step of a task at F4_CLEAR.
+// Clears the map entry of the group's region. Caller: the step of a task at F4_CLEAR.
 pub fn clear(control: &mut [u8], regions: usize, task: usize, class: usize) -> Answer
     requires { ⌜ Given (now control) regions task class ⌝ }
     ensures { λ r. ⌜ ((link : ℕ → ℕ) → Done (f4Clear (seen (now (control .entry))) link regions task class)

@@ -2,7 +2,7 @@
 ghost use mathlib.Core.Path.{_≡_};
 ghost use Rattle.words.specs.Anchor.{anchorOf, anchorWord, returned, Room};
 
-// The state. Caller: the won exchange, which notes the state before.
+// The state of the anchor that a word holds. Caller: the won exchange, which notes the state before.
 pub fn state_of(word: u64) -> u8
     ensures { λ r. ⌜ r ≡ anchorOf word .state ⌝ }
 {
@@ -10,7 +10,7 @@ pub fn state_of(word: u64) -> u8
     anchor.state as u8
 }
 
-// The index of the first block. Caller: the step that writes the last link.
+// The index of the first block of the chain, by its anchor's word. Caller: the step that writes the last link.
 pub fn avail_of(word: u64) -> u32
     ensures { λ r. ⌜ r ≡ anchorOf word .avail ⌝ }
 {
@@ -18,7 +18,7 @@ pub fn avail_of(word: u64) -> u32
     anchor.avail
 }
 
-// The number of blocks. Caller: the won exchange.
+// How many blocks the chain has, by its anchor's word. Caller: the won exchange.
 pub fn count_of(word: u64) -> u32
     ensures { λ r. ⌜ r ≡ anchorOf word .count ⌝ }
 {

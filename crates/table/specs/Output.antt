@@ -40,6 +40,6 @@ Plays input out out′ r = Appended out out′ 0 (output input zeros) r
 unfoldable pub plainOutput : List ℕ → List ℕ
 plainOutput input = tableText (table onPlain (length input) input 0 0 noneCounted unstarted)
 
--- the same claim about the plain pool: these bytes are its output for that input
+-- What the stand's program ensures, said of the plain pool: these bytes are its output for that input.
 abbrev pub PlaysPlain : (input out out′ : List ℕ) → ℕ → Type 0
 PlaysPlain input out out′ r = Appended out out′ 0 (plainOutput input) r

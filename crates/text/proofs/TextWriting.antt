@@ -15,7 +15,7 @@ pub none : (out : List ℕ) (at : ℕ) → at ≤ length out → Appended out ou
 none out at h = record { same-length = refl; end = omega arith; within = h; text-is = sym (append-nil (take at out)) }
 
 module _ {before after : List ℕ} {at r : ℕ} {text : List ℕ} (w : Appended before after at text r) where
-  -- one byte more
+  -- one byte more is written
   pub one-more : (v : ℕ) → r < length after → Appended before (set after r v) at (text ++ v ∷ []) (r + 1)
   one-more v h = record {
     same-length = length-set after r v ∙ w .same-length;
@@ -27,7 +27,7 @@ module _ {before after : List ℕ} {at r : ℕ} {text : List ℕ} (w : Appended 
         ∙ append-assoc (take at before) text (v ∷ []));
   }
 
-  -- another text behind it
+  -- another text is written behind the first
   pub both : {last : List ℕ} {q : ℕ} {more : List ℕ} → Appended after last r more q
       → Appended before last at (text ++ more) q
   both {last} {q} {more} x = record {

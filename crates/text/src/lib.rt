@@ -5,7 +5,7 @@ ghost use lib.ListN.{length};
 ghost use Rattle.text.specs.Texts.{decimal as decimalText, Appended};
 ghost use Rattle.text.specs.Lines.{FIELD-BYTES, LINE-ROOM, fieldText, columnsText, lineText, totalText};
 
-// Callers: `field`, and itself with all digits but the last.
+// A number in decimal. Callers: `field`, and itself with all digits but the last.
 fn decimal(out: &mut [u8], at: usize, number: u64) -> usize
     requires { ⌜ at + length (decimalText number) ≤ length (now out) ⌝ }
     ensures { λ r. ⌜ Appended (now (out .entry)) (now (out .exit)) at (decimalText number) r ⌝ }
@@ -30,7 +30,7 @@ fn field(out: &mut [u8], at: usize, number: u64, behind: u8) -> usize
     end + 1
 }
 
-// Callers: `columns`, and `total` for its first word.
+// A text, byte by byte. Callers: `columns`, and `total` for its first word.
 fn word(out: &mut [u8], at: usize, text: &[u8]) -> usize
     requires { ⌜ at + length (now text) ≤ length (now out) ⌝ }
     ensures { λ r. ⌜ Appended (now (out .entry)) (now (out .exit)) at (now (text .entry)) r ⌝ }

@@ -57,12 +57,12 @@ no-state s h = (λ e. omega (arith, leb-false s FULL e), λ e. lt-leb s FULL (om
 pub full-fits : (n : ℕ) → n < 2147483648 → AnchorFits (full n)
 full-fits n h = omega arith
 
--- EMPTY if count is now n
+-- a returned anchor is EMPTY if the count is now n
 pub returned-empty : (a : Anchor) (first group n : ℕ) → a .count + group ≡ n
     → record { state = EMPTY; avail = first; count = a .count + group } ≡ returned a first group n
 returned-empty a first group n e = rw eq-eqb
 
--- else PARTIAL
+-- a returned anchor is PARTIAL if the count is not n
 pub returned-partial : (a : Anchor) (first group n : ℕ) → a .count + group ≢ n
     → record { state = PARTIAL; avail = first; count = a .count + group } ≡ returned a first group n
 returned-partial a first group n e = rw ne-eqb
@@ -107,7 +107,7 @@ module _ (a b : Anchor) where
       let whole : anchor (a .state) (a .avail) (a .count) ≡ b = rw (p .0, p .1, p .2) in
       whole
 
-  -- one part that differs is enough
+  -- two anchors of which one part differs are not the same
   pub not-same : (a .state ≡ b .state → a .avail ≡ b .avail → a .count ≡ b .count → ⊥) → false ≡ sameAnchor a b
   not-same h = unless (sameAnchor a b) (λ e. let p = parts-equal e in h (p .0) (p .1) (p .2))
     where
@@ -120,11 +120,11 @@ module _ (a b : Anchor) where
       sym (same-counts (ap (λ (x : Anchor). x .state) e) (ap (λ (x : Anchor). x .avail) e))
       ∙ eq-eqb (a .count) (b .count) (ap (λ (x : Anchor). x .count) e)
 
-  -- won exactly where the anchors are equal
+  -- two anchors are the same exactly where they are equal
   pub same-anchors : (sameAnchor a b ≡ true) ↔ (a ≡ b)
   same-anchors = (same-equal, equal-same)
 
-  -- and so exactly where their words are
+  -- two anchors that fit are the same exactly where their words are equal
   pub same-words : AnchorFits a → AnchorFits b → (sameAnchor a b ≡ true) ↔ (anchorWord a ≡ anchorWord b)
   same-words f g = (λ e. ap anchorWord (same-equal e), λ e. equal-same (anchor-injective a b f g e))
 

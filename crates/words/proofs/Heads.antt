@@ -40,7 +40,7 @@ nextTag-below tag = omega arith
 pub nextTag-last : nextTag 4294967295 ≡ 0
 nextTag-last = refl
 
--- below that, one more
+-- a tag below 4,294,967,295 becomes one more
 pub nextTag-more : (tag : ℕ) → tag < 4294967295 → nextTag tag ≡ tag + 1
 nextTag-more tag h = omega arith
 

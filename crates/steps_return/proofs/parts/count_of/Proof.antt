@@ -1,4 +1,4 @@
--- It is a field of what the method gives.
+-- The count is a field of the anchor that the method gives.
 use borrow.Author.Needs.{needs}
 use Rattle.steps_return.proofs.parts.count_of.Statement.{statement}
 use Rattle.steps_return.proofs.parts.count_of.Tie as tie
