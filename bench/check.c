@@ -57,7 +57,7 @@ static int begin(struct schedule *schedule, size_t area_length, unsigned tasks)
     return 1;
 }
 
-/* The same call on damaged memories; afterwards all are again what the library's were. */
+/* A call of all contenders on damaged memories; afterwards all are again what the library's were. */
 static int agree_damaged(struct schedule *schedule, struct call call, size_t area_length)
 {
     static uint8_t control[POOL_CONTROL_BYTES];

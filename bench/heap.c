@@ -1,6 +1,7 @@
 /*
- * The same pairs with malloc and free, for orientation: of the C library, or of whatever is loaded before it. A heap is
- * made for other ends than the pool: it has no steps, no bound on one call and no refusals, and it works for threads.
+ * The pairs of the workloads with malloc and free, for orientation: of the C library, or of whatever is loaded before
+ * it. A heap is made for other ends than the pool: it has no steps, no bound on one call and no refusals, and it works
+ * for threads.
  *
  *   heap NAME                  times the workloads; a line is workload, contender, measure, value
  *   heap NAME WORKLOAD TURNS   so many turns of one workload, to be counted; NAME `none` calls functions that only return

@@ -24,10 +24,10 @@ struct schedule {
     unsigned sizes;       /* how many sizes are asked for in this phase, from few to many */
     unsigned left;        /* calls left of this phase */
     int filling;          /* whether this phase mostly allocates */
-    int sweeping;         /* whether it frees from the lowest unit up, so that regions empty; else any block */
+    int sweeping;         /* whether this phase frees from the lowest unit up, so that regions empty; else any block */
     int odd_calls;        /* whether calls that are to be refused are mixed in */
     int busy[8];          /* whether the task has a request in hand */
-    int allocating[8];    /* whether that is an allocation */
+    int allocating[8];    /* whether the task's request is an allocation */
     uint16_t held[8192];  /* the blocks in users' hands */
     unsigned held_count;
 };

@@ -54,8 +54,8 @@ static void carve_turn(const struct contender *contender, const struct workload 
         release(contender, workload, units[i]);
 }
 
-/* The same, freed alternately from the first half and the second: the groups of a full cache are single blocks, and
-   later both chains are taken and moved block by block. */
+/* All blocks of two regions are allocated, then freed alternately from the first half and the second: the groups of a
+   full cache are single blocks, and later both chains are taken and moved block by block. */
 static void chain_turn(const struct contender *contender, const struct workload *workload)
 {
     unsigned half = workload->pairs / 2;

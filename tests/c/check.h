@@ -7,7 +7,7 @@
 /* Counts one check and prints its name. */
 void check(const char *name, int holds);
 
-/* The same for an answer; where it is another one, both are printed. */
+/* Counts one check of an answer and prints its name; where the answer is another one, both are printed. */
 void check_answer(const char *name, uint64_t answer, unsigned code, uint64_t value);
 
 /* Prints 'N passed, M failed'; 0 only where nothing failed. */

@@ -30,7 +30,7 @@ struct damage {
     uint64_t number;
 };
 
-/* On a pool of one region of 256-byte blocks, unit 480 in hand and the task idle. */
+/* Damage to a pool of one region of 256-byte blocks, with unit 480 in hand and the task idle. */
 static const struct damage WHILE_IDLE[] = {
     {"9 tasks", TASKS, 9, ALLOCATE, 8},
     {"0 regions", REGIONS, 0, ALLOCATE, 8},
@@ -45,7 +45,7 @@ static const struct damage WHILE_IDLE[] = {
     {"a descriptor's class 16", DESCRIPTOR_CLASS, 16, FREE, 480},
 };
 
-/* The same, with an allocation of 256 bytes begun. */
+/* Damage to a pool of one region of 256-byte blocks, with unit 480 in hand and an allocation of 256 bytes begun. */
 static const struct damage WHILE_ALLOCATING[] = {
     {"class 16", TASK_CLASS, 16, STEP, 0},
     {"a cache count above n", COUNT + 2 * 15, 17, STEP, 0},

@@ -20,7 +20,7 @@ struct lent {
    regions, filled with a pattern, that lies `shift` bytes past another. */
 struct lent lend(unsigned regions, unsigned shift);
 
-/* The same, with an accepted start. */
+/* Fresh memories, aligned, with an accepted start. */
 struct lent started(unsigned regions, unsigned tasks);
 
 /* Keeps a copy of everything; whether everything is still as it was kept; whether the guards are. */

@@ -25,7 +25,7 @@ unsafe extern "C" {
     fn pool_step(control: *mut u8, control_len: usize, area: *mut u8, area_len: usize, task: u64) -> u64;
 }
 
-/// One call of the library. "The answer is code + 256 * value."
+/// One call of the library. It answers one number: the code, and 256 times the value.
 pub fn call(control: &mut Memory, area: &mut Memory, request: Request) -> Answer {
     let before = tamper::before(control, request);
     let (bytes, length) = (control.pointer(), control.len());

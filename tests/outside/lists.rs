@@ -48,7 +48,8 @@ pub const MOVES: [Move; 7] = [
     Move::PushPartial,
 ];
 
-/// "Pop of a list: read head; read the item's next; exchange. Push: read head; write the item's next; exchange."
+/// "Pop of a list: read head (this finds an empty list); read the item's next; exchange." "Push: read head; write the
+/// item's next; exchange."
 #[derive(Clone, Copy, PartialEq, Eq, Debug)]
 pub enum Phase {
     Head,

@@ -87,7 +87,7 @@ impl Memory {
     }
 
     pub fn bytes_mut(&mut self) -> &mut [u8] {
-        // SAFETY: as above, and the memory is borrowed alone.
+        // SAFETY: the bytes are mapped, the library runs only inside calls, and the memory is borrowed alone.
         unsafe { std::slice::from_raw_parts_mut(self.base.add(self.offset), self.length) }
     }
 
