@@ -97,7 +97,8 @@ pub fn set(control: &mut [u8], column: Column, index: usize, value: u64) {
     control[first..first + column.width].copy_from_slice(&value.to_le_bytes()[..column.width]);
 }
 
-/// An anchor as the paper packs it: "state in the low 2 bits, then avail in 31 bits, then count in 31".
+/// An anchor as the paper packs it: "state in the low 2 bits (0 EMPTY, 1 PARTIAL, 2 FULL), then avail in 31 bits, then
+/// count in 31".
 pub fn anchor(state: u64, avail: u64, count: u64) -> u64 {
     state | avail << 2 | count << 33
 }

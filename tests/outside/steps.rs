@@ -144,7 +144,7 @@ impl Pool {
         self.go(task, Place::Carve)
     }
 
-    /// Allocate 8: "Put blocks 0 to n - 1 on the cache, one a step; then 1."
+    /// Allocate 8: "Put blocks 0 to n − 1 on the cache, one a step; then 1."
     fn carve(&mut self, task: usize) -> Answer {
         let Under::Carving(index) = self.tasks[task].under else { unreachable!("a region is being carved") };
         let blocks = per_region(self.tasks[task].class);

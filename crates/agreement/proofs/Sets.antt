@@ -15,29 +15,29 @@ use Rattle.agreement.proofs.Parts.{first, behind}
 abbrev Parts : Type 0
 Parts = Lists × (Descriptors × (Entries × ((ℕ → Slot) × (List ℕ × Unit {0}))))
 
--- all of them after a change of one: here alone they are all named, and a further one comes last
+-- the memories after a change of one part: here alone the parts are all named, and a further one comes last
 abbrev through : (Parts → Parts) → Contents → Contents
 through f a =
     let p = f (a .lists, (a .descriptors, (a .entries, (a .slot, (a .area, tt))))) in
     record { lists = p .0; descriptors = p .1 .0; entries = p .1 .1 .0; slot = p .1 .1 .1 .0; area = p .1 .1 .1 .1 .0 }
 
--- other lists
+-- the memories with other lists
 abbrev pub onLists : (Lists → Lists) → Contents → Contents
 onLists f = through (first f)
 
--- other descriptors
+-- the memories with other descriptors
 abbrev pub onDescriptors : (Descriptors → Descriptors) → Contents → Contents
 onDescriptors f = through (behind (first f))
 
--- another map, other marks
+-- the memories with another map or other marks
 abbrev pub onEntries : (Entries → Entries) → Contents → Contents
 onEntries f = through (behind (behind (first f)))
 
--- other parts of the tasks
+-- the memories with other parts of the tasks
 abbrev pub withSlots : (ℕ → Slot) → Contents → Contents
 withSlots S = through (behind (behind (behind (first (λ x. S)))))
 
--- another area
+-- the memories with another area
 abbrev pub withArea : List ℕ → Contents → Contents
 withArea b = through (behind (behind (behind (behind (first (λ x. b))))))
 
@@ -63,27 +63,27 @@ withMarks f e = record { map = e .map; mark = f }
 
 -- ---- one item of a column
 
--- the part of the task t
+-- the memories with another part of the task t
 abbrev pub setSlot : ℕ → Slot → Contents → Contents
 setSlot t s a = withSlots (update (a .slot) t s) a
 
--- the head of the list ℓ
+-- the memories with another head of the list ℓ
 abbrev pub setHead : ℕ → Head → Contents → Contents
 setHead ℓ h = onLists (λ l. withHeads (update (l .head) ℓ h) l)
 
--- the next of a descriptor
+-- the memories with another next of the descriptor d
 abbrev pub setDescriptorNext : ℕ → ℕ → Contents → Contents
 setDescriptorNext d n = onLists (λ l. withDescriptorNexts (update (l .descriptorNext) d n) l)
 
--- the next of a region
+-- the memories with another next of the region r
 abbrev pub setRegionNext : ℕ → ℕ → Contents → Contents
 setRegionNext r n = onLists (λ l. withRegionNexts (update (l .regionNext) r n) l)
 
--- the anchor of a descriptor
+-- the memories with another anchor of the descriptor d
 abbrev pub setAnchor : ℕ → Anchor → Contents → Contents
 setAnchor d b = onDescriptors (λ D. withAnchors (update (D .anchor) d b) D)
 
--- a descriptor written whole
+-- the memories with the descriptor d written whole
 abbrev pub setDescriptor : ℕ → Anchor → ℕ → ℕ → Contents → Contents
 setDescriptor d b r c = onDescriptors (λ D. record {
   anchor = update (D .anchor) d b;
@@ -91,18 +91,18 @@ setDescriptor d b r c = onDescriptors (λ D. record {
   class = update (D .class) d c;
 })
 
--- a map entry
+-- the memories with another map entry of the region r
 abbrev pub setMap : ℕ → ℕ → Contents → Contents
 setMap r e = onEntries (λ E. withMap (update (E .map) r e) E)
 
--- a descriptor written whole, and the map entry e of its region
+-- the memories with the descriptor d written whole, and the map entry e of its region
 abbrev pub setOwner : ℕ → Anchor → ℕ → ℕ → ℕ → Contents → Contents
 setOwner d b r c e a = setMap r e (setDescriptor d b r c a)
 
--- a mark
+-- the memories with another mark of the unit u
 abbrev pub setMark : ℕ → ℕ → Contents → Contents
 setMark u b = onEntries (λ e. withMarks (update (e .mark) u b) e)
 
--- a link
+-- the memories with another link of the block at u
 abbrev pub setLink : ℕ → ℕ → Contents → Contents
 setLink u x a = withArea (withLink (a .area) u x) a

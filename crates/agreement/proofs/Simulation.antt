@@ -29,7 +29,7 @@ use Rattle.agreement.proofs.Views.{views-related}
 use Rattle.agreement.proofs.UserWrites.{byte-kept}
 use Rattle.agreement.proofs.Ways.{tests}
 
--- the same answer, the relation after it, and what else is shown of the memories after it
+-- a call in both runs: the same answer, the two tied after it, and what else is shown of the memories after it
 pub record Alike (Further : Memories → Type 0) (x : Memories × Answer) (y : Pool × Answer) : Type 0 where
   pub says : x .1 ≡ y .1
   pub tied : Tied (x .0) (y .0)

@@ -13,7 +13,7 @@ use Rattle.agreement.proofs.Parts.{first, behind}
 abbrev SlotParts : Type 0
 SlotParts = (ℕ × (ℕ × ℕ)) × (TaskNotes × (TaskHand × (TaskGroup × (TaskCaches × Unit {0}))))
 
--- all of them after a change of one: here alone they are all named, and a further one comes last
+-- a task's part after a change of one of the parts: here alone they are all named, and a further one comes last
 abbrev through : (SlotParts → SlotParts) → Slot → Slot
 through f s =
     let p = f ((s .place, (s .class, s .unit)), (s .noted, (s .hand, (s .group, (s .caches, tt))))) in
@@ -27,74 +27,74 @@ through f s =
       caches = p .1 .1 .1 .1 .0;
     }
 
--- a request begun: place, class and unit
+-- a task's part with another place, class and unit, as a request begins
 abbrev pub toRequest : ℕ → ℕ → ℕ → Slot → Slot
 toRequest n c u = through (first (λ x. (n, (c, u))))
 
--- other notes
+-- a task's part with other notes
 abbrev withNotes : TaskNotes → Slot → Slot
 withNotes n = through (behind (first (λ x. n)))
 
--- other things in hand
+-- a task's part with other things in hand
 abbrev withHand : TaskHand → Slot → Slot
 withHand h = through (behind (behind (first (λ x. h))))
 
--- another group
+-- a task's part with another group
 abbrev withGroup : TaskGroup → Slot → Slot
 withGroup g = through (behind (behind (behind (first (λ x. g)))))
 
--- other caches
+-- a task's part with other caches
 abbrev pub withCaches : TaskCaches → Slot → Slot
 withCaches k = through (behind (behind (behind (behind (first (λ x. k))))))
 
 -- ---- the columns
 
--- at another place
+-- a task's part at another place
 abbrev pub toPlace : ℕ → Slot → Slot
 toPlace n s = toRequest n (s .class) (s .unit) s
 
--- the noted head
+-- a task's part with another noted head
 abbrev pub toHead : Head → Slot → Slot
 toHead h s = withNotes (record { head = h; next = s .noted .next; anchor = s .noted .anchor }) s
 
--- the noted next
+-- a task's part with another noted next
 abbrev pub toNext : ℕ → Slot → Slot
 toNext n s = withNotes (record { head = s .noted .head; next = n; anchor = s .noted .anchor }) s
 
--- the noted anchor
+-- a task's part with another noted anchor
 abbrev pub toAnchor : Anchor → Slot → Slot
 toAnchor b s = withNotes (record { head = s .noted .head; next = s .noted .next; anchor = b }) s
 
--- the descriptor in hand
+-- a task's part with another descriptor in hand
 abbrev pub toDescriptor : ℕ → Slot → Slot
 toDescriptor d s =
     let h = s .hand in
     withHand (record { descriptor = d; region = h .region; index = h .index; left = h .left; state = h .state }) s
 
--- a chain to move: its region, the index of its next block, how many are left
+-- a task's part with another chain to move: its region, the index of its next block, how many are left
 abbrev pub toChain : ℕ → ℕ → ℕ → Slot → Slot
 toChain r i l s =
     withHand (record { descriptor = s .hand .descriptor; region = r; index = i; left = l; state = s .hand .state }) s
 
--- the region in hand
+-- a task's part with another region in hand
 abbrev pub toRegion : ℕ → Slot → Slot
 toRegion r s = toChain r (s .hand .index) (s .hand .left) s
 
--- the state in which a free found the anchor
+-- a task's part with another state in which a free found the anchor
 abbrev pub toState : ℕ → Slot → Slot
 toState w s =
     let h = s .hand in
     withHand (record { descriptor = h .descriptor; region = h .region; index = h .index; left = h .left; state = w }) s
 
--- a group: its region, the indexes of its first and last block, how many it has
+-- a task's part with another group: its region, the indexes of its first and last block, how many it has
 abbrev pub toGroup : ℕ → ℕ → ℕ → ℕ → Slot → Slot
 toGroup r f l g s = toRegion r (withGroup (record { first = f; last = l; count = g }) s)
 
--- how many blocks the group has
+-- a task's part with another number of blocks in the group
 abbrev pub toGrouped : ℕ → Slot → Slot
 toGrouped g s = withGroup (record { first = s .group .first; last = s .group .last; count = g }) s
 
--- the cache of the class c: its top and how many it has
+-- a task's part with another cache of the class c: its top and how many it has
 abbrev pub toCache : ℕ → ℕ → ℕ → Slot → Slot
 toCache c u n s =
     withCaches (record { top = update (s .caches .top) c u; count = update (s .caches .count) c n }) s

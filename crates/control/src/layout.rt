@@ -12,7 +12,7 @@ pub const TASK_HEADS: usize = 4864;
 
 pub const TASK_ANCHORS: usize = 4928;
 
-// Of each cache the top block and how many blocks it has.
+// The top block of each cache, and how many blocks it has.
 pub const CACHE_TOPS: usize = 4992;
 
 pub const CACHE_COUNTS: usize = 5248;

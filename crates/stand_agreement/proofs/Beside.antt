@@ -70,7 +70,7 @@ later h B =
 pub sum : {n : ℕ} {y : Answer} → Number n y → n ≡ answerNumber y
 sum N = omega (arith, N .code, N .value)
 
--- the same answer, and beside each other again
+-- the two stands answer the same, and are beside each other again
 pub record SameAnswer (n : ℕ) (x : Memories × ℕ) (y : Pool × ℕ) : Type 0 where
   pub number : x .1 ≡ y .1
   pub beside : Beside n (x .0) (y .0)

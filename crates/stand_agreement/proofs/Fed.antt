@@ -11,11 +11,11 @@ use Rattle.plain.specs.Calls as Calls
 use Rattle.plain.proofs.CallTests.{by-tests, start-numbers, by-start-tests}
 use Rattle.schedule.specs.Plain.{answerNumber, regionsFed}
 
--- the same number of tasks and of regions
+-- the two pools were started with the same numbers of tasks and regions
 abbrev pub SameStart : Pool → Pool → Type 0
 SameStart p p′ = (p′ .tasks ≡ p .tasks) × (p′ .regions ≡ p .regions)
 
--- a call that is no start
+-- a call that is no start leaves these numbers
 tested-keeps : (t : ℕ) (lent : Lengths) (p : Pool) (x : Result) → SameStart p (Calls.tested t lent p x .0)
 tested-keeps t lent p x = by-tests (λ z. SameStart p (z .0)) t lent p x (λ n l. (refl, refl)) (λ l. (refl, refl))
 
@@ -37,7 +37,7 @@ same-regions p p′ h = rw (h .0, h .1) refl
 
 -- ---- a start
 
--- an accepted start: its tasks and regions; a refused one leaves the pool
+-- a start is accepted, and has at least one task and so many regions; or it is refused, and leaves the pool
 pub data StartIs (regions : ℕ) (p : Pool) (x : Pool × Answer) : Type 0 where
   accepted : answerNumber (x .1) ≡ 0 → 1 ≤ x .0 .tasks → x .0 .regions ≡ regions → StartIs regions p x
   refused : x .1 .code ≢ 0 → x .0 ≡ p → StartIs regions p x

@@ -30,7 +30,7 @@ fn clear(control: &mut [u8])
     }
 }
 
-// Of n items, rising from item 0 on top, the next of item i as a number plus one: none for the last.
+// The next of item i as a number plus one, where n items rise from item 0 on top: none for the last.
 fn next_up(n: u8, i: u8) -> u8
     requires { ⌜ (i < n) × (n ≤ DESCRIPTORS) ⌝ }
     ensures { λ r. ⌜ r ≡ nextUp n i ⌝ }

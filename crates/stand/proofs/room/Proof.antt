@@ -1,4 +1,4 @@
--- As many zeros as the array has.
+-- The array has as many zeros as the longest table needs.
 use Prim.Native.Nat.{ℕ}
 use mathlib.Core.Path.{sym}
 use lib.ListN.{length-replicate}
