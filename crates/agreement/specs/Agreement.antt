@@ -1,3 +1,4 @@
+-- docs/POOL.md, "What is compared"
 -- What the agreement of the two runs says, over a whole list of events.
 use mathlib.Core.Path.{_≡_}
 use mathlib.Core.Logic.{_≢_}

@@ -1,3 +1,4 @@
+-- docs/POOL.md, "The relation"
 -- The two memories, column by column: what each field and each link says.
 use Prim.Native.Nat.{ℕ, _/_, _%_}
 use native.Mathlib.Decide.{decLt}

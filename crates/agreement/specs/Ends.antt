@@ -1,3 +1,4 @@
+-- docs/POOL.md, "Calls and refusals"
 -- How a call ends, whatever the two memories hold: what a refusal leaves, which numbers refuse, when "no descriptor"
 -- and "no region" come, and the class that a size gets.
 use Prim.Native.Nat.{ℕ, _+_, _≤_, _<_}

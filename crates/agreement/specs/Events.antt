@@ -1,3 +1,4 @@
+-- docs/POOL.md, "Runs and premises"
 -- The events of a run: calls, with what they are lent, and users' writes; the two runs; and the premises.
 use mathlib.Core.Path.{_≡_}
 use mathlib.Core.List.{List, [], _∷_}

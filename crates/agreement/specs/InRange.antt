@@ -1,3 +1,4 @@
+-- docs/POOL.md, "The control memory"
 -- The range of every field of the control memory, once the pool is started: "a range holds every value that a run under
 -- demand 3's premises stores in the field".
 use Prim.Native.Nat.{ℕ, _+_, _^_, _≤_, _<_}

@@ -1,3 +1,4 @@
+-- docs/POOL.md, "What is compared"
 -- What is compared: "each list's items from the top, which regions are open and in which class, and, for these, the
 -- chain in order and each block's holder". It is read off the memories, through the links and by the counts, and off
 -- the plain pool.

@@ -1,3 +1,4 @@
+-- docs/POOL.md, "Runs and premises"
 -- What a run reaches, and its history. Whatever is said of runs is said of what they reach.
 use mathlib.Core.List.{List, [], _∷_}
 use Prim.Native.Nat.{ℕ}

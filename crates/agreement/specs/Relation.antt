@@ -1,3 +1,4 @@
+-- docs/POOL.md, "The relation"
 -- What holds between the two memories of the stepped pool, column by column, and the plain pool.
 use mathlib.Core.Path.{_≡_}
 use mathlib.Core.List.{List, [], _∷_, _++_}

@@ -1,3 +1,4 @@
+-- docs/POOL.md, "The relation"
 -- What ties the bytes of the stepped run to the plain pool, before and after every event of every run; and what is said
 -- of the noted states beside it.
 use mathlib.Core.Path.{_≡_}

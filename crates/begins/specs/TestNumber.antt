@@ -1,3 +1,4 @@
+-- docs/POOL.md, "Calls and refusals"
 -- What the tests of a call tell.
 use mathlib.Core.Path.{_≡_}
 use mathlib.Core.Bool.{cond}

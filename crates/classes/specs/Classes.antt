@@ -1,3 +1,4 @@
+-- docs/POOL.md, "Classes"
 -- The sixteen classes of blocks.
 use mathlib.Core.List.{List, [], _∷_}
 use Prim.Native.Nat.{ℕ, _*_, _/_}

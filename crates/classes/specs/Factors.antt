@@ -1,3 +1,4 @@
+-- docs/POOL.md, "Classes"
 -- The numbers by which a first unit is told without a division.
 use mathlib.Core.Path.{_≡_}
 use Prim.Native.Nat.{ℕ, _*_, _%_, _<_}

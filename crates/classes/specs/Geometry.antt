@@ -1,3 +1,4 @@
+-- docs/POOL.md, "Classes"
 -- Where the blocks of a class lie in a region.
 use mathlib.Core.Path.{_≡_}
 use mathlib.Core.Bool.{Bool, _&&_}

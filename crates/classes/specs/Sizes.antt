@@ -1,3 +1,4 @@
+-- docs/POOL.md, "Classes"
 -- The class that serves a size.
 use mathlib.Core.Bool.{cond}
 use mathlib.Core.List.{List, [], _∷_}

@@ -1,3 +1,4 @@
+-- docs/POOL.md, "Calls and refusals"
 -- The paper's number and value for each answer.
 use Prim.Native.Nat.{ℕ, _+_, _*_}
 use Rattle.control.specs.declared.answer.Answer.{Answer}

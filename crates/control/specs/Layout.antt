@@ -1,3 +1,4 @@
+-- docs/POOL.md, "The control memory"
 -- The layout of the control memory. Each column is defined once, with its first byte, its width and how many numbers it
 -- has, and below it the field that stands in it; `layout` lists the columns in their order. A further column is its
 -- definition and a line of the list. docs/LAYOUT.md gives each field's range and says what the gaps are kept for.

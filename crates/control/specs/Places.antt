@@ -1,3 +1,4 @@
+-- docs/POOL.md, "Requests, steps and moves"
 -- The places of the step list, by number: `TaskPlace` of a task holds one of them. A move of a list has three in a row:
 -- its head read, its next and its exchange. docs/LAYOUT.md has the same table in words.
 use Prim.Native.Nat.{ℕ}

@@ -1,3 +1,4 @@
+-- docs/POOL.md, "Runs and premises"
 -- Runs made of the exported functions' contracts, with users' writes between the calls; and what demand 3 says of them.
 use mathlib.Core.Path.{_≡_}
 use mathlib.Core.Logic.{_≢_, _⊎_}

@@ -1,3 +1,4 @@
+-- docs/POOL.md, "Calls and refusals"
 -- What the demands say of a call's answer: refusals, a request's end, the class that a size gets.
 use mathlib.Core.Path.{_≡_}
 use mathlib.Core.Logic.{_≢_, _⊎_}

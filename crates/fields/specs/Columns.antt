@@ -1,3 +1,4 @@
+-- docs/POOL.md, "Below the pool"
 -- A memory as a table of columns, each of them a row of numbers of one width. A layout is one list of columns.
 use Prim.Native.Nat.{ℕ, zero, suc, _+_, _*_, _^_, _<_}
 use mathlib.Core.Bool.{Bool, cond, _&&_}

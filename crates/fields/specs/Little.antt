@@ -1,3 +1,4 @@
+-- docs/POOL.md, "Below the pool"
 -- Little-endian numbers in a list of bytes: `width` bytes from `at`, the low one first.
 use Prim.Native.Nat.{ℕ, zero, suc, _+_, _*_, _/_, _%_, _<_}
 use mathlib.Core.List.{List}

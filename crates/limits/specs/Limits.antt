@@ -1,3 +1,4 @@
+-- docs/POOL.md, "The pool in numbers"
 -- How many there are of each thing in the paper. What follows from others is tied to them in proofs/Ties.antt.
 use Prim.Native.Nat.{ℕ, _+_}
 

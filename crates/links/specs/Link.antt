@@ -1,3 +1,4 @@
+-- docs/POOL.md, "Links, chains and caches"
 -- "A free block's first four bytes, low byte first, hold a link."
 use Prim.Native.Nat.{ℕ, _*_}
 use mathlib.Core.List.{List, [], _∷_}

@@ -1,3 +1,4 @@
+-- docs/POOL.md, "The plain pool"
 -- The blocks of a region as a row.
 use mathlib.Core.List.{List, _∷_, []}
 use Prim.Native.Nat.{ℕ, zero, suc}

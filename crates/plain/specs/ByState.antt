@@ -1,3 +1,4 @@
+-- docs/POOL.md, "The invariant"
 -- What counts only in some states of an anchor.
 use mathlib.Core.Path.{_≡_}
 use Prim.Native.Nat.{ℕ}

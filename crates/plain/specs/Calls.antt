@@ -1,3 +1,4 @@
+-- docs/POOL.md, "The plain pool"
 -- The calls of the plain pool, with their refusals in the paper's order: "Start tests 1, 2, 3. Other calls test 1, 4,
 -- 2, 5, then 6 or 7, then 8, 9 or 10, 11." It "is fed only each call's numbers and the lengths lent".
 use mathlib.Core.Path.{_≡_}

@@ -1,3 +1,4 @@
+-- docs/POOL.md, "Calls and refusals"
 -- What a step and a call answer, in every state: the codes, where 12 and 13 come from, and how many exchanges are
 -- won.
 use mathlib.Core.Path.{_≡_}

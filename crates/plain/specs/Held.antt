@@ -1,3 +1,4 @@
+-- docs/POOL.md, "The invariant"
 -- What a task has under way at each place.
 use mathlib.Core.List.{List, _∷_, []}
 use Prim.Native.Nat.{ℕ, _+_, _-_}

@@ -1,3 +1,4 @@
+-- docs/POOL.md, "The invariant"
 -- What each holder weighs. The first numbers are what is asked about, the last one is the holder's own; the
 -- totals over all holders are what the invariant speaks of.
 use mathlib.Core.List.{List}

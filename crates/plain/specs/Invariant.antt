@@ -1,3 +1,4 @@
+-- docs/POOL.md, "The invariant"
 -- The invariant of the plain pool: every descriptor, every region and every block has one place.
 use mathlib.Core.Path.{_≡_}
 use mathlib.Core.List.{List, _∷_, []}

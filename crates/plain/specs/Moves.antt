@@ -1,3 +1,4 @@
+-- docs/POOL.md, "The plain pool"
 -- What a call decides and what it answers.
 use Prim.Native.Nat.{ℕ}
 

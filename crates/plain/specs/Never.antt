@@ -1,3 +1,4 @@
+-- docs/POOL.md, "The invariant"
 -- What never happens, though the plain pool's definitions say what would be done there.
 use mathlib.Core.Path.{_≡_}
 use mathlib.Core.Logic.{_≢_}

@@ -1,3 +1,4 @@
+-- docs/POOL.md, "The plain pool"
 -- What a task has noted at each place.
 use Prim.Native.Nat.{ℕ}
 use Rattle.plain.specs.State.{Note, Phase, Pop, Push, Work, a1, popping, pushing, a3-read, a3-exchange, a4, a7}

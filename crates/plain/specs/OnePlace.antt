@@ -1,3 +1,4 @@
+-- docs/POOL.md, "The invariant"
 -- The one place of each block, and of each item of a list.
 use mathlib.Core.Path.{_≡_}
 use mathlib.Core.Logic.{_≢_}

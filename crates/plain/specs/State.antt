@@ -1,3 +1,4 @@
+-- docs/POOL.md, "The plain pool"
 -- What the plain pool keeps: rows and plain numbers, no links and no head words.
 use mathlib.Core.List.{List}
 use Prim.Native.Nat.{ℕ, _+_}

@@ -1,3 +1,4 @@
+-- docs/POOL.md, "The plain pool"
 -- The steps of the plain pool. "In the whole run a move happens in full at its deciding step and its other steps change
 -- no list or chain."
 use mathlib.Core.Path.{_≡_}

@@ -1,3 +1,4 @@
+-- docs/POOL.md, "The invariant"
 -- What holds of a task at each place: of its caches, and of what it noted.
 use mathlib.Core.Path.{_≡_}
 use mathlib.Core.List.{List, _∷_, []}

@@ -1,3 +1,4 @@
+-- docs/POOL.md, "Calls and refusals"
 -- What each exported call ensures.
 use mathlib.Core.Path.{_≡_}
 use mathlib.Core.List.{List}

@@ -1,3 +1,4 @@
+-- docs/POOL.md, "Below the pool"
 -- The branch that a decided test takes, and the test of two facts at once.
 
 -- The first value if the fact holds, else the second.

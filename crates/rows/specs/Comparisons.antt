@@ -1,3 +1,4 @@
+-- docs/POOL.md, "Below the pool"
 -- Tests of numbers that hand on the fact they found, for use in a proof by cases.
 use mathlib.Core.Path.{_≡_}
 use mathlib.Core.Logic.{_≢_}

@@ -1,3 +1,4 @@
+-- docs/POOL.md, "Below the pool"
 -- How often a number stands in a row. A row is a list of numbers, its first item on top.
 use mathlib.Core.Path.{_≡_}
 use mathlib.Core.List.{List, [], _∷_, _++_}

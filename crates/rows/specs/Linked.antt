@@ -1,3 +1,4 @@
+-- docs/POOL.md, "Below the pool"
 -- A row linked from item to item: `next` gives an item's link, `code` is the number by which a link names an
 -- item, and `end` is the link of the last item.
 use mathlib.Core.Path.{_≡_}

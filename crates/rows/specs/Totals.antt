@@ -1,3 +1,4 @@
+-- docs/POOL.md, "Below the pool"
 -- A weight summed over a number of holders.
 use Prim.Native.Nat.{ℕ, zero, suc, _+_, _≤_, _<_}
 

@@ -1,3 +1,4 @@
+-- docs/POOL.md, "Below the pool"
 -- A function of numbers, changed at one of them.
 use Prim.Native.Nat.{ℕ}
 use native.Mathlib.Decide.{ℕ-discrete}

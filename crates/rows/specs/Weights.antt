@@ -1,3 +1,4 @@
+-- docs/POOL.md, "Below the pool"
 -- Numbers that count only where a test holds.
 use Prim.Native.Nat.{ℕ}
 use native.Mathlib.Decide.{ℕ-discrete, decLt}

@@ -1,3 +1,4 @@
+-- docs/POOL.md, "The stand"
 -- The stand on the bytes of its two memories.
 use Prim.Native.Nat.{ℕ, _*_}
 use mathlib.Core.Path.{_≡_}

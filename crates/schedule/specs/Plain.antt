@@ -1,3 +1,4 @@
+-- docs/POOL.md, "The stand"
 -- The stand over the plain pool, which is fed the numbers of each record and the lengths lent.
 use Prim.Native.Nat.{ℕ, _+_, _*_}
 use mathlib.Core.Bool.{cond}

@@ -1,3 +1,4 @@
+-- docs/POOL.md, "The stand"
 -- The records of a schedule. "A record is one byte of kind, then a body."
 use Prim.Native.Nat.{ℕ, _+_, _-_}
 use mathlib.Core.Bool.{cond}

@@ -1,3 +1,4 @@
+-- docs/POOL.md, "The stand"
 -- The stand over any pool: what each record does, and the table of a schedule.
 use Prim.Native.Nat.{ℕ, zero, suc, _+_, _*_, _/_, _%_}
 use mathlib.Core.Bool.{cond}

@@ -1,3 +1,4 @@
+-- docs/POOL.md, "The stand"
 -- The tally. "The last line counts codes 20, codes 0 and the others."
 use Prim.Native.Nat.{ℕ, _+_, _%_, _^_}
 use mathlib.Core.Bool.{cond}

@@ -1,3 +1,4 @@
+-- docs/POOL.md, "Start"
 -- What the loops of a start leave.
 use mathlib.Core.List.{List}
 use Prim.Native.Nat.{ℕ}

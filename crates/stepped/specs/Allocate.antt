@@ -1,3 +1,4 @@
+-- docs/POOL.md, "Allocate"
 -- The steps of an allocation that are no list moves: 1, 3, 4, 7 and 8.
 use Prim.Native.Nat.{ℕ, _+_, _-_, _/_, _%_}
 use mathlib.Core.Bool.{cond, _&&_}

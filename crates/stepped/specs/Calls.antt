@@ -1,3 +1,4 @@
+-- docs/POOL.md, "Calls and refusals"
 -- The calls of the stepped pool, with their tests in the paper's order: "Start tests 1, 2, 3. Other calls test 1, 4, 2,
 -- 5, then 6 or 7, then 8, 9 or 10, 11. 14 comes where the bad value is read."
 use Prim.Native.Nat.{ℕ, _*_, _/_, _%_, _-_, _≤_, _<_}

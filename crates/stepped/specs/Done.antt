@@ -1,3 +1,4 @@
+-- docs/POOL.md, "Requests, steps and moves"
 -- What the functions of the steps ask and ensure.
 use mathlib.Core.Path.{_≡_}
 use mathlib.Core.List.{List, []}

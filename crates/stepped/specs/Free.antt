@@ -1,3 +1,4 @@
+-- docs/POOL.md, "Free"
 -- The steps of a free that are no list moves: 1, 2, 3 and the first of 4.
 use Prim.Native.Nat.{ℕ, _+_, _-_}
 use mathlib.Core.Bool.{cond, _&&_}

@@ -1,3 +1,4 @@
+-- docs/POOL.md, "Requests, steps and moves"
 -- The pops and pushes of the step list, each in three steps. "Pop of a list: read head (this finds an empty list); read
 -- the item's next; exchange. Push: read head; write the item's next; exchange. A lost exchange goes back to the head
 -- read."

@@ -1,3 +1,4 @@
+-- docs/POOL.md, "Requests, steps and moves"
 -- What a call makes of the memories that it is lent.
 use Prim.Native.Nat.{ℕ}
 use mathlib.Core.List.{List, []}

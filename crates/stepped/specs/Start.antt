@@ -1,3 +1,4 @@
+-- docs/POOL.md, "Start"
 -- The control memory that a start leaves.
 use Prim.Native.Nat.{ℕ, zero, suc, _+_}
 use mathlib.Core.Bool.{cond}

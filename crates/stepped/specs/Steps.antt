@@ -1,3 +1,4 @@
+-- docs/POOL.md, "Requests, steps and moves"
 -- The step list by place.
 use Prim.Native.Nat.{ℕ}
 use mathlib.Core.Bool.{cond}

@@ -1,3 +1,4 @@
+-- docs/POOL.md, "Requests, steps and moves"
 -- The list move that has its head read at a place.
 use mathlib.Core.Path.{_≡_}
 use mathlib.Core.Logic.{_≢_}

@@ -1,3 +1,4 @@
+-- docs/POOL.md, "Allocate"
 -- The anchors that the steps of an allocation tell apart and write.
 use Prim.Native.Nat.{ℕ}
 use mathlib.Core.Bool.{Bool}

@@ -1,3 +1,4 @@
+-- docs/POOL.md, "Allocate"
 -- The block of a taken chain that a task moves next.
 use Prim.Native.Nat.{ℕ, _≤_, _<_}
 use mathlib.Core.Path.{_≡_}

@@ -1,3 +1,4 @@
+-- docs/POOL.md, "Free"
 -- Where a free goes on: "Cache not empty: 2. Else 1.", and before that "If it was FULL: push the descriptor on the
 -- partial list".
 use Prim.Native.Nat.{ℕ}

@@ -1,3 +1,4 @@
+-- docs/POOL.md, "Requests, steps and moves"
 -- Where a pop leads, by its reason.
 use Prim.Native.Nat.{ℕ}
 use mathlib.Core.List.{List, [], _∷_}

@@ -1,3 +1,4 @@
+-- docs/POOL.md, "The stand"
 -- What the stand writes: the text of the table of its input.
 use Prim.Native.Nat.{ℕ}
 use mathlib.Core.List.{List, [], _∷_, _++_}

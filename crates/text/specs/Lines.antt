@@ -1,3 +1,4 @@
+-- docs/POOL.md, "The stand"
 -- The lines of the stand's table. The character 32 is a space, 10 the end of a line.
 use Prim.Native.Nat.{ℕ}
 use mathlib.Core.List.{List, [], _∷_, _++_}

@@ -1,3 +1,4 @@
+-- docs/POOL.md, "The stand"
 -- Numbers as text, and what it is to write a text into bytes.
 use Prim.Native.Nat.{ℕ, zero, suc, _+_, _/_, _%_, _≤_}
 use mathlib.Core.Path.{_≡_}

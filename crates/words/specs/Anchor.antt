@@ -1,3 +1,4 @@
+-- docs/POOL.md, "Words"
 -- The anchor of a descriptor, 64 bits: state in the low 2 bits, then avail in 31 bits, then count in 31.
 use Prim.Native.Nat.{ℕ, _+_, _*_, _/_, _%_, _<_, _≤_}
 use mathlib.Core.Bool.{Bool, cond, _&&_}

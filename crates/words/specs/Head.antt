@@ -1,3 +1,4 @@
+-- docs/POOL.md, "Words"
 -- The head word of a list, 64 bits: the low 32 hold the item's number plus one, 0 for an empty list; the high
 -- 32 hold a tag. An `item` below is such a number plus one, or 0.
 use Prim.Native.Nat.{ℕ, _+_, _-_, _*_, _/_, _%_}

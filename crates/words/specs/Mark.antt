@@ -1,3 +1,4 @@
+-- docs/POOL.md, "Words"
 -- The bits of a word, as numbers. One mark per unit is set while the block starting there is in a user's hands;
 -- the mark of the unit u is bit u % 64 of the word u / 64.
 use Prim.Native.Nat.{ℕ, _+_, _-_, _/_, _%_, _^_}
