@@ -4,6 +4,7 @@ Called from the repository's root with the library's file. The last line is 'N p
 """
 import sys
 
+import believed
 import definitions
 import examples
 import figures
@@ -14,6 +15,7 @@ CHECKS = [
     ("the README's program as C99", examples.as_c),
     ("the README's program as C++98", examples.as_cpp),
     ("the README's schedules give its tables", examples.on_the_stand),
+    ('definitions and statements are quoted as they stand', examples.quoted),
     ('links lead to files and headings', references.links),
     ('paths in backticks exist', references.paths),
     ('names are defined in the files that are said', references.names),
@@ -22,6 +24,7 @@ CHECKS = [
     ('the tables of codes have the numbers of the header', tables.codes),
     ('the table of columns is the layout, and the constants are', tables.layout),
     ('definitions begin with their section of docs/POOL.md', definitions.sections),
+    ("the README's table of what to read is what the statements cite", believed.table),
     ("the README's sha256 is the library's", figures.library_sum),
     ("the README's kit is KIT-ID", figures.kit),
     *figures.numbers(),

@@ -1,10 +1,11 @@
-"""The README's examples: the program for C, and the schedules for the stand."""
+"""The examples of the README, for C and for the stand, and what the documents quote of the sources."""
 import difflib
+import glob
 import os
 import subprocess
 import sys
 
-from documents import README, blocks, read
+from documents import README, blocks, documents, read
 
 OUT = 'target/readme'
 STRICT = ['-Wall', '-Wextra', '-Werror', '-pedantic']
@@ -58,3 +59,13 @@ def on_the_stand():
     if not schedules or len(schedules) != len(due):
         return [f'README.md has {len(schedules)} blocks ```schedule and {len(due)} blocks ```table']
     return [line for schedule, table in zip(schedules, due) for line in played(schedule, table)]
+
+
+def quoted():
+    """A block ```antt is parts of the sources as they stand there, with empty lines between."""
+    sources = [read(path) for path in glob.glob('crates/*/*/*.antt')]
+    return [f'{document}: no source has: {part.strip().splitlines()[0]}'
+            for document in documents()
+            for block in blocks(read(document), 'antt')
+            for part in block.strip().split('\n\n')
+            if not any(part.strip() + '\n' in source for source in sources)]
