@@ -76,6 +76,10 @@ compare 'text on standard input'
 tried ./stand --text /dev/stdin <"$out/step.txt"
 due_step /dev/stdin 1 >"$out/due"
 compare 'text on /dev/stdin'
+tried timeout 10 ./stand --text <&-
+answers 'text on a closed standard input' 'standard input, read as text' \
+    'record kind code value  meaning                     line  text' \
+    'total: 0 finished, 0 accepted or under way, 0 refused or ended' 'status 0'
 tried ./stand "$out/step.txt" --text
 due_step "$out/step.txt" 1 >"$out/due"
 compare 'an option behind the file'

@@ -58,6 +58,9 @@ wrong 'free 0 0x10' "$a_free"
 wrong 'free 0 1.0' "$a_free"
 wrong 'step' "$a_step"
 wrong 'step 0 1' "$a_step"
+wrong 'step 0 0' "$a_step"
+wrong 'start 1 1 1' "$a_start"
+wrong 'run 0 1 step 0' "$a_run"
 wrong 'run 0 1e3' "$a_run"
 wrong 'run 0 +1' "$a_run"
 # What is shown of it: without its comment, with single spaces, printable, and no more than 40 characters.
@@ -108,8 +111,8 @@ answers 'the meanings of code 0' \
     '     6    3    0     0  accepted                       7  free 0 511' \
     'total: 1 finished, 6 accepted or under way, 0 refused or ended' 'status 0'
 
-# A number with zeros before it is decimal: task 010 is task 10, and unit 0480 is unit 480, which is freed here.
-tried ./stand --text < <(printf 'start 1 1\nallocate 0 0256\nrun 0 026\nfree 0 0480\nstep 0\nstep 010\n')
+# A number with zeros before it is decimal: 026 steps are 26, unit 0480 is unit 480, and 010 tasks are 10, too many.
+tried ./stand --text < <(printf 'start 1 1\nallocate 0 0256\nrun 0 026\nfree 0 0480\nstep 0\nstart 010 1\n')
 answers 'numbers with zeros before them are decimal' \
     'standard input, read as text' \
     'record kind code value  meaning                     line  text' \
@@ -118,7 +121,7 @@ answers 'numbers with zeros before them are decimal' \
     '     2    5   20   480  finished                       3  run 0 026' \
     '     3    3    0     0  accepted                       4  free 0 0480' \
     '     4    4   20     0  finished                       5  step 0' \
-    '     5    4    5     0  no such task                   6  step 010' \
+    '     5    1    3     0  tasks not 1 to 8               6  start 010 1' \
     'total: 2 finished, 3 accepted or under way, 1 refused or ended' 'status 0'
 
 # So many lines 'step 0' behind a comment are 65,536 bytes; with one more the text is refused.

@@ -93,10 +93,13 @@ rm -f "$place/bin/rt"
 tried there "$tree/one.bytes"
 answers 'and then is new' "${played[@]}"
 
-make_tree && make_fake "$plays" old
-make_rt 'cat; true'
+make_tree && make_fake 'printf "%s bytes\n" $(wc -c)' old
+make_rt 'cat'
 tried there < <(printf '\x01\x01\x01')
-answers 'rt takes nothing of standard input' "$proving" "${played[@]}"
+answers 'rt takes nothing of standard input' "$proving" '3 bytes' 'status 0'
+make_tree && make_fake "$plays" old
+make_rt 'true'
+there "$tree/one.bytes" >/dev/null 2>&1
 rm -f "$place/bin/rt"
 tried there "$tree/one.bytes"
 answers 'a program that rt left as it was counts as new' "${played[@]}"
@@ -162,13 +165,18 @@ done
 
 # ---- a tree that is not writable ----
 
+# Where nothing is writable the shell cannot make the file that it may need for a here-document.
+grep -n -e '<<' -e mktemp stand >"$out/wrote"
+: >"$out/due"
+compare 'the script needs no temporary file'
+
 # For root every file is writable: then another user is taken, where there is a way to.
 another=()
 if [ "$(id -u)" -eq 0 ]; then another=(setpriv --reuid=65534 --regid=65534 --clear-groups); fi
 
-# The tree's script, called by a user who may write nowhere.
+# The tree's script, called by a user who may not write in it.
 by_another() {
-    "${another[@]}" env -C / TMPDIR=/nowhere PATH="$place/bin" "$tree/stand" "$@"
+    "${another[@]}" env -C / PATH="$place/bin" "$tree/stand" "$@"
 }
 
 not_writable() {
