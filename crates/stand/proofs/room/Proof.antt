@@ -1,4 +1,4 @@
--- The array has as many zeros as the longest table needs.
+-- The array has TABLE-BYTES zeros.
 use Prim.Native.Nat.{ℕ}
 use mathlib.Core.Path.{sym}
 use lib.ListN.{length-replicate}
