@@ -4,7 +4,8 @@
  * for threads.
  *
  *   heap NAME                  times the workloads; a line is workload, contender, measure, value
- *   heap NAME WORKLOAD TURNS   so many turns of one workload, to be counted; NAME `none` calls functions that only return
+ *   heap NAME WORKLOAD TURNS   so many turns of one workload, to be counted; NAME `none` calls functions that only
+ *                              return
  *   heap                       the workloads' names, with the pairs of a turn
  */
 #define _POSIX_C_SOURCE 199309L

@@ -1,5 +1,5 @@
-# The tables of the benchmark, as Markdown, from lines of workload, contender, measure and value. Each measure has a table
-# of the pools and one of the heaps. A ratio is the library's value by the other's: below 1 the library needs less.
+# The tables of the benchmark, as Markdown, from lines of workload, contender, measure and value. Each measure has a
+# table of the pools and one of the heaps. A ratio is the library's value by the other's: below 1 the library needs less.
 BEGIN {
     FS = "\t"
     pools = split("by hand, gcc|by hand, clang", pool, "|")

@@ -156,7 +156,8 @@ impl Coverage {
         println!("steps by place 1 to 33: {:?}", &self.places.0[1..]);
         for (place, what) in EXCHANGES {
             let (won, lost, same) = (self.won.0[place], self.lost.0[place], self.lost_same_top.0[place]);
-            println!("exchange at place {place} ({what}): {won} won, {lost} lost, {same} of them with the same one first again");
+            let again = format!("{same} of them with the same one first again");
+            println!("exchange at place {place} ({what}): {won} won, {lost} lost, {again}");
         }
         println!("returns: {:?}; after the anchor changed and came back: {}", self.returns, self.came_back);
         println!("anchors found EMPTY by allocate: {}; users' writes: {}", self.anchor_empty, self.writes);

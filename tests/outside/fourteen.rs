@@ -2,8 +2,8 @@
 //! read is made bad, and the step has to answer 14 and leave every byte as it is.
 //!
 //! "14 a value read for this call is outside its field's range, or names none, or no block of the class, where one is
-//! due; a count would pass n; an anchor to take a chain from is FULL, or PARTIAL with count 0; or a link is outside 0 to
-//! n − 1 while more blocks are due."
+//! due; a count would pass n; an anchor to take a chain from is FULL, or PARTIAL with count 0; or a link is outside 0
+//! to n − 1 while more blocks are due."
 
 use crate::checks::Checks;
 use crate::coverage::Coverage;

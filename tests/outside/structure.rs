@@ -55,8 +55,8 @@ pub fn open_regions(pool: &Pool, view: &View) -> Result<(), String> {
     Ok(())
 }
 
-/// "A map entry for each region names its descriptor, or none": also of regions that are not open, where no answer shows
-/// it.
+/// "A map entry for each region names its descriptor, or none": also of regions that are not open, where no answer
+/// shows it.
 pub fn map(pool: &Pool, view: &View) -> Result<(), String> {
     for region in 0..regions_of(pool) {
         let memory = (view.get(MAP, region) as usize).checked_sub(1);

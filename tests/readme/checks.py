@@ -5,9 +5,11 @@ Called from the repository's root with the library's file. The last line is 'N p
 import sys
 
 import believed
+import commands
 import definitions
 import examples
 import figures
+import pool
 import references
 import tables
 
@@ -20,9 +22,15 @@ CHECKS = [
     ('paths in backticks exist', references.paths),
     ('names are defined in the files that are said', references.names),
     ('no paragraph or list item above 600 characters', references.lengths),
+    ("the README's commands name what there is", commands.known),
+    ("the edits of the README's tour are must-fail edits", commands.tour),
     ("the README's table of crates is crates.txt", tables.crates),
     ('the tables of codes have the numbers of the header', tables.codes),
     ('the table of columns is the layout, and the constants are', tables.layout),
+    ('the numbers of the pool, and the constants of the header', pool.limits),
+    ('the classes and their blocks', pool.classes),
+    ('the order of the tests', pool.orders),
+    ('the examples for regions add up', pool.regions),
     ('definitions begin with their section of docs/POOL.md', definitions.sections),
     ("the README's table of what to read is what the statements cite", believed.table),
     ("the README's sha256 is the library's", figures.library_sum),

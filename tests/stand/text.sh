@@ -67,7 +67,7 @@ wrong 'run 0 +1' "$a_run"
 wrong $'  step \t 0   1 # twice' "$a_step" 'step 0 1'
 wrong $'start\xc2\xa01 1' "$any" 'start??1 1'
 wrong "step $(printf '%0100d' 0) 1" "$a_step" "step $(printf '%035d' 0).."
-wrong "$(printf '%0200000d' 1)" "$any" "$(printf '%040d' 0).."
+wrong "$(printf '%0100d' 1)" "$any" "$(printf '%040d' 0).."
 
 # Bytes that no text has: the line and the byte, also in a comment.
 no_text() {

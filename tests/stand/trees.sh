@@ -75,7 +75,7 @@ for source in crates.txt crates/one/lib.rt crates/one; do
     touch -t 203001010000 "$tree/$source"
     tried there "$tree/one.txt"
     answers "without rt, where $source is newer than the program" \
-        "$old, and the Rattle toolchain (rt) is not installed" 'status 1'
+        "$old, and the Rattle toolchain (rt) is not installed: it is played as it is" "${shown[@]}"
 done
 make_tree
 tried there "$tree/one.txt"
@@ -193,16 +193,21 @@ not_writable() {
     make_rt 'echo rt was called; exit 1'
     tried by_another "$tree/one.bytes"
     answers 'a tree that is not writable, with an old program' \
-        "$old, and target cannot be written to build it anew: it is played as it is" "${played[@]}"
+        "$old, and target cannot be written: it is played as it is" "${played[@]}"
     chmod 777 "$tree/target"
     tried by_another "$tree/one.bytes"
     answers 'the same where target is writable and target/bin is not' \
-        "$old, and target cannot be written to build it anew: it is played as it is" "${played[@]}"
+        "$old, and target cannot be written: it is played as it is" "${played[@]}"
+    mkdir -p "$tree/target/rlib" && touch "$tree/target/rlib/one" && chmod 777 "$tree/target/bin" "$tree/target/rlib"
+    chmod 666 "$tree/target/bin/stand" && chmod a+x "$tree/target/bin/stand"
+    tried by_another "$tree/one.bytes"
+    answers 'the same where a file further in is not' \
+        "$old, and target cannot be written: it is played as it is" "${played[@]}"
 
     make_tree && chmod -R a-w "$tree"
     tried by_another "$tree/one.txt"
     answers 'a tree that is not writable, without a program' \
-        "$missing, and target cannot be written to build it" 'status 1'
+        "$missing, and target cannot be written" 'status 1'
 }
 
 if "${another[@]}" test -x "$place/bin" 2>/dev/null; then
