@@ -1,5 +1,5 @@
 /*
- * A pool of blocks of 1 to 256 bytes for 1 to 8 tasks, worked one step at a time.
+ * A pool of blocks for requests of 1 to 256 bytes of 1 to 8 tasks, worked one step at a time.
  *
  * ---- The two memories ----
  *
@@ -44,7 +44,7 @@
  *   1. The two memories do not overlap, and each really has the length that is lent with it. A pointer may be null
  *      where its length is 0.
  *   2. Calls do not overlap in time: mask interrupts or lock around each single call. The longest is a step of at most
- *      174 instructions, or a start, for which 599 were measured (docs/BENCHMARKS.md).
+ *      174 instructions. A start, which comes before the others, also fills 8,192 bytes by your memset.
  *   3. Each call but a start lends the control memory and the area of the last accepted start. If it lends another
  *      length, it is refused and does no harm.
  *   4. Users write only inside blocks that they hold. A block is held from the step that finishes with its unit to the
@@ -80,7 +80,7 @@
  *
  * The beginnings and the step have no loop; the start loops over the control memory alone. No call makes a system call,
  * allocates memory or keeps anything outside the two memories. The library is target/staticlib/libpool.a, made by
- * 'rt staticlib pool'. It needs memset from the firmware's C library. Its code is for x86-64 and uses SSE2 registers.
+ * 'rt staticlib pool'. A start needs memset from the firmware's C library, and SSE2 registers. The code is for x86-64.
  */
 #ifndef POOL_H
 #define POOL_H
@@ -119,7 +119,7 @@ enum pool_code {
     POOL_UNDER_WAY = 0, /* accepted; of a step: made, and the request goes on */
     POOL_FINISHED = 20, /* the step finished the request; the value of an allocation is its unit */
 
-    /* Caused by whoever builds the firmware in. */
+    /* Caused by whoever builds the pool into the firmware. */
     POOL_BAD_CONTROL = 1, /* the control memory is not 8,192 bytes */
     POOL_BAD_AREA = 2,    /* the area's length is 0, no multiple of 4,096 or above 65,536, or not the started one */
     POOL_BAD_TASKS = 3,   /* a start with a number of tasks that is not 1 to 8 */

@@ -48,6 +48,20 @@ static void examples(void)
     check_answer("regions: 80 bytes are held, the fifth size ends with 13", allocate(&lent, 0, 40), POOL_NO_REGION, 0);
 }
 
+/* A cache of 512 blocks that lie by turns in sixteen FULL regions: the next free returns each as a group of its own. */
+static void longest_free(void)
+{
+    struct lent lent = started(16, 1);
+    unsigned steps = 0;
+    for (unsigned i = 0; i < 16 * 512; i++)
+        (void)allocate(&lent, 0, 8);
+    for (unsigned i = 0; i < 512; i++)
+        (void)release(&lent, 0, i % 16 * 512 + i / 16);
+    (void)begin_free(&lent, 0, 32);
+    check("regions: a free that returns 512 groups finishes", POOL_CODE(finish(&lent, 0, &steps)) == POOL_FINISHED);
+    check("regions: at its step 2,610", steps == 2610);
+}
+
 /* Draws a workload; answers the number of regions by the rule: 2 x tasks - 1 + (most - 1) / n for each class. */
 static unsigned draw(unsigned seed)
 {
@@ -135,6 +149,7 @@ static int runs(unsigned regions)
 void check_regions(void)
 {
     examples();
+    longest_free();
     unsigned tried = 0, ran = 0, fewer = 0, ended = 0;
     for (unsigned seed = 1; seed <= WORKLOADS; seed++) {
         unsigned regions = draw(seed);

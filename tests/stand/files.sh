@@ -64,12 +64,16 @@ done
 # Where the file is no regular one, or standard input is read, the form is bytes unless --text is given.
 echo 'step 0' >"$out/step.txt"
 kind_of_s=('record kind code value' '0 115 15 0' 'total 0 0 1' 'status 0')
+hint='was played as bytes; for text give --text'
 tried ./stand <"$out/step.txt"
-answers 'text on standard input without --text' "${kind_of_s[@]}"
+answers 'text on standard input without --text' "stand: standard input $hint" "${kind_of_s[@]}"
+tried ./stand - <"$out/step.txt"
+answers 'the same by the name -' "stand: standard input $hint" "${kind_of_s[@]}"
 tried ./stand <(cat "$out/step.txt")
-answers 'text through a pipe with a name without --text' "${kind_of_s[@]}"
+sed -i 's|/dev/fd/[0-9]*|/dev/fd/N|' "$out/wrote"
+answers 'text through a pipe with a name without --text' "stand: /dev/fd/N $hint" "${kind_of_s[@]}"
 tried ./stand /dev/stdin <"$out/step.txt"
-answers 'text on /dev/stdin without --text' "${kind_of_s[@]}"
+answers 'text on /dev/stdin without --text' "stand: /dev/stdin $hint" "${kind_of_s[@]}"
 tried ./stand --text <"$out/step.txt"
 due_step 'standard input' 1 >"$out/due"
 compare 'text on standard input'

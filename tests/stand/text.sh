@@ -13,6 +13,9 @@ done
 cp tests/stand/paper.out "$out/due"
 compare 'the numbers of a table of text'
 
+# What is said besides of a byte 0, which text in UTF-16 has.
+saved='; text from Windows is to be saved as UTF-8'
+
 # Every awk that is there has to give the same tables. $out/awk is a folder that has it under the name of awk.
 awks=''
 rm -rf "$out/awk" && mkdir -p "$out/awk"
@@ -29,7 +32,7 @@ for awk in mawk gawk 'busybox awk' original-awk; do
     printf 'step 0\nst\xffep 0\n' | PATH=$PWD/$out/awk:$PATH ./stand --text >>"$out/wrote" 2>&1
     echo 'stand: line 2: expected start, allocate, free, step or run; found st?ep 0' >>"$out/due"
     printf 'step 0\r\n\377\0\n' | PATH=$PWD/$out/awk:$PATH ./stand --text >>"$out/wrote" 2>&1
-    echo 'stand: line 2: not text; found the byte 0' >>"$out/due"
+    echo "stand: line 2: not text; found the byte 0$saved" >>"$out/due"
 done
 compare "the same with${awks:- no awk}"
 
@@ -72,10 +75,10 @@ wrong "$(printf '%0100d' 1)" "$any" "$(printf '%040d' 0).."
 # Bytes that no text has: the line and the byte, also in a comment.
 no_text() {
     tried ./stand --text < <(printf 'start 1 1\n# a comment\n%b' "$1")
-    answers "text with the byte $2" "stand: line 3: not text; found the byte $2" 'status 2'
+    answers "text with the byte $2" "stand: line 3: not text; found the byte $2${3-}" 'status 2'
 }
-no_text 'step\0000 0\n' 0
-no_text '\0000' 0
+no_text 'step\0000 0\n' 0 "$saved"
+no_text '\0000' 0 "$saved"
 no_text '# \0007\n' 7
 no_text 'step 0\0013\n' 11
 no_text 'step 0\r\r\n' 13

@@ -81,8 +81,10 @@ NR == 1 { sub(/^\357\273\277/, "") }
 
 {
     sub(/\r$/, "")
-    if (match($0, /[\001-\010\013-\037\177\377]/))
-        refuse("not text; found the byte " value[substr($0, RSTART, 1)])
+    if (match($0, /[\001-\010\013-\037\177\377]/)) {
+        byte = value[substr($0, RSTART, 1)]
+        refuse("not text; found the byte " byte (byte == 0 ? "; text from Windows is to be saved as UTF-8" : ""))
+    }
     sub(/#.*/, "")
     count = split($0, words, " ")
     if (count > 0)
