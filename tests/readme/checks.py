@@ -27,6 +27,7 @@ CHECKS = [
     ("the README's table of crates is crates.txt", tables.crates),
     ('the tables of codes have the numbers of the header', tables.codes),
     ('the table of columns is the layout, and the constants are', tables.layout),
+    ('the table of places is the step list', tables.places),
     ('the numbers of the pool, and the constants of the header', pool.limits),
     ('the classes and their blocks', pool.classes),
     ('the order of the tests', pool.orders),

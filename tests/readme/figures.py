@@ -7,16 +7,21 @@ import subprocess
 import sys
 
 from documents import README, read, squeezed
+from tables import LIMITS, named, value
 
 LINES = 'tests/readme/numbers'
 STAND = 'target/bin/stand'
+FIRSTS = 'crates/plain/proofs/BenchFirsts.antt'
 NUMBER = r'((?:\d{1,3}(?:,\d{3})+|\d+)(?:\.\d+)?(?!\d|[.,]\d))'  # 174, 9,001 or 9001, 2.5
 
 
 def printed(command):
-    """What the source prints, as a number; `library` is the library's file to it."""
+    """What the source prints, as a number; `library` is the library's file to it. NAME of FILE is a defined number."""
+    constant = re.fullmatch(r'([A-Z0-9-]+) of (\S+\.antt)', command)
+    if constant:
+        return float(value(constant.group(1), named(LIMITS, constant.group(2))))
     done = subprocess.run(['bash', '-o', 'pipefail', '-c', command], capture_output=True, text=True, check=False,
-                          env={**os.environ, 'library': sys.argv[1]})
+                          env={**os.environ, 'library': sys.argv[1], 'limits': LIMITS, 'firsts': FIRSTS})
     text = done.stdout.strip()
     if done.returncode != 0 or not re.fullmatch(NUMBER, text):
         raise ValueError(f'the source prints no number: {text or done.stderr.strip()}: {command}')

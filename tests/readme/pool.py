@@ -2,7 +2,7 @@
 import re
 
 from documents import POOL, read, squeezed, tables_by
-from tables import HEADER, LIMITS, value
+from tables import HEADER, LIMITS, named, value
 
 CLASSES = 'crates/classes/specs/Classes.antt'
 TESTS = 'crates/demands/specs/Tests.antt'
@@ -25,7 +25,7 @@ def number_of(cell):
 
 def limits():
     """The table's numbers, and the header's constants, are those of the definitions."""
-    known = dict(re.findall(r'^([A-Z][A-Z0-9-]*) = (.+)$', read(LIMITS), re.M))
+    known = named(LIMITS)
     rows = tables_by(POOL, 'there are')
     told = [(POOL, row[0], number_of(row[1]), ROWS[row[0]]) for row in rows]
     told += [(HEADER, name, int(number), CONSTANTS[name])

@@ -10,6 +10,7 @@ ON_THE_STAND = 15  # the code of an unknown or cut record; no call answers it
 LIMITS = 'crates/limits/specs/Limits.antt'
 LAYOUT = 'crates/control/specs/Layout.antt'
 CONSTANTS = 'crates/control/src/layout.rt'
+PLACES = 'crates/control/specs/Places.antt'
 LAYOUT_DOCUMENT = 'docs/LAYOUT.md'
 OPERATIONS = {'+': operator.add, '*': operator.mul, '/': operator.floordiv}
 
@@ -56,6 +57,11 @@ def codes():
     return [wrong for document in (README, POOL) for wrong in wrong_codes(document, known)]
 
 
+def named(*paths):
+    """The numbers that the files define by names in capitals, as they are written."""
+    return dict(found for path in paths for found in re.findall(r'^([A-Z][A-Z0-9-]*) = (.+)$', read(path), re.M))
+
+
 def value(expression, known):
     """A number, a name, or two of them with an operation between."""
     words = expression.split()
@@ -72,7 +78,7 @@ def constant(name, gap):
 def layout():
     """The document's rows are the columns with their fields; the code's constants are their first bytes."""
     text = read(LAYOUT)
-    known = dict(re.findall(r'^([A-Z][A-Z0-9-]*) = (.+)$', read(LIMITS) + text, re.M))
+    known = named(LIMITS, LAYOUT)
     fields = {column: field for field, column in re.findall(r'^(\w+) = fieldOf (\w+)', text, re.M)}
     columns = re.findall(r'^(\w+) = column (\d+) (\d+) (\S+)$', text, re.M)
     there = [(name, fields.get(name), int(start), int(width), value(count, known))
@@ -90,3 +96,17 @@ def layout():
         if number != expected:
             result.append(f'{CONSTANTS}: {name} is {number}; {LAYOUT} has {expected}')
     return result + [f'{CONSTANTS}: there is no {name}' for name in due]
+
+
+def places():
+    """A row has a place for each of its names, or the three places in a row of a move, whose name is the first's."""
+    known, result, told = named(PLACES), [], []
+    for row in tables_by(LAYOUT_DOCUMENT, 'place'):
+        numbers, names = numbers_of(row[0]), re.findall(r'`([^`]+)`', row[1])
+        told += names
+        due = [int(known[name]) for name in names if name in known]
+        due = [due[0] + step for step in range(3)] if len(due) == 1 and len(numbers) == 3 else due
+        if numbers != due:
+            result.append(f'{LAYOUT_DOCUMENT}: {row[1]}: {numbers} is told; {PLACES} has {due}')
+    return result + only(told, [name for name in known if name not in ('PLACES', 'TO-NEXT', 'TO-EXCHANGE')],
+                         LAYOUT_DOCUMENT, PLACES)
