@@ -60,7 +60,7 @@ table =
     of-size 0 (number 8)
     ∷ of-size 1 (bytes 8)
     ∷ of-size 9 (bytes 16)
-    ∷ of-size 17 (bytes 24)
+    ∷ of-size 17 (bytes 32)
     ∷ of-size 65 (bytes 80)
     ∷ of-size 256 (bytes 256)
     ∷ of-size 257 (number 9)

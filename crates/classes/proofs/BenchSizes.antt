@@ -1,10 +1,8 @@
--- The rows of the bench table about sizes, as one statement; and the row about the end of a region.
-use mathlib.Core.Bool.{false}
+-- The rows of the bench table about sizes, as one statement.
 use mathlib.Core.Path.{_≡_, refl}
 use mathlib.Core.List.{List, [], _∷_, map}
 use Prim.Native.Nat.{ℕ}
-use Rattle.classes.specs.Classes.{units, block, perRegion}
-use Rattle.classes.specs.Geometry.{isFirst}
+use Rattle.classes.specs.Classes.{units, block}
 use Rattle.classes.specs.Sizes.{classOf, choice}
 use Rattle.classes.specs.declared.size.Choice.{Choice}
 use Rattle.classes.specs.declared.size.Choice.the-variants.{Class, Refused}
@@ -21,15 +19,10 @@ served (Refused n) = number n
 -- the rows: a size, and what is served for it
 abbrev pub sizes : List (ℕ × Served)
 sizes =
-    (0, number 8) ∷ (1, bytes 8) ∷ (9, bytes 16) ∷ (17, bytes 24) ∷
+    (0, number 8) ∷ (1, bytes 8) ∷ (9, bytes 16) ∷ (17, bytes 32) ∷
     (65, bytes 80) ∷ (256, bytes 256) ∷ (257, number 9) ∷ []
 
 -- each row is what the choice shows
 pub sizes-hold : map (λ r. served (choice (r .0))) sizes ≡ map (λ r. r .1) sizes
 unfolding units classOf choice
 sizes-hold = refl
-
--- unit 510 is no block in a region of 24-byte blocks, whose 16 last bytes are left over
-pub unit-510 : isFirst 2 510 ≡ false
-unfolding isFirst units perRegion
-unit-510 = refl

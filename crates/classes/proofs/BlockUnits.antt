@@ -1,16 +1,16 @@
 -- Where the blocks of a class lie: their first units, indexes and regions.
-use mathlib.Core.Path.{_≡_, refl, sym, ap, _∙_}
+use mathlib.Core.Path.{_≡_, refl, sym, ap, subst⁻¹, _∙_}
 use mathlib.Core.Bool.{true, and-eq-true-iff}
-use Prim.Native.Nat.{ℕ, _+_, _*_, _%_, _≤_, _<_}
+use Prim.Native.Nat.{ℕ, _+_, _*_, _/_, _%_, _≤_, _<_}
 use native.Mathlib.Omega.{arith}
 use native.Mathlib.Decide.{decLt}
-use native.Mathlib.Nat.{mul-le-mul-left, mul-div-cancel-left, mul-mod-right, div-add-mod}
+use native.Mathlib.Nat.{mul-assoc, mul-le-mul-left, mul-div-cancel-left, mul-mod-right, div-add-mod}
 use lib.Dec.{ltb, eqb}
 use borrow.Author.Tests.{eq-eqb, lt-ltb, eqb-true, ltb-true}
 use Rattle.limits.specs.Limits.{UNIT-BYTES, REGION-BYTES, REGION-UNITS, REGIONS, UNITS}
-use Rattle.classes.specs.Classes.{units, block, perRegion}
-use Rattle.classes.specs.Geometry.{unitOf, regionOf, indexOf, isFirst, BlockOf}
-use Rattle.classes.proofs.Tables.{units-low, fits}
+use Rattle.classes.specs.Classes.{ALIGNMENT, units, block, perRegion}
+use Rattle.classes.specs.Geometry.{unitOf, regionOf, indexOf, isFirst, BlockOf, Aligned}
+use Rattle.classes.proofs.Tables.{units-low, fits, aligned-size}
 
 -- block i of region r is a block
 abbrev pub block-at : (r c i : ℕ) → i < perRegion c → BlockOf r c (unitOf r c i)
@@ -92,3 +92,15 @@ unfolding isFirst
 block-first {c = c} {u} b =
     let z : u % REGION-UNITS % units c ≡ 0 = rw (offset-is b) (mul-mod-right (units c) (b .at)) in
     rw (eq-eqb (u % REGION-UNITS % units c) 0 z, lt-ltb (indexOf c u) (perRegion c) (index-below b))
+
+-- every block of 16 bytes or more begins at a multiple of 16 bytes of the area, in each region, class and index
+pub aligned : (r c i : ℕ) → Aligned c (unitOf r c i)
+aligned r c i h =
+    let k = block c / ALIGNMENT in
+    let e : units c ≡ 2 * k = omega (arith, aligned-size c h, div-add-mod (block c) ALIGNMENT) in
+    let f : units c * i ≡ 2 * (k * i) = ap (λ (n : ℕ). n * i) e ∙ mul-assoc 2 k i in
+    omega (arith, f)
+
+-- and so does one that a first unit names
+pub block-aligned : {r c u : ℕ} → BlockOf r c u → Aligned c u
+block-aligned {r} {c} b = subst⁻¹ (Aligned c) (b .is) (aligned r c (b .at))

@@ -75,18 +75,18 @@ rounded s h =
 abbrev little : ℕ → Bool
 little s = ltb (4 * (block (classOf s) - s)) (block (classOf s))
 
--- "For sizes from 25 up, 4 × (block − size) is below the block."
-pub quarter : (s : ℕ) → 25 ≤ s → s ≤ LARGEST-SIZE → 4 * (block (classOf s) - s) < block (classOf s)
+-- "The quarter limit on waste then holds from size 49 to 256": 4 × (block − size) is below the block
+pub quarter : (s : ℕ) → 49 ≤ s → s ≤ LARGEST-SIZE → 4 * (block (classOf s) - s) < block (classOf s)
 unfolding classOf units
 quarter s l h =
-    let e : 25 + (s - 25) ≡ s = omega arith in
+    let e : 49 + (s - 49) ≡ s = omega arith in
     ltb→lt (4 * (block (classOf s) - s)) (block (classOf s))
-    (subst (λ (k : ℕ). T (little k)) e (at (λ k. little (25 + k)) (suc LARGEST-SIZE - 25) tt (s - 25) (omega arith)))
+    (subst (λ (k : ℕ). T (little k)) e (at (λ k. little (49 + k)) (suc LARGEST-SIZE - 49) tt (s - 49) (omega arith)))
 
--- at size 17, 4 × (block − size) is not below the block: "At 17 it is not."
-pub not-at-17 : 4 * (block (classOf 17) - 17) < block (classOf 17) → ⊥
+-- it does not hold of every size below: at 36, 4 × (block − size) is the block
+pub not-at-36 : 4 * (block (classOf 36) - 36) < block (classOf 36) → ⊥
 unfolding classOf units
-not-at-17 h = omega arith
+not-at-36 h = omega arith
 
 -- size 0 is refused by 8
 pub refuses-none : (s : ℕ) → s ≡ 0 → choice s ≡ Refused 8

@@ -1,16 +1,17 @@
 -- The laws of the table of classes.
 use mathlib.Core.Path.{_≡_, refl, sym, ap, _∙_}
 use mathlib.Core.Logic.{_≢_}
-use mathlib.Core.Bool.{Bool}
+use mathlib.Core.Bool.{Bool, true, false, true≢false, _||_}
 use mathlib.Core.List.{List}
-use Prim.Native.Nat.{ℕ, zero, suc, _-_, _*_, _/_, _≤_, _<_}
+use Prim.Native.Nat.{ℕ, zero, suc, _-_, _*_, _/_, _%_, _≤_, _<_}
 use native.Mathlib.Omega.{arith}
 use native.Mathlib.Decide.{decLt}
 use lib.Dec.{T, leb, ltb, eqb, leb→le, ltb→lt, eqb→eq}
 use lib.ListN.{length, getD, List·getD-eq-default}
+use borrow.Author.Tests.{le-ltb}
 use Rattle.limits.specs.Limits.{UNIT-BYTES, REGION-BYTES, REGION-UNITS, CLASSES, MOST-BLOCKS}
-use Rattle.classes.specs.Classes.{blockSizes, blockCounts, SMALLEST-SIZE, LARGEST-UNITS, LEAST-BLOCKS, units}
-use Rattle.classes.specs.Classes.{block, perRegion}
+use Rattle.classes.specs.Classes.{blockSizes, blockCounts, SMALLEST-SIZE, LARGEST-UNITS, LEAST-BLOCKS}
+use Rattle.classes.specs.Classes.{ALIGNMENT, units, block, perRegion}
 use Rattle.classes.proofs.Below.{all, at}
 
 -- a test of the two entries of class c, its block and its n; past the table they are those of class 0
@@ -95,6 +96,19 @@ perRegion-high c = leb→le (perRegion c) MOST-BLOCKS (every-class (λ b n. leb 
 pub fits : (c : ℕ) → units c * perRegion c ≤ REGION-UNITS
 unfolding units perRegion entry
 fits c = leb→le (units c * perRegion c) REGION-UNITS (every-class (λ b n. leb (b / UNIT-BYTES * n) REGION-UNITS) tt c)
+
+-- where the first of two tests fails, the second passes
+other : (a b : Bool) → a ≡ false → T (a || b) → T b
+other true b e t = absurd (true≢false e)
+other false b e t = t
+
+-- a block of 16 bytes or more is a multiple of 16 bytes
+pub aligned-size : (c : ℕ) → ALIGNMENT ≤ block c → block c % ALIGNMENT ≡ 0
+unfolding units entry
+aligned-size c h =
+    eqb→eq (block c % ALIGNMENT) 0
+    (other (ltb (block c) ALIGNMENT) (eqb (block c % ALIGNMENT) 0) (le-ltb (block c) ALIGNMENT h)
+    (every-class (λ b n. let w = UNIT-BYTES * (b / UNIT-BYTES) in ltb w ALIGNMENT || eqb (w % ALIGNMENT) 0) tt c))
 
 -- the block of the class after c is larger
 next : ℕ → Bool

@@ -1,5 +1,5 @@
 -- docs/POOL.md, "Classes"
--- The sixteen classes of blocks.
+-- The classes of blocks.
 use mathlib.Core.List.{List, [], _∷_}
 use Prim.Native.Nat.{ℕ, _*_, _/_}
 use lib.ListN.{getD}
@@ -7,15 +7,19 @@ use Rattle.limits.specs.Limits.{UNIT-BYTES, REGION-BYTES, LARGEST-SIZE, MOST-BL
 
 -- the table's row "block": the bytes of a block of each class
 abbrev pub blockSizes : List ℕ
-blockSizes = 8 ∷ 16 ∷ 24 ∷ 32 ∷ 40 ∷ 48 ∷ 56 ∷ 64 ∷ 80 ∷ 96 ∷ 112 ∷ 128 ∷ 160 ∷ 192 ∷ 224 ∷ 256 ∷ []
+blockSizes = 8 ∷ 16 ∷ 32 ∷ 48 ∷ 64 ∷ 80 ∷ 96 ∷ 112 ∷ 128 ∷ 160 ∷ 192 ∷ 224 ∷ 256 ∷ []
 
 -- the table's row "n, per region": how many blocks of each class a region has
 abbrev pub blockCounts : List ℕ
-blockCounts = 512 ∷ 256 ∷ 170 ∷ 128 ∷ 102 ∷ 85 ∷ 73 ∷ 64 ∷ 51 ∷ 42 ∷ 36 ∷ 32 ∷ 25 ∷ 21 ∷ 18 ∷ 16 ∷ []
+blockCounts = 512 ∷ 256 ∷ 128 ∷ 85 ∷ 64 ∷ 51 ∷ 42 ∷ 36 ∷ 32 ∷ 25 ∷ 21 ∷ 18 ∷ 16 ∷ []
 
 -- the block of class 0, the smallest
 abbrev pub SMALLEST-SIZE : ℕ
 SMALLEST-SIZE = 8
+
+-- "every block of 16 bytes or more to start at a multiple of 16" (the request for the new processor): that number
+abbrev pub ALIGNMENT : ℕ
+ALIGNMENT = 16
 
 -- the units of the largest block
 abbrev pub LARGEST-UNITS : ℕ

@@ -2,10 +2,10 @@
 -- Where the blocks of a class lie in a region.
 use mathlib.Core.Path.{_≡_}
 use mathlib.Core.Bool.{Bool, _&&_}
-use Prim.Native.Nat.{ℕ, _+_, _*_, _/_, _%_, _<_}
+use Prim.Native.Nat.{ℕ, _+_, _*_, _/_, _%_, _≤_, _<_}
 use lib.Dec.{ltb, eqb}
-use Rattle.limits.specs.Limits.{REGION-UNITS}
-use Rattle.classes.specs.Classes.{units, perRegion}
+use Rattle.limits.specs.Limits.{UNIT-BYTES, REGION-UNITS}
+use Rattle.classes.specs.Classes.{ALIGNMENT, units, block, perRegion}
 
 -- a block is named by its first unit: that of block i of region r, whose blocks are of class c
 abbrev pub unitOf : ℕ → ℕ → ℕ → ℕ
@@ -28,3 +28,8 @@ pub record BlockOf (r c u : ℕ) : Type 0 where
   pub at : ℕ
   pub below : at < perRegion c
   pub is : u ≡ unitOf r c at
+
+-- "every block of 16 bytes or more to start at a multiple of 16" (the request for the new processor): a block of class c
+-- that begins at unit u does so, counted in bytes of the area
+abbrev pub Aligned : ℕ → ℕ → Type 0
+Aligned c u = ALIGNMENT ≤ block c → UNIT-BYTES * u % ALIGNMENT ≡ 0

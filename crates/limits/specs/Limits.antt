@@ -40,7 +40,7 @@ TASKS = 8
 
 -- the classes of the paper's table
 abbrev pub CLASSES : ℕ
-CLASSES = 16
+CLASSES = 13
 
 -- "There are 64 descriptors"
 abbrev pub DESCRIPTORS : ℕ

@@ -24,7 +24,7 @@ pub const WORD_MARKS: usize = 64;
 pub const TASKS: usize = 8;
 
 // The classes of the paper's table, and the largest size.
-pub const CLASSES: usize = 16;
+pub const CLASSES: usize = 13;
 
 pub const LARGEST_SIZE: usize = 256;
 

@@ -24,8 +24,5 @@ per-region-spec =
     (λ c. perRegion-at (c .before .args .class) 9 refl (omega arith))
     (λ c. perRegion-at (c .before .args .class) 10 refl (omega arith))
     (λ c. perRegion-at (c .before .args .class) 11 refl (omega arith))
-    (λ c. perRegion-at (c .before .args .class) 12 refl (omega arith))
-    (λ c. perRegion-at (c .before .args .class) 13 refl (omega arith))
-    (λ c. perRegion-at (c .before .args .class) 14 refl (omega arith))
-    (λ c. perRegion-at (c .before .args .class) 15 refl
-    (last 15 (c .before .args .class) (search needs) (c .match .rest))))
+    (λ c. perRegion-at (c .before .args .class) 12 refl
+    (last 12 (c .before .args .class) (search needs) (c .match .rest))))

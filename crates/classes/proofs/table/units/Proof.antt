@@ -24,7 +24,4 @@ units-spec =
     (λ c. units-at (c .before .args .class) 9 refl (omega arith))
     (λ c. units-at (c .before .args .class) 10 refl (omega arith))
     (λ c. units-at (c .before .args .class) 11 refl (omega arith))
-    (λ c. units-at (c .before .args .class) 12 refl (omega arith))
-    (λ c. units-at (c .before .args .class) 13 refl (omega arith))
-    (λ c. units-at (c .before .args .class) 14 refl (omega arith))
-    (λ c. units-at (c .before .args .class) 15 refl (last 15 (c .before .args .class) (search needs) (c .match .rest))))
+    (λ c. units-at (c .before .args .class) 12 refl (last 12 (c .before .args .class) (search needs) (c .match .rest))))
