@@ -60,6 +60,7 @@ pub mod SoundFree
 pub mod SoundSteps
 pub mod SoundCalls
 pub mod FoundStates
+pub mod Asked
 pub mod Reaching
 pub mod Ends
 pub mod Theorem

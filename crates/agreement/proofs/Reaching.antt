@@ -1,6 +1,8 @@
 -- The one induction over runs: whatever a run reaches is tied.
+use mathlib.Core.Path.{sym, subst}
 use mathlib.Core.List.{List, [], _∷_}
 use native.Mathlib.Omega.{arith}
+use Rattle.plain.specs.Moves.{Answer}
 use Rattle.plain.specs.Calls.{Pool}
 use Rattle.plain.specs.Calls as Plain
 use Rattle.stepped.specs.Outcome.{Memories}
@@ -8,25 +10,51 @@ use Rattle.agreement.specs.Events.{Event, stepped, whole, Premise, Premi
 use Rattle.agreement.specs.Tied.{Tied, FoundStates}
 use Rattle.agreement.specs.Reached.{History, happened, Reached, from-unstarted, from-start, by-event, Along}
 use Rattle.agreement.specs.Reached.{Wherever}
+use Rattle.agreement.specs.Asked.{asked, askedIn, AllAsAsked}
 use Rattle.agreement.proofs.Unstarted.{unstarted-tied}
 use Rattle.agreement.proofs.Starting.{accepted-start}
 use Rattle.agreement.proofs.FoundStates.{accepted-found, event-found}
 use Rattle.agreement.proofs.OneEvent.{alike}
+use Rattle.agreement.proofs.Asked.{unstarted-asked, started-asked, event-asked}
 
--- The memories and the pool that a run reaches are tied, and each task noted one of the three states.
-reached : {h : History} {s₁ : Memories} {s : Pool} → Reached h s₁ s → Tied s₁ s × FoundStates (s₁ .control)
+-- what holds of the memories and the pool that a run reaches with its history: they are tied, each task noted one of
+-- the three states, and each task that is at work is at what it has asked for last
+record Holds (h : History) (s₁ : Memories) (s : Pool) : Type 0 where
+  tied : Tied s₁ s
+  found : FoundStates (s₁ .control)
+  asks : AllAsAsked (λ t. asked t h) (s .mem)
+
+reached : {h : History} {s₁ : Memories} {s : Pool} → Reached h s₁ s → Holds h s₁ s
 unfolding Plain.plainCall
-reached (from-unstarted U) = (unstarted-tied U, λ k. absurd (omega (arith, U .tasks)))
-reached (from-start s₁ s b area a t) = (accepted-start s₁ s b area a t .tied, accepted-found s₁ b area a t)
-reached (by-event {s₁ = s₁} {s = s} R e p) =
-    let T = reached R in
-    (alike e s₁ s (T .0) p .tied, event-found e s₁ (T .0 .length) (T .0 .bytes) (T .1))
+reached (from-unstarted U) = record {
+  tied = unstarted-tied U;
+  found = λ k. absurd (omega (arith, U .tasks));
+  asks = unstarted-asked _;
+}
+reached (from-start s₁ s b area a t) = record {
+  tied = accepted-start s₁ s b area a t .tied;
+  found = accepted-found s₁ b area a t;
+  asks = started-asked b area s _ a t;
+}
+reached (by-event {h} {s₁} {s} R e p) =
+    let H = reached R in
+    let A = alike e s₁ s (H .tied) p in
+    record {
+      tied = A .tied;
+      found = event-found e s₁ (H .tied .length) (H .tied .bytes) (H .found);
+      asks =
+          subst (λ (x : Answer). AllAsAsked (λ t. askedIn t e (x .code) (asked t h)) (whole e s .0 .mem))
+          (sym (A .says)) (event-asked e s (λ t. asked t h) (H .asks));
+    }
 
 pub reached-tied : {h : History} {s₁ : Memories} {s : Pool} → Reached h s₁ s → Tied s₁ s
-reached-tied R = reached R .0
+reached-tied R = reached R .tied
 
 pub reached-found : {h : History} {s₁ : Memories} {s : Pool} → Reached h s₁ s → FoundStates (s₁ .control)
-reached-found R = reached R .1
+reached-found R = reached R .found
+
+pub reached-asked : {h : History} {s₁ : Memories} {s : Pool} → Reached h s₁ s → AllAsAsked (λ t. asked t h) (s .mem)
+reached-asked R = reached R .asks
 
 -- What follows of each event from something that every event keeps holds along every list of events that meets the
 -- premises.

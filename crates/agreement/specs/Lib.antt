@@ -5,6 +5,7 @@ pub mod Relation
 pub mod Tied
 pub mod Events
 pub mod Reached
+pub mod Asked
 pub mod Observe
 pub mod Agreement
 pub mod Ends

@@ -36,7 +36,7 @@ GoodAfter x = Good (x .0)
 tested-good : (t : ℕ) (lent : Lengths) (s : Pool) (x : Result) → Good s
     → (t < TASKS → Invariant (s .regions) (s .mem) → KeepsInvariant (s .regions) x) → Good (tested t lent s x .0)
 tested-good t lent s x g h =
-    by-tests GoodAfter t lent s x (λ n l. g)
+    by-tests GoodAfter t lent s x (λ n k l. g)
     (λ d. record { few = g .few; small = g .small; inv = λ i. h (omega (arith, g .few)) (g .inv i) })
 
 -- A pool that is not started is good.

@@ -82,7 +82,7 @@ module _ (c : Call) (s : Pool) where
   -- the tests of a call that is no start
   tested-is : (t : ℕ) (lent : Lengths) (x : Result) → (t < s .tasks → CallIs c s (became s x))
       → CallIs c s (tested t lent s x)
-  tested-is t lent x h = by-tests (CallIs c s) t lent s x (λ n l. refuses n (omega arith)) h
+  tested-is t lent x h = by-tests (CallIs c s) t lent s x (λ n k l. refuses n (omega arith)) h
 
   begins-is : (x : Result) → Small x → CallIs c s (became s x)
   begins-is x h = begins (h .0) refl (h .1)

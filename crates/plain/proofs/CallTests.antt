@@ -21,15 +21,15 @@ either Q (no n) x y a b = b n
 
 -- tests 1, 4, 2, 5 of a call that is no start: it is refused, or does what follows them
 pub by-tests : (Q : Pool × Answer → Type 0) (t : ℕ) (lent : Lengths) (s : Pool) (x : Result)
-    → ((n : ℕ) → n ≤ 5 → Q (refuse n s)) → (t < s .tasks → Q (became s x))
+    → ((n : ℕ) → 1 ≤ n → n ≤ 5 → Q (refuse n s)) → (t < s .tasks → Q (became s x))
     → Q (tested t lent s x)
 by-tests Q t lent s x no-more h =
     either Q (ℕ-discrete (lent .control) CONTROL-BYTES) _ _
-    (λ a. either Q (ℕ-discrete (s .tasks) 0) _ _ (λ b. no-more 4 (omega arith))
+    (λ a. either Q (ℕ-discrete (s .tasks) 0) _ _ (λ b. no-more 4 (omega arith) (omega arith))
     (λ b. either Q (ℕ-discrete (lent .area) (REGION-BYTES * s .regions)) _ _
-    (λ c. either Q (decLt t (s .tasks)) _ _ h (λ d. no-more 5 (omega arith)))
-    (λ c. no-more 2 (omega arith))))
-    (λ a. no-more 1 (omega arith))
+    (λ c. either Q (decLt t (s .tasks)) _ _ h (λ d. no-more 5 (omega arith) (omega arith)))
+    (λ c. no-more 2 (omega arith) (omega arith))))
+    (λ a. no-more 1 (omega arith) (omega arith))
 
 -- a call that passes the tests 1, 4, 2, 5 does what follows them
 pub passed : {t : ℕ} {lent : Lengths} {s : Pool} (x : Result) → Tested t lent s → tested t lent s x ≡ became s x

@@ -20,6 +20,7 @@ pub mod GroupFits
 pub mod Returns
 pub mod Codes
 pub mod Steps
+pub mod Requests
 pub mod StartInvariant
 pub mod Begins
 pub mod Always

@@ -7,6 +7,7 @@ pub mod Blocks
 pub mod ByState
 pub mod Held
 pub mod Noted
+pub mod Requests
 pub mod HolderWeights
 pub mod TaskHolds
 pub mod Invariant

@@ -17,7 +17,7 @@ SameStart p p′ = (p′ .tasks ≡ p .tasks) × (p′ .regions ≡ p .regions)
 
 -- a call that is no start leaves these numbers
 tested-keeps : (t : ℕ) (lent : Lengths) (p : Pool) (x : Result) → SameStart p (Calls.tested t lent p x .0)
-tested-keeps t lent p x = by-tests (λ z. SameStart p (z .0)) t lent p x (λ n l. (refl, refl)) (λ l. (refl, refl))
+tested-keeps t lent p x = by-tests (λ z. SameStart p (z .0)) t lent p x (λ n k l. (refl, refl)) (λ l. (refl, refl))
 
 module _ (lent : Lengths) (t : ℕ) (p : Pool) where
   pub allocate-keeps : (size : ℕ) → SameStart p (Calls.plainCall (Calls.allocate t size) lent p .0)

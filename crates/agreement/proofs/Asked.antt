@@ -1,0 +1,136 @@
+-- A task that is at work is at what it has asked for last, after every event.
+use mathlib.Core.Path.{_≡_, refl, sym, ap, subst, subst⁻¹}
+use mathlib.Core.Bool.{cond}
+use mathlib.Core.List.{List}
+use Prim.Native.Nat.{ℕ, zero, suc, _≤_}
+use native.Mathlib.Omega.{arith}
+use native.Mathlib.Decide.{ℕ-discrete, decLt}
+use borrow.Author.Tests.{eq-eqb, ne-eqb}
+use lib.Dec.{eqb}
+use lib.ListN.{length}
+use Rattle.limits.specs.Limits.{LARGEST-SIZE}
+use Rattle.rows.specs.Branch.{both}
+use Rattle.rows.specs.Update.{update}
+use Rattle.rows.proofs.Update.{update-all}
+use Rattle.classes.specs.Geometry.{regionOf}
+use Rattle.plain.specs.State.{Place, idle, working, Work, Task, Mem}
+use Rattle.plain.specs.Moves.{Answer, refused}
+use Rattle.plain.specs.Steps.{Result, stepOf, stepAt, whenWorking}
+use Rattle.plain.specs.Requests.{requestAt, StillAt}
+use Rattle.plain.specs.Calls.{Pool, Start, Lengths, Call, start, allocate, free, step, startMem, opens?, first?}
+use Rattle.plain.specs.Calls.{freeEntry, whenIdle, tested, unstarted, plainCall, StartArea, StartTasks}
+use Rattle.plain.proofs.CallTests.{either, by-tests, start-numbers, start-passed, by-start-tests}
+use Rattle.plain.proofs.Requests.{own-request}
+use Rattle.stepped.specs.Calls.{lengths}
+use Rattle.agreement.specs.Events.{Event, call, write, whole}
+use Rattle.agreement.specs.Reached.{starting}
+use Rattle.agreement.specs.Asked.{Asked, for-bytes, for-free, askedBy, askedIn, AsAsked, AtWhatAsked, AllAsAsked}
+
+-- a refused call asks for nothing
+refused-asks : (k : Call) (t n : ℕ) (a : Asked) → 1 ≤ n → askedBy t k n a ≡ a
+refused-asks (start b) t n a h = rw (ne-eqb n 0 (omega arith))
+refused-asks (allocate u size) t n a h = rw (ne-eqb n 0 (omega arith))
+refused-asks (free u unit) t n a h = rw (ne-eqb n 0 (omega arith))
+refused-asks (step u) t n a h = refl
+
+-- what a task has asked for stays so while it goes on with it
+still : (a : Asked) (w : Work) (p : Place) → AsAsked a (requestAt w) → StillAt (requestAt w) p → AtWhatAsked a p
+still a w idle h k = tt
+still a w (working x) h k = subst⁻¹ (AsAsked a) k h
+
+-- the task u begins: it has now asked for b, and is at that
+begins : (a : ℕ → Asked) (m : Mem) → AllAsAsked a m → (u : ℕ) (b : Asked) (T : Task) → AtWhatAsked b (T .place)
+    → (t : ℕ) → AtWhatAsked (cond (eqb u t) b (a t)) (update (m .task) u T t .place)
+begins a m A u b T h =
+    update-all (λ t U. AtWhatAsked (cond (eqb u t) b (a t)) (U .place)) (m .task) u T (rw (eq-eqb u u refl) h)
+    (λ t n. rw (ne-eqb u t (λ e. n (sym e))) (A t))
+
+-- a step of an idle task is none
+idle-stays : (u : ℕ) (m : Mem) → m .task u .place ≡ idle → stepOf u m .0 ≡ m
+unfolding stepOf
+idle-stays u m e = ap (λ (p : Place). whenWorking p (λ w. stepAt u (m .task u .cache) w m) m .0) e
+
+-- a step asks for nothing, and its task goes on
+step-asked : (a : ℕ → Asked) (m : Mem) → AllAsAsked a m → (u : ℕ) → AllAsAsked a (stepOf u m .0)
+step-asked a m A u t = by (m .task u .place) refl
+  where
+    by : (p : Place) → m .task u .place ≡ p → AtWhatAsked (a t) (stepOf u m .0 .task t .place)
+    by idle e = subst⁻¹ (λ (x : Mem). AtWhatAsked (a t) (x .task t .place)) (idle-stays u m e) (A t)
+    by (working w) e =
+        let O = own-request u m w e in
+        elim (ℕ-discrete t u) [
+          | yes i ↦ rw i (still (a u) w (stepOf u m .0 .task u .place) (subst (AtWhatAsked (a u)) e (A u)) (O .own))
+          | no n ↦ rw (O .others t n) (A t)
+        ]
+
+module _ (k : Call) (s : Pool) (a : ℕ → Asked) (A : AllAsAsked a (s .mem)) where
+  -- what is shown of a call that leaves the memory of y and gives its answer
+  abbrev Shown : Result → Type 0
+  Shown y = (t : ℕ) → AtWhatAsked (askedBy t k (y .1 .code) (a t)) (y .0 .task t .place)
+
+  abbrev ShownOf : Pool × Answer → Type 0
+  ShownOf y = Shown (y .0 .mem, y .1)
+
+  refuses : (n : ℕ) → 1 ≤ n → Shown (s .mem, refused n)
+  refuses n h t =
+      subst⁻¹ (λ (b : Asked). AtWhatAsked b (s .mem .task t .place)) (refused-asks k t n (a t) h) (A t)
+
+  when-tested : (t : ℕ) (lent : Lengths) (x : Result) → Shown x → ShownOf (tested t lent s x)
+  when-tested t lent x h = by-tests ShownOf t lent s x (λ n i l. refuses n i) (λ l. h)
+
+  when-idle : (p : Place) (x : Result) → Shown x → Shown (whenIdle p x (s .mem))
+  when-idle idle x h = h
+  when-idle (working w) x h = refuses 6 (omega arith)
+
+-- the beginning of a free, by the map's entry of the unit's region
+free-asked : (s : Pool) (a : ℕ → Asked) (A : AllAsAsked a (s .mem)) (u unit z : ℕ)
+    → Shown (free u unit) s a A (freeEntry z u unit (s .mem))
+free-asked s a A u unit zero = refuses (free u unit) s a A 10 (omega arith)
+free-asked s a A u unit (suc d) =
+    let k = free u unit in
+    let D = s .mem .descriptor d in
+    let Q = Shown k s a A in
+    either Q (both (opens? D (regionOf unit)) (first? (D .class) unit)) _ _
+    (λ e. either Q (ℕ-discrete (s .mem .hands unit) 0) _ _ (λ f. refuses k s a A 11 (omega arith))
+    (λ f. begins a (s .mem) A u (for-free unit) _ refl))
+    (λ e. refuses k s a A 10 (omega arith))
+
+-- one call of the plain pool
+call-asked : (k : Call) (lent : Lengths) (s : Pool) (a : ℕ → Asked) (A : AllAsAsked a (s .mem))
+    → ShownOf k s a A (plainCall k lent s)
+unfolding plainCall startMem
+call-asked (start b) lent s a A =
+    let k = start b in
+    by-start-tests (ShownOf k s a A) b lent s (λ n F. refuses k s a A n (start-numbers F .0)) (λ T t. tt)
+call-asked (allocate u size) lent s a A =
+    let k = allocate u size in
+    let Q = Shown k s a A in
+    when-tested k s a A u lent _ (when-idle k s a A (s .mem .task u .place) _
+    (either Q (ℕ-discrete size 0) _ _ (λ e. refuses k s a A 8 (omega arith))
+    (λ e. either Q (decLt LARGEST-SIZE size) _ _ (λ f. refuses k s a A 9 (omega arith))
+    (λ f. begins a (s .mem) A u (for-bytes size) _ (omega arith, omega arith, refl)))))
+call-asked (free u unit) lent s a A =
+    let k = free u unit in
+    when-tested k s a A u lent _ (when-idle k s a A (s .mem .task u .place) _
+    (either (Shown k s a A) (decLt (regionOf unit) (s .regions)) _ _
+    (λ e. free-asked s a A u unit (s .mem .map (regionOf unit))) (λ e. refuses k s a A 10 (omega arith))))
+call-asked (step u) lent s a A = when-tested (step u) s a A u lent (stepOf u (s .mem)) (step-asked a (s .mem) A u)
+
+-- one event of the whole run
+pub event-asked : (e : Event) (s : Pool) (a : ℕ → Asked) → AllAsAsked a (s .mem)
+    → AllAsAsked (λ t. askedIn t e (whole e s .1 .code) (a t)) (whole e s .0 .mem)
+event-asked (call k lent) s a A = call-asked k (lengths lent) s a A
+event-asked (write at b) s a A = A
+
+-- nothing is asked for at first
+pub unstarted-asked : (a : ℕ → Asked) → AllAsAsked a (unstarted .mem)
+unfolding unstarted startMem
+unstarted-asked a t = tt
+
+-- nothing is under way after an accepted start
+pub started-asked : (b : Start) (area : List ℕ) (s : Pool) (a : ℕ → Asked) → StartArea (length area)
+    → StartTasks (b .tasks) → AllAsAsked a (whole (starting b area) s .0 .mem)
+unfolding plainCall startMem
+started-asked b area s a x y t =
+    subst⁻¹ (λ (z : Pool × Answer). AtWhatAsked (a t) (z .0 .mem .task t .place))
+    (start-passed s (record { control-is = refl; area = x; tasks = y })) tt

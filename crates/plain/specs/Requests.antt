@@ -1,0 +1,54 @@
+-- docs/POOL.md, "The plain pool"
+-- Which request a task is at work on, at each place.
+use mathlib.Core.Path.{_≡_}
+use mathlib.Core.Logic.{_≢_}
+use Prim.Native.Nat.{ℕ}
+use Rattle.plain.specs.State.{Pop, partial, spare, region, Push, retire, back, release, offer, Work, a1, popping}
+use Rattle.plain.specs.State.{pushing, a3-read, a3-exchange, a4, a7, a8, f1, f2, f3-read, f3-link, f3-exchange}
+use Rattle.plain.specs.State.{f4-clear, Place, idle, working, Mem}
+
+-- "each task's request": the allocation of a block of the class c, or the free of the block u, which is of the class c
+pub data Request : Type 0 where
+  allocation : (c : ℕ) → Request
+  freeing : (c u : ℕ) → Request
+
+-- the request of a pop
+abbrev pub popRequest : Pop → Request
+popRequest (partial c) = allocation c
+popRequest (spare c) = allocation c
+popRequest (region c d) = allocation c
+
+-- the request of a push
+abbrev pub pushRequest : Push → Request
+pushRequest (retire c d) = allocation c
+pushRequest (back c d) = allocation c
+pushRequest (release c u d w r) = freeing c u
+pushRequest (offer c u d) = freeing c u
+
+-- the request that a task at work is at
+abbrev pub requestAt : Work → Request
+requestAt (a1 c) = allocation c
+requestAt (popping p φ) = popRequest p
+requestAt (pushing p φ) = pushRequest p
+requestAt (a3-read c d) = allocation c
+requestAt (a3-exchange c d n) = allocation c
+requestAt (a4 c x q) = allocation c
+requestAt (a7 c d r) = allocation c
+requestAt (a8 c r i) = allocation c
+requestAt (f1 c u) = freeing c u
+requestAt (f2 c u g) = freeing c u
+requestAt (f3-read c u y g) = freeing c u
+requestAt (f3-link c u y g d n) = freeing c u
+requestAt (f3-exchange c u y g d n) = freeing c u
+requestAt (f4-clear c u d w r) = freeing c u
+
+-- the request is over, or the task is still at it
+abbrev pub StillAt : Request → Place → Type 0
+StillAt q idle = Unit {0}
+StillAt q (working w) = requestAt w ≡ q
+
+-- A step of the task t, which is at the request q, leads from the memory m to x: the task goes on with q until it is
+-- idle, and every other task is as it was.
+pub record OwnRequest (t : ℕ) (q : Request) (m x : Mem) : Type 0 where
+  pub own : StillAt q (x .task t .place)
+  pub others : (j : ℕ) → j ≢ t → x .task j ≡ m .task j
