@@ -201,8 +201,9 @@ module _ (lent : Lengths) (v : View) (link : ℕ → ℕ) (t : ℕ) where
       tests lent v t (λ x. ((n : ℕ) → x .answer ≢ Refused n) → Tested lent v t) _
       (λ n h k. absurd (k n refl)) (λ T k. T)
 
-  end-passed : (a : Answer) → IsEnd a → o .answer ≡ a → Tested lent v t
-  end-passed a i e = not-refused (λ n f. subst IsEnd (sym e ∙ f) i)
+  -- a step that ends the request has passed the tests, and has its cause
+  pub ends-by : (a : Answer) → IsEnd a → o .answer ≡ a → Tested lent v t × Cause v t a
+  ends-by a i e = (not-refused (λ n f. subst IsEnd (sym e ∙ f) i), cause ending a i e)
 
   -- a step that passes the tests is that of its place
   at-place : {place : ℕ} → Tested lent v t → v (TaskPlace t) ≡ place → IDLE < place → v (TaskClass t) < CLASSES
@@ -248,7 +249,7 @@ module _ (lent : Lengths) (v : View) (link : ℕ → ℕ) (t : ℕ) where
   pub no-descriptor : (o .answer ≡ NoDescriptor) ↔ (Tested lent v t × FindsEmpty Spare v t)
   unfolding Steps.stepAt
   no-descriptor = (
-    λ e. (end-passed NoDescriptor tt e, cause ending NoDescriptor tt e),
+    ends-by NoDescriptor tt,
     λ h. ap (λ (x : Outcome). x .answer)
         (at-place (h .0) (h .1 .place) (omega arith) (h .1 .class) ∙ finds-empty Spare (h .1)),
   )
@@ -257,7 +258,7 @@ module _ (lent : Lengths) (v : View) (link : ℕ → ℕ) (t : ℕ) where
   pub no-region : (o .answer ≡ NoRegion) ↔ (Tested lent v t × WinsPush Back v t)
   unfolding Steps.stepAt
   no-region = (
-    λ e. (end-passed NoRegion tt e, cause ending NoRegion tt e),
+    ends-by NoRegion tt,
     λ h. ap (λ (x : Outcome). x .answer)
         (at-place (h .0) (h .1 .place) (omega arith) (h .1 .class) ∙ wins-push Back (h .1)),
   )

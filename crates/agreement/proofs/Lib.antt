@@ -63,6 +63,7 @@ pub mod FoundStates
 pub mod Asked
 pub mod Reaching
 pub mod Ends
+pub mod Handed
 pub mod Theorem
 pub mod FreeUnderWay
 pub mod ListsInRange

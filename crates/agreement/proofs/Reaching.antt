@@ -19,12 +19,12 @@ use Rattle.agreement.proofs.Asked.{unstarted-asked, started-asked, even
 
 -- what holds of the memories and the pool that a run reaches with its history: they are tied, each task noted one of
 -- the three states, and each task that is at work is at what it has asked for last
-record Holds (h : History) (s₁ : Memories) (s : Pool) : Type 0 where
+record HoldsThere (h : History) (s₁ : Memories) (s : Pool) : Type 0 where
   tied : Tied s₁ s
   found : FoundStates (s₁ .control)
   asks : AllAsAsked (λ t. asked t h) (s .mem)
 
-reached : {h : History} {s₁ : Memories} {s : Pool} → Reached h s₁ s → Holds h s₁ s
+reached : {h : History} {s₁ : Memories} {s : Pool} → Reached h s₁ s → HoldsThere h s₁ s
 unfolding Plain.plainCall
 reached (from-unstarted U) = record {
   tied = unstarted-tied U;

@@ -16,7 +16,8 @@ use Rattle.control.specs.Layout.{Anchor, TaskAnchor, CacheTop, CacheCount, Task
 use Rattle.control.specs.Layout.{GroupLast, GroupCount}
 use Rattle.control.specs.Layout.{TaskPlace, TaskClass, TaskDescriptor, TaskRegion, TaskState, DescriptorRegion, Map}
 use Rattle.control.specs.Layout.{Regions}
-use Rattle.control.specs.Places.{A1, A3-READ, A3-EXCHANGE, A4, A8, F2, F3-READ, F3-LINK, F3-EXCHANGE, F4-CLEAR, IDLE}
+use Rattle.control.specs.Places.{A1, A3-READ, A3-EXCHANGE, A4, A8, F1, F2, F3-READ, F3-LINK, F3-EXCHANGE, F4-CLEAR}
+use Rattle.control.specs.Places.{IDLE}
 use Rattle.control.specs.declared.moves.Pop.the-variants.{Partial, Spare, Region}
 use Rattle.control.specs.declared.moves.Push.the-variants.{Retire, Back, Release, Offer}
 use Rattle.stepped.specs.Outcome.{Outcome, bad}
@@ -25,7 +26,8 @@ use Rattle.stepped.specs.Lists.{popPlace, pushPlace}
 use Rattle.stepped.specs.Allocate as Allocate
 use Rattle.stepped.specs.Free as Free
 use Rattle.stepped.specs.Steps as Steps
-use Rattle.agreement.proofs.Ways.{PlaceEnding, wrong, either, test, to, stay, finish}
+use Rattle.stepped.proofs.Conjunction.{left-true}
+use Rattle.agreement.proofs.Ways.{branch, PlaceEnding, wrong, either, test, to, stay, finish}
 use Rattle.agreement.proofs.MoveWays.{pop-read, pop-next, pop-exchange, push-read, push-next, push-exchange, f5}
 
 module _ (v : View) (link : ℕ → ℕ) (t : ℕ) (fits : v (TaskClass t) < CLASSES) where
@@ -40,14 +42,18 @@ module _ (v : View) (link : ℕ → ℕ) (t : ℕ) (fits : v (TaskClass t) < CLA
 
   -- ---- allocate
 
-  a1 : End (Allocate.a1 v link regions t c)
+  a1 : v (TaskPlace t) ≡ A1 → End (Allocate.a1 v link regions t c)
   unfolding Allocate.a1 Allocate.a1Take
-  a1 =
+  a1 here =
       let k = v (CacheCount t c) in
       let u = v (CacheTop t c) in
+      let below = isTop regions c (k - 1) (link u) in
       either (eqb k 0) (to (popPlace Partial) (omega arith) (λ u. refl))
       (test (leb k (perRegion c))
-      (test (isBlock regions c u && isTop regions c (k - 1) (link u)) (finish tt (λ u. refl))))
+      (branch End (isBlock regions c u && below)
+      (λ e. finish (record { place = here; class = fits; top = refl; is-block = left-true (isBlock regions c u) below e })
+      (λ u. refl))
+      (λ e. wrong)))
 
   a3-read : End (Allocate.a3Read v link regions t c)
   unfolding Allocate.a3Read Allocate.a3ReadOf
@@ -94,14 +100,14 @@ module _ (v : View) (link : ℕ → ℕ) (t : ℕ) (fits : v (TaskClass t) < CLA
 
   -- ---- free
 
-  f1 : End (Free.f1 v link regions t c)
+  f1 : v (TaskPlace t) ≡ F1 → End (Free.f1 v link regions t c)
   unfolding Free.f1 Free.f1Put
-  f1 =
+  f1 here =
       let k = v (CacheCount t c) in
       let n = perRegion c in
       test (leb k n)
       (either (ltb k n)
-      (test (isBlock regions c (v (TaskUnit t)) && isTop regions c k (v (CacheTop t c))) (finish tt (λ u. refl)))
+      (test (isBlock regions c (v (TaskUnit t)) && isTop regions c k (v (CacheTop t c))) (finish here (λ u. refl)))
       (to F2 (omega arith) (λ u. refl)))
 
   f2 : End (Free.f2 v link regions t c)
@@ -174,7 +180,7 @@ module _ (v : View) (link : ℕ → ℕ) (t : ℕ) (fits : v (TaskClass t) < CLA
   all : IDLE < v (TaskPlace t) → EachEnds IDLE (Steps.stepList v link regions t c)
   all busy =
       not-idle busy
-      then (λ e. a1)
+      then a1
       then pop-read v t fits Partial
       then (λ e. pop-next v t fits Partial)
       then (λ e. pop-exchange v t fits Partial)
@@ -201,7 +207,7 @@ module _ (v : View) (link : ℕ → ℕ) (t : ℕ) (fits : v (TaskClass t) < CLA
       then (λ e. a4)
       then (λ e. a7)
       then (λ e. a8)
-      then (λ e. f1)
+      then f1
       then (λ e. f2)
       then (λ e. f3-read)
       then (λ e. f3-link)

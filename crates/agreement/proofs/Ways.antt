@@ -14,7 +14,7 @@ use Rattle.plain.specs.Moves.{Decided}
 use Rattle.plain.specs.Calls.{Start, Lengths, StartTested, StartFails, start-control, start-area, start-tasks}
 use Rattle.plain.proofs.CallTests.{start-tested}
 use Rattle.control.specs.Layout.{TaskPlace, Tasks, Regions}
-use Rattle.control.specs.Places.{IDLE}
+use Rattle.control.specs.Places.{IDLE, F1}
 use Rattle.control.specs.declared.answer.Answer.{Answer}
 use Rattle.control.specs.declared.answer.Answer.the-variants.{Accepted, Allocated, Freed, NoDescriptor, NoRegion}
 use Rattle.control.specs.declared.answer.Answer.the-variants.{Refused}
@@ -27,8 +27,7 @@ use Rattle.stepped.specs.Calls.{Tested, HasTasks, HasRegions, Lent, lengths, st
 use Rattle.stepped.specs.Calls.{FirstFails, control-fails, tasks-fail, not-started, regions-fail, area-fails}
 use Rattle.stepped.specs.Calls.{task-fails}
 use Rattle.agreement.specs.Ends.{startRefusals, oneOf, testRefusals, placeRefusals, stepRefusals, Begins}
-use Rattle.agreement.specs.Ends.{FindsEmpty, WinsPush}
-use Rattle.agreement.specs.Ends.{InPush}
+use Rattle.agreement.specs.Ends.{FindsEmpty, WinsPush, HandsOut, InPush}
 use Rattle.stepped.proofs.CallTests.{one-to, start-failed, start-passed}
 use Rattle.agreement.proofs.BothPass.{both-true}
 
@@ -132,8 +131,8 @@ among-start-tests (start-tasks c a h) = refl
 -- why a step gives an answer that ends the request
 abbrev pub Cause : View → ℕ → Answer → Type 0
 Cause v t Accepted = ⊥
-Cause v t (Allocated u) = Unit {0}
-Cause v t Freed = Unit {0}
+Cause v t (Allocated u) = HandsOut v t u
+Cause v t Freed = v (TaskPlace t) ≡ F1
 Cause v t NoDescriptor = FindsEmpty Spare v t
 Cause v t NoRegion = WinsPush Back v t
 Cause v t (Refused n) = ⊥
