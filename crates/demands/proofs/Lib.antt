@@ -4,4 +4,5 @@ pub mod Failing
 pub mod Acting
 pub mod ReachingByActs
 pub mod Backing
+pub mod HandedOut
 pub mod Demands

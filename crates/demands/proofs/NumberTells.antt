@@ -3,7 +3,7 @@ use mathlib.Core.Path.{_≡_, refl, sym, ap, subst, _∙_}
 use mathlib.Core.Logic.{_≢_, _⊎_, ⊎-elim, inl, inr}
 use mathlib.Core.Bool.{Bool, true, false, _&&_, _||_, false≢true}
 use mathlib.Core.List.{List, [], _∷_}
-use Prim.Native.Nat.{ℕ, _+_, _*_, _<_}
+use Prim.Native.Nat.{ℕ, _+_, _*_, _/_, _%_, _<_}
 use native.Mathlib.Omega.{arith}
 use borrow.Author.Tests.{eqb-true, ltb-true}
 use lib.Dec.{eqb, ltb}
@@ -126,3 +126,15 @@ end-told (Refused n) g e =
     ⊎-elim (not-among 12 g refl)
     (λ f. ⊎-elim (not-among 13 g refl)
     (λ h. not-among {n = n} 20 g refl (omega (arith, h, among stepRefusals n refl g))) f) e
+
+-- the number of a finish tells that an allocation has handed out a unit, its value, or that a free is done
+pub finish-told : (a : Answer) → StepAnswers stepRefusals a → numberOf a % CODES ≡ 20
+    → ((u : ℕ) × (a ≡ Allocated u) × (numberOf a / CODES ≡ u)) ⊎ (a ≡ Freed)
+unfolding small
+finish-told Accepted g e = absurd (omega (arith, e))
+finish-told (Allocated u) g e = inl (u, refl, omega arith)
+finish-told Freed g e = inr refl
+finish-told NoDescriptor g e = absurd (omega (arith, e))
+finish-told NoRegion g e = absurd (omega (arith, e))
+finish-told (Refused n) g e =
+    absurd (not-among {n = n} 20 g refl (omega (arith, e, among stepRefusals n refl g)))
