@@ -15,6 +15,7 @@ int check_end(void);
 
 /* Each file of checks, in order. */
 void check_examples(void);
+void check_sizes(void);
 void check_blocks(void);
 void check_ends(void);
 void check_regions(void);

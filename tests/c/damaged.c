@@ -2,6 +2,7 @@
 #include <string.h>
 
 #include "check.h"
+#include "classes.h"
 #include "lent.h"
 #include "pool.h"
 #include "refused.h"
@@ -21,6 +22,10 @@ enum {
     REGIONS = 5945
 };
 
+/* Of the two columns of caches, TOP and COUNT: the bytes of an entry, and the entries of a task, of which those from
+   CLASSES on are of no class. */
+enum { ENTRY = 2, ENTRIES = 16 };
+
 /* A byte of the control memory and the value that damages it, and the call that reads it. */
 struct damage {
     const char *name;
@@ -32,9 +37,9 @@ struct damage {
 
 /* Damage to a pool of one region of 256-byte blocks, with unit 480 in hand and the task idle. */
 static const struct damage WHILE_IDLE[] = {
-    {"9 tasks", TASKS, 9, ALLOCATE, 8},
+    {"9 tasks", TASKS, POOL_TASKS_MOST + 1, ALLOCATE, 8},
     {"0 regions", REGIONS, 0, ALLOCATE, 8},
-    {"17 regions", REGIONS, 17, STEP, 0},
+    {"17 regions", REGIONS, POOL_REGIONS_MOST + 1, STEP, 0},
     {"place 34", TASK_PLACE, 34, ALLOCATE, 8},
     {"place 34", TASK_PLACE, 34, FREE, 480},
     {"place 255", TASK_PLACE, 255, STEP, 0},
@@ -42,15 +47,20 @@ static const struct damage WHILE_IDLE[] = {
     {"a descriptor's region past the area", DESCRIPTOR_REGION, 1, FREE, 480},
     {"an anchor's state 3", ANCHOR, 3, FREE, 480},
     {"an anchor's count past any class", ANCHOR + 7, 1, FREE, 480},
-    {"a descriptor's class 16", DESCRIPTOR_CLASS, 16, FREE, 480},
+    {"a descriptor's class past the last", DESCRIPTOR_CLASS, CLASSES, FREE, 480},
+    {"a descriptor's class that only the columns of caches have room for", DESCRIPTOR_CLASS, ENTRIES - 1, FREE, 480},
+    {"a descriptor's class 255", DESCRIPTOR_CLASS, 255, FREE, 480},
 };
 
-/* Damage to a pool of one region of 256-byte blocks, with unit 480 in hand and an allocation of 256 bytes begun. */
+/* Damage to a pool of one region of 256-byte blocks, n = 16, with unit 480 in hand and an allocation of 256 bytes
+   begun. */
 static const struct damage WHILE_ALLOCATING[] = {
-    {"class 16", TASK_CLASS, 16, STEP, 0},
-    {"a cache count above n", COUNT + 2 * 15, 17, STEP, 0},
-    {"a cache top inside a block", TOP + 2 * 15, 193, STEP, 0},
-    {"a cache top past the area", TOP + 2 * 15 + 1, 2, STEP, 0},
+    {"a class past the last", TASK_CLASS, CLASSES, STEP, 0},
+    {"a class that only the columns of caches have room for", TASK_CLASS, ENTRIES - 1, STEP, 0},
+    {"class 255", TASK_CLASS, 255, STEP, 0},
+    {"a cache count above n", COUNT + ENTRY * LARGEST, 17, STEP, 0},
+    {"a cache top inside a block", TOP + ENTRY * LARGEST, 193, STEP, 0},
+    {"a cache top past the area", TOP + ENTRY * LARGEST + 1, 2, STEP, 0},
 };
 
 enum { IDLE = sizeof WHILE_IDLE / sizeof *WHILE_IDLE, ALLOCATING = sizeof WHILE_ALLOCATING / sizeof *WHILE_ALLOCATING };
@@ -101,6 +111,36 @@ static void lists(void)
     check_refused("a head that names no descriptor", &lent, STEP, 0, 0, POOL_DAMAGED);
 }
 
+/* A task's entries of no class, in one of the two columns. */
+static uint8_t *of_no_class(const struct lent *lent, unsigned column, unsigned task)
+{
+    return lent->control + column + ENTRY * (ENTRIES * task + CLASSES);
+}
+
+/* What stands in the entries of no class does not matter. */
+static void entries_of_no_class(void)
+{
+    struct lent lent = started(CLASSES, POOL_TASKS_MOST);
+    uint8_t any[ENTRY * (ENTRIES - CLASSES)];
+    int served = 1;
+    int kept = 1;
+    memset(any, 0xFF, sizeof any);
+    for (unsigned task = 0; task < POOL_TASKS_MOST; task++) {
+        memcpy(of_no_class(&lent, TOP, task), any, sizeof any);
+        memcpy(of_no_class(&lent, COUNT, task), any, sizeof any);
+    }
+    for (unsigned i = 0; i < CLASSES; i++) {
+        uint64_t answer = allocate(&lent, i % POOL_TASKS_MOST, CLASS[i].block);
+        served = served && POOL_CODE(answer) == POOL_FINISHED
+            && release(&lent, i % POOL_TASKS_MOST, POOL_VALUE(answer)) == POOL_FINISHED;
+    }
+    for (unsigned task = 0; task < POOL_TASKS_MOST; task++)
+        kept = kept && memcmp(of_no_class(&lent, TOP, task), any, sizeof any) == 0
+            && memcmp(of_no_class(&lent, COUNT, task), any, sizeof any) == 0;
+    check("the entries of no class are not read", served);
+    check("the entries of no class are not written", kept);
+}
+
 /* Control memory that holds anything: every call answers, and only an accepted one may change it. */
 static void any_bytes(void)
 {
@@ -122,5 +162,6 @@ void check_damaged(void)
     fields();
     links();
     lists();
+    entries_of_no_class();
     any_bytes();
 }

@@ -3,20 +3,25 @@
 
 #include "pool.h" // a second time: the guard
 
+#include <cstddef>
+
 static_assert(POOL_CODE(UINT64_C(20) + 256 * 480) == POOL_FINISHED, "the code of an answer");
 static_assert(POOL_VALUE(UINT64_C(20) + 256 * 480) == 480, "the value of an answer");
+static_assert(POOL_ALIGNMENT % alignof(std::max_align_t) == 0, "what malloc's blocks may hold");
 
-void *block_of(uint8_t *area, uint64_t answer)
+alignas(POOL_ALIGNMENT) uint8_t area[POOL_REGIONS_MOST * POOL_REGION_BYTES];
+
+void *block_of(uint64_t answer)
 {
     return POOL_BLOCK(area, POOL_VALUE(answer));
 }
 
-uint64_t unit_of(const uint8_t *area, const void *block)
+uint64_t unit_of(const void *block)
 {
     return POOL_UNIT(area, block);
 }
 
-uint64_t first_call(uint8_t *control, const uint8_t *area)
+uint64_t first_call(uint8_t *control)
 {
-    return pool_start(control, POOL_CONTROL_BYTES, area, POOL_REGION_BYTES, POOL_TASKS_MOST);
+    return pool_start(control, POOL_CONTROL_BYTES, area, sizeof area, POOL_TASKS_MOST);
 }

@@ -30,7 +30,7 @@ static void control_lengths(void)
 
 static void area_lengths(void)
 {
-    struct lent lent = started(16, 1);
+    struct lent lent = started(POOL_REGIONS_MOST, 1);
     char name[80];
     for (unsigned i = 0; i < AREAS; i++) {
         lent.area_length = AREA_LENGTHS[i];

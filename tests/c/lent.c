@@ -12,7 +12,8 @@ enum {
     STEPS_MOST = 100000 /* more than any request here takes; a request that never ends is a failure, not a hang */
 };
 
-static uint8_t memory[ALL];
+/* What lies before the area is a multiple of the alignment, so that the area is aligned as the memory is. */
+static uint8_t memory[ALL] __attribute__((aligned(POOL_ALIGNMENT)));
 static uint8_t kept[ALL];
 
 struct lent lend(unsigned regions, unsigned shift)

@@ -16,8 +16,8 @@ struct lent {
     size_t area_length;
 };
 
-/* Fresh memories: a control memory of zeros that lies `shift` bytes past an aligned address, and an area of so many
-   regions, filled with a pattern, that lies `shift` bytes past another. */
+/* Fresh memories: a control memory of zeros that lies `shift` bytes past an address aligned to POOL_ALIGNMENT, and an
+   area of so many regions, filled with a pattern, that lies `shift` bytes past another. */
 struct lent lend(unsigned regions, unsigned shift);
 
 /* Fresh memories, aligned, with an accepted start. */

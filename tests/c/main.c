@@ -4,6 +4,7 @@
 int main(void)
 {
     check_examples();
+    check_sizes();
     check_blocks();
     check_ends();
     check_regions();

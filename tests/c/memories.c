@@ -24,7 +24,7 @@ static uint64_t exercise(const struct lent *lent)
             continue;
         allocating[task] = count == 0 || (turn / 6000 % 2 == 0 && count < 4000);
         if (allocating[task])
-            sum += begin_allocate(lent, task, turn % 5 == 0 ? 24 : 200);
+            sum += begin_allocate(lent, task, turn % 5 == 0 ? 32 : 200);
         else
             sum += begin_free(lent, task, held[--count]);
     }
@@ -34,7 +34,7 @@ static uint64_t exercise(const struct lent *lent)
 static void alignments(void)
 {
     uint64_t first = 0;
-    for (unsigned shift = 0; shift < 8; shift++) {
+    for (unsigned shift = 0; shift < POOL_ALIGNMENT; shift++) {
         struct lent lent = lend(3, shift);
         uint64_t sum = exercise(&lent);
         char name[80];

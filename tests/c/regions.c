@@ -4,13 +4,14 @@
  */
 #include <string.h>
 #include "check.h"
+#include "classes.h"
 #include "lent.h"
 #include "pool.h"
 
-enum { TASKS = 4, CLASSES = 3, HELD = 80, TURNS = 20000, WORKLOADS = 200 };
+enum { TASKS = 4, USES = 3, ROWS = 4, HELD = 80, TURNS = 20000, WORKLOADS = 200 };
 
 /* The classes with the fewest blocks in a region, so that regions fill and empty often. */
-static const struct { unsigned block, n; } table[4] = {{160, 25}, {192, 21}, {224, 18}, {256, 16}};
+static const struct class *const table = CLASS + CLASSES - ROWS;
 
 /* One class of a workload: which tasks use it, the most blocks at one time, and the blocks in hands. */
 struct use {
@@ -19,7 +20,7 @@ struct use {
     uint64_t held[HELD];
 };
 
-static struct use uses[CLASSES];
+static struct use uses[USES];
 static unsigned tasks, classes;
 static struct { struct use *use; int frees; } request[TASKS];
 
@@ -41,23 +42,26 @@ static void examples(void)
     check_answer("regions: nothing is held, and 16 bytes end with 13", allocate(&lent, 0, 16), POOL_NO_REGION, 0);
 
     lent = started(4, 1);
-    unsigned got = 0;
-    for (unsigned size = 8; size <= 32; size += 8)
-        got += POOL_CODE(allocate(&lent, 0, size)) == POOL_FINISHED;
+    unsigned got = 0, held = 0;
+    for (const struct class *class = CLASS; class < CLASS + 4; class++) {
+        got += POOL_CODE(allocate(&lent, 0, class->block)) == POOL_FINISHED;
+        held += class->block;
+    }
     check("regions: four sizes open four regions", got == 4);
-    check_answer("regions: 80 bytes are held, the fifth size ends with 13", allocate(&lent, 0, 40), POOL_NO_REGION, 0);
+    check("regions: 104 bytes are held", held == 104);
+    check_answer("regions: the fifth size ends with 13", allocate(&lent, 0, CLASS[4].block), POOL_NO_REGION, 0);
 }
 
 /* A cache of 512 blocks that lie by turns in sixteen FULL regions: the next free returns each as a group of its own. */
 static void longest_free(void)
 {
-    struct lent lent = started(16, 1);
+    struct lent lent = started(POOL_REGIONS_MOST, 1);
     unsigned steps = 0;
-    for (unsigned i = 0; i < 16 * 512; i++)
-        (void)allocate(&lent, 0, 8);
-    for (unsigned i = 0; i < 512; i++)
-        (void)release(&lent, 0, i % 16 * 512 + i / 16);
-    (void)begin_free(&lent, 0, 32);
+    for (unsigned i = 0; i < POOL_REGIONS_MOST * REGION_UNITS; i++)
+        (void)allocate(&lent, 0, POOL_UNIT_BYTES);
+    for (unsigned i = 0; i < REGION_UNITS; i++)
+        (void)release(&lent, 0, i % POOL_REGIONS_MOST * REGION_UNITS + i / POOL_REGIONS_MOST);
+    (void)begin_free(&lent, 0, REGION_UNITS / POOL_REGIONS_MOST);
     check("regions: a free that returns 512 groups finishes", POOL_CODE(finish(&lent, 0, &steps)) == POOL_FINISHED);
     check("regions: at its step 2,610", steps == 2610);
 }
@@ -71,11 +75,11 @@ static unsigned draw(unsigned seed)
     memset(uses, 0, sizeof uses);
     memset(request, 0, sizeof request);
     tasks = 1 + below(TASKS);
-    classes = 1 + below(CLASSES);
-    unsigned regions = 0, first = below(4);
+    classes = 1 + below(USES);
+    unsigned regions = 0, first = below(ROWS);
     for (unsigned i = 0; i < classes; i++) {
         struct use *use = &uses[i];
-        unsigned row = (first + i) % 4, users = 0;
+        unsigned row = (first + i) % ROWS, users = 0;
         use->block = table[row].block;
         use->most = 1 + below(HELD);
         for (unsigned t = 0; t < tasks; t++)
