@@ -16,11 +16,11 @@ static inline unsigned tests(const struct control *c, size_t control_length, siz
 {
     if (control_length != sizeof *c)
         return 1;
-    if (c->tasks > 8)
+    if (c->tasks > TASKS)
         return DAMAGED;
     if (c->tasks == 0)
         return 4;
-    if (c->regions - 1u >= 16)
+    if (c->regions - 1u >= REGIONS)
         return DAMAGED;
     if (area_length != 4096 * (size_t)c->regions)
         return 2;
@@ -35,9 +35,9 @@ uint64_t BY_HAND(start)(uint8_t *control, size_t control_length, const uint8_t *
     (void)area;
     if (control_length != sizeof *c)
         return 1;
-    if (area_length % 4096 != 0 || area_length == 0 || area_length > 65536)
+    if (area_length % 4096 != 0 || area_length == 0 || area_length > 4096 * REGIONS)
         return 2;
-    if (tasks == 0 || tasks > 8)
+    if (tasks == 0 || tasks > TASKS)
         return 3;
     memset(c, 0, sizeof *c);
     c->tasks = (uint8_t)tasks;
@@ -48,9 +48,9 @@ uint64_t BY_HAND(start)(uint8_t *control, size_t control_length, const uint8_t *
         c->descriptor_next[i] = (uint8_t)(i + 2);
     for (unsigned i = 0; i + 1 < regions; i++)
         c->region_next[i] = (uint8_t)(i + 2);
-    for (unsigned task = 0; task < 8; task++)
-        for (unsigned class = 0; class < 16; class++)
-            c->top[task][class] = NO_BLOCK;
+    for (unsigned task = 0; task < TASKS; task++)
+        for (unsigned cache = 0; cache < CACHES; cache++)
+            c->top[task][cache] = NO_BLOCK;
     return 0;
 }
 
@@ -73,30 +73,30 @@ uint64_t BY_HAND(begin_allocate)(uint8_t *control, size_t control_length, const 
     return 0;
 }
 
-/* The class of the open region in which a unit is the first of a block; else 16 plus the number that refuses it. */
+/* The class of the open region in which a unit is the first of a block; else CLASSES plus the refusal's number. */
 static inline unsigned class_of_block(const struct control *c, uint64_t unit)
 {
     uint64_t region = unit / 512;
     unsigned entry, descriptor;
     if (region >= c->regions)
-        return 16 + 10;
+        return CLASSES + 10;
     entry = c->map[region];
     if (entry == 0)
-        return 16 + 10;
+        return CLASSES + 10;
     if (entry > DESCRIPTORS)
-        return 16 + DAMAGED;
+        return CLASSES + DAMAGED;
     descriptor = entry - 1;
     if (c->descriptor_region[descriptor] >= c->regions)
-        return 16 + DAMAGED;
+        return CLASSES + DAMAGED;
     if (c->descriptor_region[descriptor] != region)
-        return 16 + 10;
+        return CLASSES + 10;
     if (!is_anchor(c->anchor[descriptor]))
-        return 16 + DAMAGED;
+        return CLASSES + DAMAGED;
     if (state_of(c->anchor[descriptor]) == EMPTY)
-        return 16 + 10;
-    if (c->descriptor_class[descriptor] > 15)
-        return 16 + DAMAGED;
-    return is_first(c->descriptor_class[descriptor], (uint32_t)unit) ? c->descriptor_class[descriptor] : 16 + 10;
+        return CLASSES + 10;
+    if (c->descriptor_class[descriptor] >= CLASSES)
+        return CLASSES + DAMAGED;
+    return is_first(c->descriptor_class[descriptor], (uint32_t)unit) ? c->descriptor_class[descriptor] : CLASSES + 10;
 }
 
 uint64_t BY_HAND(begin_free)(uint8_t *control, size_t control_length, const uint8_t *area, size_t area_length,
@@ -111,8 +111,8 @@ uint64_t BY_HAND(begin_free)(uint8_t *control, size_t control_length, const uint
     if (c->task_place[task] != 0)
         return c->task_place[task] > 33 ? DAMAGED : 6;
     class = class_of_block(c, unit);
-    if (class > 15)
-        return class - 16;
+    if (class >= CLASSES)
+        return class - CLASSES;
     if ((c->marks[unit / 64] >> unit % 64 & 1) == 0)
         return 11;
     c->task_place[task] = 28;
@@ -196,7 +196,7 @@ uint64_t BY_HAND(step)(uint8_t *control, size_t control_length, uint8_t *area, s
         return 7;
     request.regions = c->regions;
     request.class = c->task_class[task];
-    if (request.class > 15)
+    if (request.class >= CLASSES)
         return DAMAGED;
     return step_at(&request, c->task_place[task]);
 }

@@ -9,35 +9,41 @@
 #include <stdint.h>
 #include <string.h>
 
+/* CACHES is the room for caches of a task: more than there are classes, so that an index is a shift. */
+enum { CLASSES = 13, CACHES = 16, TASKS = 8, REGIONS = 16, DESCRIPTORS = 64 };
+
+/* The lists: the partial descriptors of each class, by its number, and behind them these two. */
+enum { SPARE_DESCRIPTORS = CLASSES, SPARE_REGIONS, LISTS };
+
 struct __attribute__((packed, may_alias)) control {
-    uint64_t head[18]; /* 0 to 15 the partial descriptors of each class, 16 spare descriptors, 17 spare regions */
-    uint8_t unused_144[112];
-    uint64_t anchor[64];
+    uint64_t head[LISTS];
+    uint8_t unused_120[136];
+    uint64_t anchor[DESCRIPTORS];
     uint64_t marks[128];
     uint8_t unused_1792[3072];
-    uint64_t task_head[8];
-    uint64_t task_anchor[8];
-    uint16_t top[8][16];
-    uint16_t count[8][16];
-    uint16_t task_unit[8];
-    uint16_t task_index[8];
-    uint16_t task_left[8];
-    uint16_t group_first[8];
-    uint16_t group_last[8];
-    uint16_t group_count[8];
+    uint64_t task_head[TASKS];
+    uint64_t task_anchor[TASKS];
+    uint16_t top[TASKS][CACHES];
+    uint16_t count[TASKS][CACHES];
+    uint16_t task_unit[TASKS];
+    uint16_t task_index[TASKS];
+    uint16_t task_left[TASKS];
+    uint16_t group_first[TASKS];
+    uint16_t group_last[TASKS];
+    uint16_t group_count[TASKS];
     uint8_t unused_5600[32];
-    uint8_t task_place[8];
-    uint8_t task_class[8];
-    uint8_t task_next[8];
-    uint8_t task_descriptor[8];
-    uint8_t task_region[8];
-    uint8_t task_state[8];
+    uint8_t task_place[TASKS];
+    uint8_t task_class[TASKS];
+    uint8_t task_next[TASKS];
+    uint8_t task_descriptor[TASKS];
+    uint8_t task_region[TASKS];
+    uint8_t task_state[TASKS];
     uint8_t unused_5680[16];
-    uint8_t descriptor_next[64];
-    uint8_t region_next[16];
-    uint8_t descriptor_region[64];
-    uint8_t descriptor_class[64];
-    uint8_t map[16];
+    uint8_t descriptor_next[DESCRIPTORS];
+    uint8_t region_next[REGIONS];
+    uint8_t descriptor_region[DESCRIPTORS];
+    uint8_t descriptor_class[DESCRIPTORS];
+    uint8_t map[REGIONS];
     uint8_t unused_5920[24];
     uint8_t tasks;
     uint8_t regions;
@@ -46,17 +52,17 @@ struct __attribute__((packed, may_alias)) control {
 
 typedef char control_is_8192_bytes[sizeof(struct control) == 8192 ? 1 : -1];
 
-enum { SPARE_DESCRIPTORS = 16, SPARE_REGIONS = 17, DESCRIPTORS = 64, NO_BLOCK = 8192, DAMAGED = 14, FINISHED = 20 };
+enum { NO_BLOCK = 8192, DAMAGED = 14, FINISHED = 20 };
 enum { EMPTY = 0, PARTIAL = 1, FULL = 2 };
 
-static const uint8_t UNITS[16] = {1, 2, 3, 4, 5, 6, 7, 8, 10, 12, 14, 16, 20, 24, 28, 32};
-static const uint16_t PER_REGION[16] = {512, 256, 170, 128, 102, 85, 73, 64, 51, 42, 36, 32, 25, 21, 18, 16};
+static const uint8_t UNITS[CLASSES] = {1, 2, 4, 6, 8, 10, 12, 14, 16, 20, 24, 28, 32};
+static const uint16_t PER_REGION[CLASSES] = {512, 256, 128, 85, 64, 51, 42, 36, 32, 25, 21, 18, 16};
 /* The library's factors, by which it tells a first unit without a division: what they save is saved here, too. */
-static const uint32_t FACTOR[16] = {128u, 2147483776u, 1431655894u, 1073741953u, 1717987048u, 3579139543u,
-                                    1227133643u, 536871042u, 3006477238u, 357914074u, 306783512u, 268435588u,
-                                    1503238690u, 178957107u, 460175205u, 134217864u};
-static const uint8_t CLASS_OF_UNITS[33] = {0,  0,  1,  2,  3,  4,  5,  6,  7,  8,  8,  9,  9,  10, 10, 11, 11,
-                                           12, 12, 12, 12, 13, 13, 13, 13, 14, 14, 14, 14, 15, 15, 15, 15};
+static const uint32_t FACTOR[CLASSES] = {128u, 2147483776u, 1073741953u, 3579139543u, 536871042u, 3006477238u,
+                                         357914074u, 306783512u, 268435588u, 1503238690u, 178957107u, 460175205u,
+                                         134217864u};
+static const uint8_t CLASS_OF_UNITS[33] = {0, 0, 1, 2, 2, 3,  3,  4,  4,  5,  5,  6,  6,  7,  7,  8, 8,
+                                           9, 9, 9, 9, 10, 10, 10, 10, 11, 11, 11, 11, 12, 12, 12, 12};
 
 /* ---- words ---- */
 

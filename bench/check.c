@@ -13,7 +13,7 @@
 #include "pool.h"
 #include "schedule.h"
 
-enum { CALLS = 60000, SEEDS = 96, CONTENDERS_MOST = 3, AREA_MOST = 65536 };
+enum { CALLS = 60000, SEEDS = 96, CONTENDERS_MOST = 3, AREA_MOST = POOL_REGIONS_MOST * POOL_REGION_BYTES };
 
 static uint8_t controls[CONTENDERS_MOST][POOL_CONTROL_BYTES];
 static uint8_t areas[CONTENDERS_MOST][AREA_MOST];
@@ -98,7 +98,7 @@ static int run(uint64_t seed)
 {
     unsigned tasks = 1 + (unsigned)(seed % 8);
     int damaged = seed % 4 >= 2;
-    size_t area_length = POOL_REGION_BYTES * (size_t)(seed % 12 == 0 ? 16 : 1 + seed % 5);
+    size_t area_length = POOL_REGION_BYTES * (size_t)(seed % 12 == 0 ? POOL_REGIONS_MOST : 1 + seed % 5);
     struct schedule schedule = schedule_of(seed, tasks, 1);
     if (!begin(&schedule, area_length, tasks))
         return 0;

@@ -21,18 +21,24 @@ static const struct {
     {5945, 1, ONE},
 };
 
+static unsigned class_in_hand(const struct control *c, unsigned task)
+{
+    return c->task_class[task] % CLASSES;
+}
+
 /* The number in a column that a call of the task is likely to read: what it has in hand. */
 static size_t index_of(enum index kind, struct schedule *schedule, const struct control *c, unsigned task)
 {
-    unsigned class = c->task_class[task] % 16;
-    unsigned region = c->task_region[task] % 16;
+    unsigned class = class_in_hand(c, task);
+    unsigned region = c->task_region[task] % REGIONS;
     switch (kind) {
     case LIST: return schedule_random(schedule, 3) == 0 ? class : SPARE_DESCRIPTORS + schedule_random(schedule, 2);
-    case DESCRIPTOR: return (schedule_random(schedule, 2) == 0 ? c->task_descriptor[task] : c->map[region] - 1u) % 64;
+    case DESCRIPTOR:
+        return (schedule_random(schedule, 2) == 0 ? c->task_descriptor[task] : c->map[region] - 1u) % DESCRIPTORS;
     case WORD: return schedule_random(schedule, 128);
     case TASK: return task;
-    case CACHE: return 16 * task + class;
-    case REGION: return schedule_random(schedule, 2) == 0 ? region : schedule_random(schedule, 16);
+    case CACHE: return CACHES * task + class;
+    case REGION: return schedule_random(schedule, 2) == 0 ? region : schedule_random(schedule, REGIONS);
     default: return 0;
     }
 }
@@ -40,8 +46,8 @@ static size_t index_of(enum index kind, struct schedule *schedule, const struct 
 /* A number at most one away from a bound. */
 static uint32_t near_a_bound(struct schedule *schedule, const struct control *c, unsigned task)
 {
-    const uint32_t bounds[] = {1, PER_REGION[c->task_class[task] % 16], c->regions, 3, 8, 16, 34, 64, 512, 8192, 65536,
-                               512u * c->regions, c->task_place[task]};
+    const uint32_t bounds[] = {1, PER_REGION[class_in_hand(c, task)], c->regions, 3, TASKS, CLASSES, REGIONS, 34,
+                               DESCRIPTORS, 512, NO_BLOCK, 65536, 512u * c->regions, c->task_place[task]};
     uint64_t which = schedule_random(schedule, sizeof bounds / sizeof *bounds);
     return bounds[which] + (uint32_t)schedule_random(schedule, 3) - 1;
 }
@@ -49,7 +55,7 @@ static uint32_t near_a_bound(struct schedule *schedule, const struct control *c,
 /* The block whose link a task reads next: the chain's block in its hand, or the top of its cache. */
 static uint32_t next_block(const struct control *c, unsigned task)
 {
-    unsigned class = c->task_class[task] % 16;
+    unsigned class = class_in_hand(c, task);
     if (c->task_place[task] == MOVING_A_CHAIN)
         return 512u * c->task_region[task] + UNITS[class] * (uint32_t)c->task_index[task];
     return c->top[task][class];

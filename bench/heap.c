@@ -60,7 +60,7 @@ static void cold(size_t size, int alternately)
         release(blocks[alternately ? i % 2 * (COLD_PAIRS / 2) + i / 2 : i]);
 }
 
-static const char *const NAMES[WORKLOADS] = {"hot pair of 64 bytes", "hot pair of 24 bytes", "cold pair, carving",
+static const char *const NAMES[WORKLOADS] = {"hot pair of 64 bytes", "hot pair of 48 bytes", "cold pair, carving",
                                              "cold pair, chains"};
 
 static unsigned pairs(unsigned workload)
@@ -73,7 +73,7 @@ static void turns(unsigned workload, unsigned count)
     for (unsigned i = 0; i < count; i++) {
         switch (workload) {
         case 0: hot(64); break;
-        case 1: hot(24); break;
+        case 1: hot(48); break;
         case 2: cold(64, 0); break;
         default: cold(64, 1); break;
         }

@@ -4,7 +4,8 @@
 
 #include "pool.h"
 
-static const unsigned SIZES[] = {256, 200, 24, 160, 128, 224, 192, 100, 80, 64, 48, 40, 16, 8, 96, 56, 32};
+/* At least one size of each class. */
+static const unsigned SIZES[] = {256, 200, 17, 160, 128, 224, 192, 100, 80, 64, 48, 16, 8, 96};
 
 struct schedule schedule_of(uint64_t seed, unsigned tasks, int odd_calls)
 {

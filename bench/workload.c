@@ -74,10 +74,10 @@ static void start_turn(const struct contender *contender, const struct workload 
 
 const struct workload WORKLOADS[] = {
     {"hot pair of 64 bytes", 64, 1, 1, hot_turn},
-    {"hot pair of 24 bytes", 24, 1, 1, hot_turn},
+    {"hot pair of 48 bytes", 48, 1, 1, hot_turn},
     {"cold pair, carving", 64, 2, 128, carve_turn},
     {"cold pair, chains", 64, 2, 128, chain_turn},
-    {"start", 0, 16, 0, start_turn},
+    {"start", 0, POOL_REGIONS_MOST, 0, start_turn},
 };
 
 const unsigned WORKLOAD_COUNT = sizeof WORKLOADS / sizeof *WORKLOADS;
