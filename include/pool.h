@@ -10,21 +10,31 @@
  *
  * A unit is 8 bytes. A block is named by its first unit, counted from the start of the area.
  *
- * The calls need no alignment. A block has the alignment of the area, up to 8 bytes. So align the area to 8 if blocks
- * are to hold numbers or structs: declare it as an array of uint64_t, or in a union with one:
+ * ---- Alignment ----
  *
+ * A block of 16 bytes or more begins at a multiple of 16 bytes of the area, a block of 8 bytes at a multiple of 8. So
+ * the area has to be aligned to 16 itself (POOL_ALIGNMENT), if the blocks are to be. In C11, C++11 and later, with the
+ * alignas in front:
+ *
+ *     #include <stdalign.h>
+ *     alignas(POOL_ALIGNMENT) static uint8_t area[4 * POOL_REGION_BYTES];
  *     static uint8_t control[POOL_CONTROL_BYTES];
- *     static union { uint64_t aligned; uint8_t bytes[4 * POOL_REGION_BYTES]; } area;
+ *
+ * In C99 and C++98, with gcc or clang:
+ *
+ *     static uint8_t area[4 * POOL_REGION_BYTES] __attribute__((aligned(POOL_ALIGNMENT)));
+ *
+ * The calls themselves need no alignment of either memory.
  *
  * ---- How a request is driven ----
  *
  * Begin it, then step until the code is not POOL_UNDER_WAY:
  *
- *     uint64_t answer = pool_begin_allocate(control, sizeof control, area.bytes, sizeof area.bytes, task, size);
+ *     uint64_t answer = pool_begin_allocate(control, sizeof control, area, sizeof area, task, size);
  *     while (POOL_CODE(answer) == POOL_UNDER_WAY)
- *         answer = pool_step(control, sizeof control, area.bytes, sizeof area.bytes, task);
+ *         answer = pool_step(control, sizeof control, area, sizeof area, task);
  *     if (POOL_CODE(answer) == POOL_FINISHED)
- *         block = POOL_BLOCK(area.bytes, POOL_VALUE(answer));
+ *         block = POOL_BLOCK(area, POOL_VALUE(answer));
  *
  * Between any two of these calls other tasks may begin requests and step theirs. Any task may free any block.
  *
@@ -37,6 +47,8 @@
  *
  *   - each block of an open region is in exactly one place: a user's hands, a task or its region's chain;
  *   - no call changes a byte of a block that is in a user's hands;
+ *   - the unit of a finished allocation is the first of a block of the smallest class that holds the size, at a
+ *     multiple of 16 bytes of the area where that block has 16 bytes or more;
  *   - POOL_DAMAGED does not occur.
  *
  * The premises, which the firmware has to see to:
@@ -157,7 +169,7 @@ uint64_t pool_start(uint8_t *control, size_t control_length, const uint8_t *area
 /*
  * Begins an allocation of 1 to 256 bytes for a task that is idle. It makes no step and neither reads nor writes the
  * area. The block comes with the step that answers POOL_FINISHED. A size gets the smallest block that holds it, of 8,
- * 16, 24, 32, 40, 48, 56, 64, 80, 96, 112, 128, 160, 192, 224 or 256 bytes. Do not rely on what it holds then.
+ * 16, 32, 48, 64, 80, 96, 112, 128, 160, 192, 224 or 256 bytes. Do not rely on what it holds then.
  *
  * Answers, by the first test that fails: POOL_BAD_CONTROL, POOL_NOT_STARTED, POOL_BAD_AREA, POOL_NO_SUCH_TASK,
  * POOL_REQUEST_IN_HAND, POOL_SIZE_ZERO, POOL_SIZE_TOO_LARGE; else POOL_UNDER_WAY. POOL_DAMAGED comes where a bad value
