@@ -14,8 +14,8 @@ import references
 import tables
 
 CHECKS = [
-    ("the README's program as C99", examples.as_c),
-    ("the README's program as C++98", examples.as_cpp),
+    ("the README's program as C11", examples.as_c),
+    ("the README's program as C++11", examples.as_cpp),
     ("the README's schedules give its tables", examples.on_the_stand),
     ('definitions and statements are quoted as they stand', examples.quoted),
     ('links lead to files and headings', references.links),
@@ -27,9 +27,13 @@ CHECKS = [
     ("the README's table of crates is crates.txt", tables.crates),
     ('the tables of codes have the numbers of the header', tables.codes),
     ('the table of columns is the layout, and the constants are', tables.layout),
+    ('the gaps are the bytes outside all columns', tables.gaps),
     ('the table of places is the step list', tables.places),
     ('the numbers of the pool, and the constants of the header', pool.limits),
     ('the classes and their blocks', pool.classes),
+    ('the sizes of the quarter limit', pool.waste),
+    ("the bench table's sizes", pool.bench),
+    ('the regions that are drawn', pool.drawn),
     ('the order of the tests', pool.orders),
     ('the examples for regions add up', pool.regions),
     ('definitions begin with their section of docs/POOL.md', definitions.sections),

@@ -37,11 +37,11 @@ def built_and_run(compiler, standard, suffix):
 
 
 def as_c():
-    return built_and_run('gcc', 'c99', 'c')
+    return built_and_run('gcc', 'c11', 'c')
 
 
 def as_cpp():
-    return built_and_run('g++', 'c++98', 'cpp')
+    return built_and_run('g++', 'c++11', 'cpp')
 
 
 def played(schedule, table):

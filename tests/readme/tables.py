@@ -75,14 +75,17 @@ def constant(name, gap):
     return re.sub(r'([A-Z])', gap + r'\1', name).upper()
 
 
+def columns():
+    """Each column of the layout: its name, first byte, width, and how many numbers it has."""
+    found = re.findall(r'^(\w+) = column (\d+) (\d+) (\S+)$', read(LAYOUT), re.M)
+    return [(name, int(start), int(width), value(count, named(LIMITS, LAYOUT))) for name, start, width, count in found]
+
+
 def layout():
     """The document's rows are the columns with their fields; the code's constants are their first bytes."""
-    text = read(LAYOUT)
     known = named(LIMITS, LAYOUT)
-    fields = {column: field for field, column in re.findall(r'^(\w+) = fieldOf (\w+)', text, re.M)}
-    columns = re.findall(r'^(\w+) = column (\d+) (\d+) (\S+)$', text, re.M)
-    there = [(name, fields.get(name), int(start), int(width), value(count, known))
-             for name, start, width, count in columns]
+    fields = {column: field for field, column in re.findall(r'^(\w+) = fieldOf (\w+)', read(LAYOUT), re.M)}
+    there = [(name, fields.get(name), *numbers) for name, *numbers in columns()]
     told = [(row[0].strip('`'), row[1].strip('`'), *(int(cell.replace(',', '')) for cell in row[2:5]))
             for row in tables_by(LAYOUT_DOCUMENT, 'column')]
     result = only(told, there, LAYOUT_DOCUMENT, LAYOUT)
@@ -96,6 +99,19 @@ def layout():
         if number != expected:
             result.append(f'{CONSTANTS}: {name} is {number}; {LAYOUT} has {expected}')
     return result + [f'{CONSTANTS}: there is no {name}' for name in due]
+
+
+def gaps():
+    """The table of gaps, and the sentence on the others, have the bytes outside all columns, each once."""
+    others = re.search(r'^The others are free: (.*)$', read(LAYOUT_DOCUMENT), re.M).group(1)
+    stretches = ' '.join([others, *(row[0] for row in tables_by(LAYOUT_DOCUMENT, 'bytes'))]).replace(',', '')
+    told = [byte for first, last in re.findall(r'(\d+) to (\d+)', stretches)
+            for byte in range(int(first), int(last) + 1)]
+    taken = {byte for _, start, width, count in columns() for byte in range(start, start + width * count)}
+    outside = set(range(value('CONTROL-BYTES', named(LIMITS)))) - taken
+    twice = [f'{LAYOUT_DOCUMENT}: a byte is in two gaps'] * (len(told) != len(set(told)))
+    return [f'{LAYOUT_DOCUMENT}: byte {byte} is told as a gap, or is one, and not both'
+            for byte in sorted(set(told) ^ outside)] + twice
 
 
 def places():
