@@ -54,6 +54,10 @@ from : (n c : ℕ) → Others n c → n ≤ c
 from zero c h = omega arith
 from (suc n) c h = let l : n ≤ c = from n c (h .0) in let k : c ≢ n = h .1 in omega arith
 
+-- no number below n is none of the first n
+pub no-more : (n c : ℕ) → c < n → Others n c → ⊥
+no-more n c l h = absurd (omega (arith, from n c h))
+
 -- a number that is none of the first n, and not more than n, is n
 pub last : (n c : ℕ) → c < suc n → Others n c → c ≡ n
 last n c l h = omega (arith, from n c h)

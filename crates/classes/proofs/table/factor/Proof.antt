@@ -3,7 +3,7 @@ use borrow.Author.Needs.{needs}
 use native.Mathlib.Omega.{arith}
 use Rattle.classes.specs.Classes.{units, perRegion}
 use Rattle.classes.specs.Geometry.{isFirst}
-use Rattle.classes.proofs.Tables.{last}
+use Rattle.classes.proofs.Tables.{no-more}
 use Rattle.classes.proofs.Factors.{is-factor, factor-at}
 use Rattle.classes.proofs.table.factor.Statement.{statement}
 use Rattle.classes.proofs.table.factor.Tie as tie
@@ -25,5 +25,5 @@ factor-spec =
     (λ c. factor-at (c .before .args .class) 9 (is-factor 9 _ tt tt) (omega arith))
     (λ c. factor-at (c .before .args .class) 10 (is-factor 10 _ tt tt) (omega arith))
     (λ c. factor-at (c .before .args .class) 11 (is-factor 11 _ tt tt) (omega arith))
-    (λ c. factor-at (c .before .args .class) 12 (is-factor 12 _ tt tt)
-    (last 12 (c .before .args .class) (search needs) (c .match .rest))))
+    (λ c. factor-at (c .before .args .class) 12 (is-factor 12 _ tt tt) (omega arith))
+    (λ c. absurd (no-more 13 (c .before .args .class) (search needs) (c .match .rest))))

@@ -3,7 +3,7 @@ use mathlib.Core.Path.{refl}
 use borrow.Author.Needs.{needs}
 use native.Mathlib.Omega.{arith}
 use Rattle.classes.specs.Classes.{perRegion}
-use Rattle.classes.proofs.Tables.{perRegion-at, last}
+use Rattle.classes.proofs.Tables.{perRegion-at, no-more}
 use Rattle.classes.proofs.table.per_region.Statement.{statement}
 use Rattle.classes.proofs.table.per_region.Tie as tie
 
@@ -24,5 +24,5 @@ per-region-spec =
     (λ c. perRegion-at (c .before .args .class) 9 refl (omega arith))
     (λ c. perRegion-at (c .before .args .class) 10 refl (omega arith))
     (λ c. perRegion-at (c .before .args .class) 11 refl (omega arith))
-    (λ c. perRegion-at (c .before .args .class) 12 refl
-    (last 12 (c .before .args .class) (search needs) (c .match .rest))))
+    (λ c. perRegion-at (c .before .args .class) 12 refl (omega arith))
+    (λ c. absurd (no-more 13 (c .before .args .class) (search needs) (c .match .rest))))

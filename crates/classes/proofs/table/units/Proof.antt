@@ -3,7 +3,7 @@ use mathlib.Core.Path.{refl}
 use borrow.Author.Needs.{needs}
 use native.Mathlib.Omega.{arith}
 use Rattle.classes.specs.Classes.{units}
-use Rattle.classes.proofs.Tables.{units-at, last}
+use Rattle.classes.proofs.Tables.{units-at, no-more}
 use Rattle.classes.proofs.table.units.Statement.{statement}
 use Rattle.classes.proofs.table.units.Tie as tie
 
@@ -24,4 +24,5 @@ units-spec =
     (λ c. units-at (c .before .args .class) 9 refl (omega arith))
     (λ c. units-at (c .before .args .class) 10 refl (omega arith))
     (λ c. units-at (c .before .args .class) 11 refl (omega arith))
-    (λ c. units-at (c .before .args .class) 12 refl (last 12 (c .before .args .class) (search needs) (c .match .rest))))
+    (λ c. units-at (c .before .args .class) 12 refl (omega arith))
+    (λ c. absurd (no-more 13 (c .before .args .class) (search needs) (c .match .rest))))
