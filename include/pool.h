@@ -112,7 +112,7 @@ extern "C" {
 #define POOL_TASKS_MOST 8       /* of a pool, numbered from 0; the least is 1 */
 #define POOL_BLOCK_MOST 256     /* bytes of the largest block */
 #define POOL_UNIT_BYTES 8       /* of one unit */
-#define POOL_ALIGNMENT 16     /* of every block of 16 bytes or more, if the area has it */
+#define POOL_ALIGNMENT 16       /* of every block of 16 bytes or more, if the area has it */
 
 /* ---- answers ---- */
 

@@ -8,7 +8,7 @@ import re
 
 from documents import README, read, squeezed, tables_by
 
-STATEMENTS = 'crates/demands/proofs/Demands.antt'
+STATEMENTS = ('crates/demands/proofs/Demands.antt', 'crates/demands/proofs/HandedOut.antt')
 IMPORT = re.compile(r'^use Rattle·(\w+)(?:·specs)?\.specs\.(\w+)', re.M)
 
 
@@ -18,7 +18,7 @@ def path_of(crate, name):
 
 def cited():
     """The files of definitions that the statements import, and those that these import in turn."""
-    found, left = set(), [path_of(*pair) for pair in IMPORT.findall(read(STATEMENTS))]
+    found, left = set(), [path_of(*pair) for file in STATEMENTS for pair in IMPORT.findall(read(file))]
     while left:
         path = left.pop()
         if path in found or not os.path.exists(path):  # an enum that the code declares has no such file

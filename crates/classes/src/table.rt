@@ -1,5 +1,6 @@
 // The table of classes. Each row is a match, which becomes one read from a table; a constant array would be copied to
-// the stack at each read.
+// the stack at each read. The last arm is past the table and has what class 0 has, as the definitions do. No caller
+// comes there; were it the last class's, the compiler would ask for that class before each read.
 ghost use mathlib.Core.Path.{_≡_};
 ghost use Prim.Native.Nat.{_<_};
 ghost use Rattle.limits.specs.Limits.{CLASSES};

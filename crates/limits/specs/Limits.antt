@@ -38,7 +38,7 @@ WORD-MARKS = 64
 abbrev pub TASKS : ℕ
 TASKS = 8
 
--- the classes of the paper's table
+-- "thirteen classes in all" (the request for the new processor)
 abbrev pub CLASSES : ℕ
 CLASSES = 13
 

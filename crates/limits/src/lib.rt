@@ -23,7 +23,7 @@ pub const WORD_MARKS: usize = 64;
 // 1 to 8 tasks.
 pub const TASKS: usize = 8;
 
-// The classes of the paper's table, and the largest size.
+// The classes of blocks, and the largest size.
 pub const CLASSES: usize = 13;
 
 pub const LARGEST_SIZE: usize = 256;

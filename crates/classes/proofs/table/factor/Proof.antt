@@ -1,6 +1,7 @@
 -- `classes::table::factor` meets its contract: each arm's number passes the test of its class.
 use borrow.Author.Needs.{needs}
 use native.Mathlib.Omega.{arith}
+use Rattle.limits.specs.Limits.{CLASSES}
 use Rattle.classes.specs.Classes.{units, perRegion}
 use Rattle.classes.specs.Geometry.{isFirst}
 use Rattle.classes.proofs.Tables.{no-more}
@@ -26,4 +27,4 @@ factor-spec =
     (λ c. factor-at (c .before .args .class) 10 (is-factor 10 _ tt tt) (omega arith))
     (λ c. factor-at (c .before .args .class) 11 (is-factor 11 _ tt tt) (omega arith))
     (λ c. factor-at (c .before .args .class) 12 (is-factor 12 _ tt tt) (omega arith))
-    (λ c. absurd (no-more 13 (c .before .args .class) (search needs) (c .match .rest))))
+    (λ c. absurd (no-more CLASSES (c .before .args .class) (search needs) (c .match .rest))))

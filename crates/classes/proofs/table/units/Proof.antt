@@ -2,6 +2,7 @@
 use mathlib.Core.Path.{refl}
 use borrow.Author.Needs.{needs}
 use native.Mathlib.Omega.{arith}
+use Rattle.limits.specs.Limits.{CLASSES}
 use Rattle.classes.specs.Classes.{units}
 use Rattle.classes.proofs.Tables.{units-at, no-more}
 use Rattle.classes.proofs.table.units.Statement.{statement}
@@ -25,4 +26,4 @@ units-spec =
     (λ c. units-at (c .before .args .class) 10 refl (omega arith))
     (λ c. units-at (c .before .args .class) 11 refl (omega arith))
     (λ c. units-at (c .before .args .class) 12 refl (omega arith))
-    (λ c. absurd (no-more 13 (c .before .args .class) (search needs) (c .match .rest))))
+    (λ c. absurd (no-more CLASSES (c .before .args .class) (search needs) (c .match .rest))))
