@@ -7,6 +7,10 @@ use crate::driver::Driver;
 use crate::lists::{Move, Phase};
 use crate::pool::{Place, Request};
 
+/// The blocks of 256 bytes in a region, and half of them.
+const N: usize = 16;
+const HALF: usize = N / 2;
+
 /// Steps a task until it stands at this place.
 fn steps_up_to(driver: &mut Driver, task: u64, place: Place) -> Result<(), Parted> {
     for _ in 0..10_000 {
@@ -66,11 +70,11 @@ fn free_each(driver: &mut Driver, task: u64, row: &[u64]) -> Result<(), Parted> 
 /// Task 0 takes three regions of 256-byte blocks and returns half of regions 0 and 1, so that both are PARTIAL with 8
 /// blocks. It has 8 blocks of region 0 in its cache. Answers the blocks of regions 1 and 2 that it still has.
 fn two_regions_half_returned(driver: &mut Driver) -> Result<(Vec<u64>, Vec<u64>), Parted> {
-    let row = take(driver, 0, 48)?;
-    free_each(driver, 0, &row[..8])?;
-    free_each(driver, 0, &row[16..24])?;
-    free_each(driver, 0, &row[8..16])?;
-    Ok((row[24..32].to_vec(), row[32..].to_vec()))
+    let row = take(driver, 0, 3 * N)?;
+    free_each(driver, 0, &row[..HALF])?;
+    free_each(driver, 0, &row[N..N + HALF])?;
+    free_each(driver, 0, &row[HALF..N])?;
+    Ok((row[N + HALF..2 * N].to_vec(), row[2 * N..].to_vec()))
 }
 
 /// "Clearing the map after releasing the region, or by the descriptor's region, wipes another opener's entry." A task
@@ -82,7 +86,7 @@ pub fn descriptor_moves_on(driver: &mut Driver) -> Result<(), Parted> {
     free_each(driver, 0, &second)?;
     driver.ask(Request::Free { task: 0, unit: third[0] })?;
     steps_up_to(driver, 0, Place::ClearMap)?;
-    let taken = take(driver, 1, 9)?;
+    let taken = take(driver, 1, HALF + 1)?;
     let named_back = driver.pool.map[1].is_some_and(|index| driver.pool.descriptors[index].region == 1);
     driver.checks.hold("directed: a map entry names a descriptor of another region", !named_back, || {
         format!("{:?}", driver.pool.map)
@@ -100,8 +104,8 @@ pub fn descriptor_moves_on(driver: &mut Driver) -> Result<(), Parted> {
 pub fn same_first_block_again(driver: &mut Driver) -> Result<(), Parted> {
     start(driver, 2, 5)?;
     let (_, third) = two_regions_half_returned(driver)?;
-    free_each(driver, 0, &third[..8])?;
-    driver.ask(Request::Free { task: 0, unit: third[8] })?;
+    free_each(driver, 0, &third[..HALF])?;
+    driver.ask(Request::Free { task: 0, unit: third[HALF] })?;
     steps_up_to(driver, 0, Place::ReturnGroup)?;
     let same_region = |driver: &Driver| driver.pool.tasks[0].region == 0;
     if !same_region(driver) {
@@ -109,10 +113,11 @@ pub fn same_first_block_again(driver: &mut Driver) -> Result<(), Parted> {
         steps_up_to(driver, 0, Place::ReturnGroup)?;
     }
     let noted = driver.pool.tasks[0].anchor;
-    let first = noted.first.unwrap_or(0) * units(15);
-    let row = take(driver, 1, 40)?;
-    free_each(driver, 1, &row[24..39])?;
-    free_each(driver, 1, &[first, row[39]])?;
+    let first = noted.first.unwrap_or(0) * units(class_of(256));
+    let row = take(driver, 1, 2 * N + HALF)?;
+    let last = row.len() - 1;
+    free_each(driver, 1, &row[N + HALF..last])?;
+    free_each(driver, 1, &[first, row[last]])?;
     let chain = &driver.pool.descriptors[driver.pool.tasks[0].descriptor].chain;
     let shorter = same_region(driver) && chain.front().copied() == noted.first && chain.len() != noted.length;
     driver.checks.hold("directed: another chain with the same first block", shorter, || format!("{noted:?}"))?;

@@ -1,7 +1,8 @@
 //! What the schedules reached, counted from the plain pool alone.
 
 use crate::checks::Checks;
-use crate::pool::{Answer, Event, Place, Request, State};
+use crate::classes::CLASSES;
+use crate::pool::{Answer, Event, Place, Request, State, REGIONS, TASKS};
 use std::collections::BTreeMap;
 
 const KINDS: [&str; 4] = ["start", "begin allocate", "begin free", "step"];
@@ -44,12 +45,12 @@ pub struct Coverage {
     returns: BTreeMap<&'static str, u64>,
     codes: BTreeMap<(usize, u64), u64>,
     /// Accepted starts by tasks and by regions.
-    tasks: [u64; 9],
-    regions: [u64; 17],
+    tasks: [u64; TASKS + 1],
+    regions: [u64; REGIONS + 1],
     /// Regions opened, chains taken and groups returned, by class.
-    opened: [u64; 16],
-    taken: [u64; 16],
-    returned: [u64; 16],
+    opened: [u64; CLASSES],
+    taken: [u64; CLASSES],
+    returned: [u64; CLASSES],
     pub calls: u64,
     pub writes: u64,
     pub comparisons: u64,

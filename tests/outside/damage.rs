@@ -1,10 +1,13 @@
 //! Memories with arbitrary bytes: of any values, of values that fit each field, and valid ones that were damaged.
 
 use crate::checks::Checks;
+use crate::classes::{per_region, CLASSES, UNITS_PER_REGION};
 use crate::coverage::Coverage;
 use crate::driver::Driver;
 use crate::faults::Fault;
 use crate::layout::*;
+use crate::lists::{SPARE_DESCRIPTORS, SPARE_REGIONS};
+use crate::pool;
 use crate::random::Random;
 use crate::schedules::Schedule;
 use crate::styles::STYLES;
@@ -18,6 +21,10 @@ pub struct Bytes {
 const SHARED_COLUMNS: [Column; 10] =
     [HEAD, ANCHOR, MARKS, TOP, COUNT, DESCRIPTOR_NEXT, REGION_NEXT, DESCRIPTOR_REGION, DESCRIPTOR_CLASS, MAP];
 
+/// n and the units of the largest blocks. A count up to this n fits every class, a unit at a multiple of these many.
+const LEAST_N: u64 = 16;
+const MOST_UNITS: u64 = 32;
+
 /// A state in the middle of a run.
 pub fn valid(random: &mut Random) -> Bytes {
     let (mut checks, mut coverage) = (Checks::default(), Coverage::default());
@@ -30,9 +37,22 @@ pub fn valid(random: &mut Random) -> Bytes {
     Bytes { control: driver.control.bytes().to_vec(), area: driver.area.bytes().to_vec() }
 }
 
+fn regions(random: &mut Random) -> u64 {
+    random.from_to(1, pool::REGIONS as u64)
+}
+
+fn class(random: &mut Random) -> u64 {
+    random.below(CLASSES as u64)
+}
+
+/// The first unit of one of the largest blocks.
+fn unit(random: &mut Random, regions: u64) -> u64 {
+    random.below(regions * UNITS_PER_REGION) / MOST_UNITS * MOST_UNITS
+}
+
 /// All bytes random, or all zero, or mostly zero.
 pub fn any(random: &mut Random) -> Bytes {
-    let mut bytes = Bytes { control: vec![0; 8192], area: vec![0; random.from_to(1, 16) as usize * 4096] };
+    let mut bytes = Bytes { control: vec![0; 8192], area: vec![0; regions(random) as usize * 4096] };
     match random.below(3) {
         0 => (),
         1 => random.fill(&mut bytes.control),
@@ -56,11 +76,13 @@ pub fn any(random: &mut Random) -> Bytes {
 
 /// A number near the limits of some field.
 fn edge(random: &mut Random) -> u64 {
-    const EDGES: [u64; 20] = [0, 1, 2, 3, 7, 8, 15, 16, 17, 18, 33, 34, 63, 64, 65, 512, 513, 8191, 8192, u64::MAX];
-    match random.below(4) {
+    const EDGES: [u64; 18] = [0, 1, 2, 3, 7, 8, 16, 17, 33, 34, 63, 64, 65, 512, 513, 8191, 8192, u64::MAX];
+    match random.below(5) {
         0 => random.pick(&EDGES),
-        1 => random.below(80),
-        2 => random.below(9000),
+        // The last class of the table and the first three past it.
+        1 => CLASSES as u64 - 1 + random.below(4),
+        2 => random.below(80),
+        3 => random.below(9000),
         _ => random.next(),
     }
 }
@@ -103,22 +125,22 @@ fn damage_link(bytes: &mut Bytes, random: &mut Random) {
 
 /// Every field of a value that fits it, so that steps go far before they meet something that does not.
 pub fn fitting(random: &mut Random) -> Bytes {
-    let regions = random.from_to(1, 16);
+    let regions = regions(random);
     let mut bytes = Bytes { control: vec![0; 8192], area: vec![0; regions as usize * 4096] };
     let control = &mut bytes.control;
     fit(control, HEAD, random, |random| random.below(65) | random.below(3) << 32);
-    set(control, HEAD, 17, random.below(regions + 1));
+    set(control, HEAD, SPARE_REGIONS, random.below(regions + 1));
     fit(control, ANCHOR, random, fitting_anchor);
     fit(control, MARKS, random, |random| random.next());
-    let class = random.below(16);
-    fit(control, TOP, random, |random| if random.one_in(4) { 8192 } else { random.below(regions * 512) & !31 });
-    fit(control, COUNT, random, |random| random.below(17));
+    fit(control, TOP, random, |random| if random.one_in(4) { 8192 } else { unit(random, regions) });
+    fit(control, COUNT, random, |random| random.from_to(0, LEAST_N));
     for column in [TASK_INDEX, TASK_LEFT, GROUP_FIRST, GROUP_LAST, GROUP_COUNT] {
-        fit(control, column, random, |random| random.below(17));
+        fit(control, column, random, |random| random.from_to(0, LEAST_N));
     }
-    fit(control, TASK_UNIT, random, |random| random.below(regions * 512) & !31);
+    fit(control, TASK_UNIT, random, |random| unit(random, regions));
     fit(control, TASK_PLACE, random, |random| random.below(34));
-    let class_of = |random: &mut Random| if random.one_in(2) { class } else { random.below(16) };
+    let often = class(random);
+    let class_of = |random: &mut Random| if random.one_in(2) { often } else { class(random) };
     fit(control, TASK_CLASS, random, class_of);
     fit(control, DESCRIPTOR_CLASS, random, class_of);
     fit(control, TASK_NEXT, random, |random| random.below(regions + 1));
@@ -144,8 +166,8 @@ fn fit(control: &mut [u8], column: Column, random: &mut Random, value: impl Fn(&
 
 fn fitting_anchor(random: &mut Random) -> u64 {
     match random.below(3) {
-        0 => anchor(random.below(3), random.below(17), random.below(17)),
-        1 => anchor(2, random.pick(&[16, 18, 21, 512]), 0),
+        0 => anchor(random.below(3), random.from_to(0, LEAST_N), random.from_to(0, LEAST_N)),
+        1 => anchor(2, per_region(class(random) as usize), 0),
         _ => anchor(random.below(3), random.below(513), random.below(513)),
     }
 }
@@ -153,7 +175,7 @@ fn fitting_anchor(random: &mut Random) -> u64 {
 /// Lets the tasks have noted words that stand in the memory, so that exchanges are won, and the map be named back.
 fn note_what_stands(control: &mut [u8], random: &mut Random) {
     for task in 0..8 {
-        let list = random.pick(&[get(control, TASK_CLASS, task), 16, 17]) as usize;
+        let list = random.pick(&[get(control, TASK_CLASS, task) as usize, SPARE_DESCRIPTORS, SPARE_REGIONS]);
         let head = get(control, HEAD, list);
         set(control, TASK_HEAD, task, head);
         let descriptor = match random.below(2) {
@@ -172,11 +194,11 @@ fn note_what_stands(control: &mut [u8], random: &mut Random) {
 }
 
 fn fit_links(area: &mut [u8], random: &mut Random) {
-    let units = area.len() as u64 / 8;
+    let regions = area.len() as u64 / 4096;
     for link in area.chunks_mut(8) {
         let value = match random.below(3) {
-            0 => random.below(17),
-            1 => random.below(units) & !31,
+            0 => random.from_to(0, LEAST_N),
+            1 => unit(random, regions),
             _ => 8192,
         };
         link[..4].copy_from_slice(&(value as u32).to_le_bytes());

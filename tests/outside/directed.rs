@@ -1,10 +1,10 @@
 //! Schedules that are written down: the paper's examples, and a way to the end with 12.
 
 use crate::checks::Parted;
-use crate::classes::{block, per_region, CLASSES};
+use crate::classes::{block, class_of, per_region, tail, CLASSES, UNITS_PER_REGION};
 use crate::driver::Driver;
 use crate::lists::{LISTS, MOVES, SPARE_DESCRIPTORS, SPARE_REGIONS};
-use crate::pool::{Answer, Call, Request};
+use crate::pool::{Answer, Call, Request, REGIONS};
 use crate::schedules::Schedule;
 use crate::styles;
 
@@ -48,22 +48,25 @@ pub fn first_allocations(driver: &mut Driver) -> Result<(), Parted> {
     Ok(())
 }
 
-/// "unit 510 in a region of 24-byte blocks: 10 (its 16 last bytes are no block). One region, all held, another class
-/// wanted: 13."
+/// "One region, all held, another class wanted: 13." What is left over at the end of a region is no block: each unit
+/// there is 10.
 pub fn bench_refusals(driver: &mut Driver) -> Result<(), Parted> {
-    start(driver, 1, 1)?;
-    for _ in 0..170 {
-        allocate(driver, 0, 24)?;
+    for class in 0..CLASSES {
+        start(driver, 1, 1)?;
+        for _ in 0..per_region(class) {
+            allocate(driver, 0, block(class))?;
+        }
+        for unit in tail(class)..UNITS_PER_REGION {
+            let answer = driver.ask(Request::Free { task: 0, unit })?;
+            let name = format!("directed: what is left over behind blocks of {} bytes is 10", block(class));
+            driver.checks.hold(&name, answer == (10, 0), || format!("unit {unit}: {answer:?}"))?;
+        }
+        let end = allocate(driver, 0, block((class + 1) % CLASSES))?.1;
+        let name = "bench: one region, all held, another class wanted is 13";
+        driver.checks.hold(name, end == (13, 0), || format!("blocks of {} held: {end:?}", block(class)))?;
+        driver.compare_structure()?;
     }
-    let answer = driver.ask(Request::Free { task: 0, unit: 510 })?;
-    driver
-        .checks
-        .hold("bench: unit 510 in a region of 24-byte blocks is 10", answer == (10, 0), || format!("{answer:?}"))?;
-    let end = allocate(driver, 0, 256)?.1;
-    driver
-        .checks
-        .hold("bench: one region, all held, another class wanted is 13", end == (13, 0), || format!("{end:?}"))?;
-    driver.compare_structure()
+    Ok(())
 }
 
 /// Every size from 0 to 300: the class is seen by the units that two allocations in a fresh pool answer.
@@ -103,7 +106,7 @@ pub fn each_class(driver: &mut Driver) -> Result<(), Parted> {
 /// back is spare again, but its descriptor stays on the partial list of its class, where only an allocation of that
 /// class takes it. After four classes 54 descriptors stand so and 4 are in use, and the fifth class takes the others.
 pub fn no_descriptor(driver: &mut Driver) -> Result<(), Parted> {
-    start(driver, 1, 16)?;
+    start(driver, 1, REGIONS as u64)?;
     let mut end = (0, 0);
     for size in [256, 224, 192, 160, 128] {
         end = fill(driver, size)?;
@@ -140,16 +143,17 @@ fn free_all(driver: &mut Driver) -> Result<(), Parted> {
 /// The sham pool that does the first transfer only: a second transfer in each direction is followed block by block.
 pub fn transfers_in_turn(driver: &mut Driver) -> Result<(), Parted> {
     start(driver, 2, 2)?;
+    let blocks = per_region(class_of(256));
     for _ in 0..4 {
         let mut units = Vec::new();
-        for _ in 0..32 {
+        for _ in 0..2 * blocks {
             units.push(allocate(driver, 0, 256)?.1 .1);
         }
         for (number, unit) in units.iter().enumerate() {
             free(driver, number as u64 % 2, *unit)?;
             driver.compare_structure()?;
         }
-        for _ in 0..16 {
+        for _ in 0..blocks {
             allocate(driver, 1, 256)?;
         }
         free_all(driver)?;
@@ -180,7 +184,7 @@ pub fn tags_that_wrap(driver: &mut Driver) -> Result<(), Parted> {
         }
     }
     for (list, what) in
-        [(15, "a partial list"), (SPARE_DESCRIPTORS, "spare descriptors"), (SPARE_REGIONS, "spare regions")]
+        [(class_of(256), "a partial list"), (SPARE_DESCRIPTORS, "spare descriptors"), (SPARE_REGIONS, "spare regions")]
     {
         let name = format!("directed: the tag of {what} passes 4,294,967,295");
         driver.checks.hold(&name, wrapped[list], || "never".to_string())?;

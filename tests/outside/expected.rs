@@ -2,10 +2,10 @@
 //! calls test 1, 4, 2, 5, then 6 or 7, then 8, 9 or 10, 11. 14 comes where the bad value is read, before any write."
 //! A start and a beginning are determined by them; of a step only the refusals before its place is looked at.
 
-use crate::classes::{per_region, units, UNITS_PER_REGION};
+use crate::classes::{is_first, CLASSES, UNITS_PER_REGION};
 use crate::damage::Bytes;
 use crate::layout::*;
-use crate::pool::Request;
+use crate::pool::{self, Request};
 
 /// The code that is due, or none for a step that passes the tests.
 pub fn code(bytes: &Bytes, request: Request) -> Option<u64> {
@@ -51,7 +51,8 @@ fn common(bytes: &Bytes, task: u64) -> u64 {
     match (tasks, regions) {
         (9.., _) => 14,
         (0, _) => 4,
-        (_, 0 | 17..) => 14,
+        (_, 0) => 14,
+        _ if regions > pool::REGIONS as u64 => 14,
         _ if bytes.area.len() as u64 != regions * 4096 => 2,
         _ if task >= tasks => 5,
         _ => 0,
@@ -82,14 +83,13 @@ fn free(bytes: &Bytes, unit: u64) -> u64 {
         _ => (),
     }
     match view.get(DESCRIPTOR_CLASS, named) as usize {
-        16.. => 14,
+        CLASSES.. => 14,
         class => block_and_mark(&view, unit, class),
     }
 }
 
 fn block_and_mark(view: &View, unit: u64, class: usize) -> u64 {
-    let offset = unit % UNITS_PER_REGION;
-    if offset % units(class) != 0 || offset / units(class) >= per_region(class) {
+    if !is_first(class, unit) {
         return 10;
     }
     if view.mark(unit as usize) {

@@ -1,8 +1,10 @@
 //! The bad values, one at a time. Each change is made where the step list has the value read at the place named.
 
-use crate::classes::{per_region, units, UNITS_PER_REGION};
+use crate::classes::{per_region, tail, units, CLASSES, UNITS_PER_REGION};
 use crate::damage::Bytes;
 use crate::layout::*;
+use crate::lists::{SPARE_DESCRIPTORS, SPARE_REGIONS};
+use crate::pool;
 
 pub struct Case {
     pub name: &'static str,
@@ -25,9 +27,9 @@ const ALL: &[usize] = &[
 pub const CASES: &[Case] = &[
     case("the started number of tasks is 9", ALL, |bytes, _, _| put(bytes, TASKS, 0, 9)),
     case("the started number of regions is 0", ALL, |bytes, _, _| put(bytes, REGIONS, 0, 0)),
-    case("the started number of regions is 17", ALL, |bytes, _, _| put(bytes, REGIONS, 0, 17)),
+    case("the started number of regions is 17", ALL, |bytes, _, _| put(bytes, REGIONS, 0, pool::REGIONS as u64 + 1)),
     case("a place past the step list", ALL, |bytes, task, _| put(bytes, TASK_PLACE, task, 34)),
-    case("a class past the table", &[1, 2, 28, 29], |bytes, task, _| put(bytes, TASK_CLASS, task, 16)),
+    case("a class past the table", &[1, 2, 28, 29], |bytes, task, _| put(bytes, TASK_CLASS, task, CLASSES as u64)),
     case("a head's item that there is not", HEAD_READS, |bytes, task, place| bad_head(bytes, task, place)),
     case("a head's item that there is not, at the exchange", EXCHANGES, |bytes, task, place| {
         bad_head(bytes, task, place)
@@ -55,12 +57,12 @@ pub const CASES: &[Case] = &[
     }),
     case("a cache's top behind a region's last block", &[1, 29], |bytes, task, _| {
         let class = class(bytes, task);
-        let behind = per_region(class) * units(class);
+        let behind = tail(class);
         behind < UNITS_PER_REGION && bad_top(bytes, task, |unit| unit / UNITS_PER_REGION * UNITS_PER_REGION + behind)
     }),
     case("a cache's count above n", &[1, 28, 29], |bytes, task, _| {
         let class = class(bytes, task);
-        put(bytes, COUNT, task * 16 + class, per_region(class) + 1)
+        put(bytes, COUNT, cache_index(task, class), per_region(class) + 1)
     }),
     case("a link below a cache's top that is no block", &[1, 29], bad_cache_link),
     case("a map entry that names none", &[30], |bytes, task, _| {
@@ -94,7 +96,7 @@ pub const CASES: &[Case] = &[
     case("a block to free that is no block of the class", &[28], |bytes, task, _| {
         let unit = get(&bytes.control, TASK_UNIT, task);
         let class = class(bytes, task);
-        let room = get(&bytes.control, COUNT, task * 16 + class) < per_region(class);
+        let room = get(&bytes.control, COUNT, cache_index(task, class)) < per_region(class);
         room && units(class) > 1 && put(bytes, TASK_UNIT, task, unit + 1)
     }),
     case("a group's last block past n", &[31], |bytes, task, _| past_n(bytes, task, GROUP_LAST)),
@@ -119,14 +121,14 @@ fn past_n(bytes: &mut Bytes, task: usize, column: Column) -> bool {
 fn list(bytes: &Bytes, task: usize, place: usize) -> usize {
     match (place - 2) / 3 {
         0 | 6 => class(bytes, task),
-        2 | 5 => 17,
-        _ => 16,
+        2 | 5 => SPARE_REGIONS,
+        _ => SPARE_DESCRIPTORS,
     }
 }
 
 fn bad_head(bytes: &mut Bytes, task: usize, place: usize) -> bool {
     let list = list(bytes, task, place);
-    let most = if list == 17 { get(&bytes.control, REGIONS, 0) } else { 64 };
+    let most = if list == SPARE_REGIONS { get(&bytes.control, REGIONS, 0) } else { 64 };
     let tag = get(&bytes.control, HEAD, list) >> 32 << 32;
     put(bytes, HEAD, list, tag | (most + 1))
 }
@@ -163,14 +165,14 @@ fn bad_both(bytes: &mut Bytes, task: usize, place: usize, word: u64) -> bool {
 
 /// Makes the top of the task's cache bad, where it has one that the step takes.
 fn bad_top(bytes: &mut Bytes, task: usize, bad: impl Fn(u64) -> u64) -> bool {
-    let index = task * 16 + class(bytes, task);
+    let index = cache_index(task, class(bytes, task));
     let unit = get(&bytes.control, TOP, index);
     get(&bytes.control, COUNT, index) > 0 && put(bytes, TOP, index, bad(unit))
 }
 
 /// Makes the link of the cache's top bad, where the step takes the top and there is a block below.
 fn bad_cache_link(bytes: &mut Bytes, task: usize, place: usize) -> bool {
-    let index = task * 16 + class(bytes, task);
+    let index = cache_index(task, class(bytes, task));
     let top = get(&bytes.control, TOP, index);
     let same_region = top / UNITS_PER_REGION == get(&bytes.control, TASK_REGION, task);
     let taken = place == 1 || same_region || get(&bytes.control, GROUP_COUNT, task) == 0;

@@ -2,6 +2,8 @@
 //! places; the plain pool knows nothing of it.
 
 use crate::classes::{per_region, units, UNIT, UNITS_PER_REGION};
+use crate::lists::{LISTS, SPARE_REGIONS};
+use crate::pool;
 
 /// A column of the control memory: its first byte, the width of a field and how many there are.
 #[derive(Clone, Copy, Debug)]
@@ -15,13 +17,17 @@ const fn column(first: usize, width: usize, fields: usize) -> Column {
     Column { first, width, fields }
 }
 
-pub const HEAD: Column = column(0, 8, 18);
+/// The cache columns have room for this many classes of each task, more than there are.
+pub const CACHE_STRIDE: usize = 16;
+const CACHES: usize = pool::TASKS * CACHE_STRIDE;
+
+pub const HEAD: Column = column(0, 8, LISTS);
 pub const ANCHOR: Column = column(256, 8, 64);
 pub const MARKS: Column = column(768, 8, 128);
 pub const TASK_HEAD: Column = column(4864, 8, 8);
 pub const TASK_ANCHOR: Column = column(4928, 8, 8);
-pub const TOP: Column = column(4992, 2, 128);
-pub const COUNT: Column = column(5248, 2, 128);
+pub const TOP: Column = column(4992, 2, CACHES);
+pub const COUNT: Column = column(5248, 2, CACHES);
 pub const TASK_UNIT: Column = column(5504, 2, 8);
 pub const TASK_INDEX: Column = column(5520, 2, 8);
 pub const TASK_LEFT: Column = column(5536, 2, 8);
@@ -35,10 +41,10 @@ pub const TASK_DESCRIPTOR: Column = column(5656, 1, 8);
 pub const TASK_REGION: Column = column(5664, 1, 8);
 pub const TASK_STATE: Column = column(5672, 1, 8);
 pub const DESCRIPTOR_NEXT: Column = column(5696, 1, 64);
-pub const REGION_NEXT: Column = column(5760, 1, 16);
+pub const REGION_NEXT: Column = column(5760, 1, pool::REGIONS);
 pub const DESCRIPTOR_REGION: Column = column(5776, 1, 64);
 pub const DESCRIPTOR_CLASS: Column = column(5840, 1, 64);
-pub const MAP: Column = column(5904, 1, 16);
+pub const MAP: Column = column(5904, 1, pool::REGIONS);
 pub const TASKS: Column = column(5944, 1, 1);
 pub const REGIONS: Column = column(5945, 1, 1);
 
@@ -85,6 +91,11 @@ pub const OF_A_TASK: [Column; 14] = [
     TASK_STATE,
 ];
 
+/// The index of a cache in its two columns.
+pub const fn cache_index(task: usize, class: usize) -> usize {
+    task * CACHE_STRIDE + class
+}
+
 /// Reads a field, low byte first.
 pub fn get(control: &[u8], column: Column, index: usize) -> u64 {
     let first = column.first + index * column.width;
@@ -125,7 +136,7 @@ impl View<'_> {
 
     /// A list's items from the top, by the head word and each item's next.
     pub fn list(&self, list: usize) -> Result<Vec<usize>, String> {
-        let next = if list == crate::lists::SPARE_REGIONS { REGION_NEXT } else { DESCRIPTOR_NEXT };
+        let next = if list == SPARE_REGIONS { REGION_NEXT } else { DESCRIPTOR_NEXT };
         let mut items = Vec::new();
         let mut link = self.get(HEAD, list) & 0xFFFF_FFFF;
         while link != 0 {
@@ -168,8 +179,8 @@ impl View<'_> {
 
     /// A cache's units with the top last. "in a cache, the unit of the block below, with 8,192 at the bottom".
     pub fn cache(&self, task: usize, class: usize) -> Result<Vec<u64>, String> {
-        let count = self.get(COUNT, task * 16 + class);
-        let mut unit = self.get(TOP, task * 16 + class);
+        let count = self.get(COUNT, cache_index(task, class));
+        let mut unit = self.get(TOP, cache_index(task, class));
         let mut row = Vec::new();
         for _ in 0..count {
             row.push(unit);

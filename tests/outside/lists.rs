@@ -2,14 +2,15 @@
 //!
 //! "each list as a row from the top, with the number of its won exchanges since the start, never wrapping".
 
+use crate::classes::CLASSES;
 use crate::faults::Fault;
 use crate::pool::{Event, Place, Pool, Under};
 use std::collections::VecDeque;
 
-/// 0 to 15 are the partial descriptors of each class.
-pub const SPARE_DESCRIPTORS: usize = 16;
-pub const SPARE_REGIONS: usize = 17;
-pub const LISTS: usize = 18;
+/// The partial descriptors of each class come first, by the class's number.
+pub const SPARE_DESCRIPTORS: usize = CLASSES;
+pub const SPARE_REGIONS: usize = SPARE_DESCRIPTORS + 1;
+pub const LISTS: usize = SPARE_REGIONS + 1;
 
 #[derive(Clone, Default, Debug)]
 pub struct List {

@@ -26,6 +26,7 @@ mod stand_test;
 mod steps;
 mod structure;
 mod styles;
+mod table;
 mod tamper;
 
 use checks::{Checks, Parted};
@@ -101,7 +102,7 @@ fn schedule(options: &Options, round: u64, index: usize, checks: &mut Checks, co
     let style = index.checked_sub(DIRECTED.len()).map(|index| &STYLES[index]);
     checks.context =
         format!("round {round}, {}", style.map_or(format!("written schedule {index}"), |style| style.name.into()));
-    let mut driver = Driver::new(1 + seed % 16, seed, options.fault, checks, coverage);
+    let mut driver = Driver::new(1 + seed % pool::REGIONS as u64, seed, options.fault, checks, coverage);
     let _ = match style {
         Some(style) => Schedule::new(&mut driver, style).run(),
         None => DIRECTED[index](&mut driver),

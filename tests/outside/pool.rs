@@ -1,7 +1,7 @@
 //! The plain pool of the paper: "The whole run is this plain pool, without links or head words. It is fed only each
 //! call's numbers and the lengths lent."
 
-use crate::classes::{class_of, per_region, units, CLASSES, REGION, UNITS_PER_REGION};
+use crate::classes::{CLASSES, REGION, UNITS_PER_REGION};
 use crate::faults::Fault;
 use crate::lists::{HeadNote, List, Move, Phase, LISTS, SPARE_DESCRIPTORS, SPARE_REGIONS};
 use std::collections::VecDeque;
@@ -229,10 +229,7 @@ impl Pool {
 
     /// "Beginning a request does no step."
     fn begin_allocate(&mut self, task: usize, size: u64) -> Answer {
-        self.tasks[task].class = class_of(size);
-        if size == 17 && self.fault == Fault::ClassAt17 {
-            self.tasks[task].class = class_of(32);
-        }
+        self.tasks[task].class = self.class_of(size);
         self.go(task, Place::AllocateCache)
     }
 
@@ -263,7 +260,7 @@ impl Pool {
         let descriptor = self.open((unit / UNITS_PER_REGION) as usize)?;
         let class = self.descriptors[descriptor].class;
         let offset = unit % UNITS_PER_REGION;
-        let starts = offset % units(class) == 0 && offset / units(class) < per_region(class);
+        let starts = offset % self.units(class) == 0 && offset / self.units(class) < self.per_region(class);
         starts.then_some(class)
     }
 

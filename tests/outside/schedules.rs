@@ -1,10 +1,10 @@
 //! Random schedules: one style's choices, call by call.
 
 use crate::checks::Parted;
-use crate::classes::{block, per_region, units};
+use crate::classes::{block, class_of, per_region, tail, units, CLASSES, REGION, UNITS_PER_REGION};
 use crate::driver::{Driver, Held};
 use crate::lists::{Move, Phase};
-use crate::pool::{Call, Place, Request, CONTROL};
+use crate::pool::{Call, Place, Request, CONTROL, REGIONS};
 use crate::styles::{Order, Style, Turn};
 
 const LENGTHS: [u64; 14] = [0, 1, 4095, 4096, 4097, 8191, 8192, 8193, 16384, 65535, 65536, 65537, 69632, 131_072];
@@ -21,7 +21,7 @@ pub struct Schedule<'a, 'b> {
 
 impl<'a, 'b> Schedule<'a, 'b> {
     pub fn new(driver: &'b mut Driver<'a>, style: &'b Style) -> Self {
-        Schedule { driver, style, in_use: vec![15], filling: true, turn: 0, turn_left: 0, frozen: None }
+        Schedule { driver, style, in_use: vec![CLASSES - 1], filling: true, turn: 0, turn_left: 0, frozen: None }
     }
 
     /// The whole schedule: some calls before the first start, the start, then call after call.
@@ -117,7 +117,7 @@ impl<'a, 'b> Schedule<'a, 'b> {
     }
 
     fn choose_classes(&mut self) {
-        let (first, last) = self.style.classes;
+        let (first, last) = (class_of(self.style.blocks.0), class_of(self.style.blocks.1));
         let random = &mut self.driver.random;
         let wanted = random.from_to(1, self.style.at_once);
         self.in_use = (0..wanted).map(|_| random.from_to(first as u64, last as u64) as usize).collect();
@@ -219,7 +219,7 @@ impl<'a, 'b> Schedule<'a, 'b> {
     fn odd_start(&mut self, control: u64, area: u64) -> Call {
         let random = &mut self.driver.random;
         let tasks = if random.one_in(2) { random.number() } else { random.below(10) };
-        let valid = control == CONTROL && (1..=16).contains(&(area / 4096)) && area % 4096 == 0;
+        let valid = control == CONTROL && (1..=REGIONS as u64).contains(&(area / REGION)) && area % REGION == 0;
         let tasks = if valid && (1..=8).contains(&tasks) { tasks + 8 } else { tasks };
         Call { control, area, request: Request::Start { tasks } }
     }
@@ -249,12 +249,12 @@ impl<'a, 'b> Schedule<'a, 'b> {
         let held = self.block_to_free();
         let random = &mut self.driver.random;
         let class = random.pick(&self.in_use);
-        let region = random.below(17) * 512;
+        let region = random.below(REGIONS as u64 + 1) * UNITS_PER_REGION;
         match (random.below(5), held) {
             (0, _) => random.number(),
             (1, _) => random.below(self.driver.area.len() as u64 / 8),
             (2, Some(held)) => held.unit.wrapping_add(random.below(3)).wrapping_sub(1),
-            (3, _) => region + per_region(class) * units(class),
+            (3, _) => region + tail(class),
             _ => region + random.below(per_region(class)) * units(class),
         }
     }

@@ -1,7 +1,7 @@
 //! The steps of the plain pool outside the moves on lists: "After that one call is one step of one task; a branch on
 //! what was read is no step."
 
-use crate::classes::{per_region, units, UNITS_PER_REGION};
+use crate::classes::UNITS_PER_REGION;
 use crate::faults::Fault;
 use crate::lists::{Move, Phase, SPARE_DESCRIPTORS};
 use crate::pool::{AnchorNote, Answer, Event, Place, Pool, State, Under};
@@ -49,7 +49,7 @@ impl Pool {
 
     /// The unit of a block of the region that the task has in hand.
     fn unit_of(&self, task: usize, index: u64) -> u64 {
-        self.tasks[task].region as u64 * UNITS_PER_REGION + index * units(self.tasks[task].class)
+        self.tasks[task].region as u64 * UNITS_PER_REGION + index * self.units(self.tasks[task].class)
     }
 
     fn cache_block(&mut self, task: usize, index: u64) {
@@ -147,7 +147,7 @@ impl Pool {
     /// Allocate 8: "Put blocks 0 to n − 1 on the cache, one a step; then 1."
     fn carve(&mut self, task: usize) -> Answer {
         let Under::Carving(index) = self.tasks[task].under else { unreachable!("a region is being carved") };
-        let blocks = per_region(self.tasks[task].class);
+        let blocks = self.per_region(self.tasks[task].class);
         let block = if self.fault == Fault::CarvedDown { blocks - 1 - index } else { index };
         self.cache_block(task, block);
         let due = if self.fault == Fault::CarvedShort { blocks - 1 } else { blocks };
@@ -162,7 +162,7 @@ impl Pool {
     /// Free 1: "If the cache holds fewer than n, push the block and finish. Else go on."
     fn free_to_cache(&mut self, task: usize) -> Answer {
         let (class, unit) = (self.tasks[task].class, self.tasks[task].unit);
-        let limit = per_region(class) as usize + usize::from(self.fault == Fault::CacheOver);
+        let limit = self.per_region(class) as usize + usize::from(self.fault == Fault::CacheOver);
         if self.caches[task][class].len() < limit {
             self.caches[task][class].push(unit);
             self.marks[unit as usize] = false;
@@ -190,7 +190,7 @@ impl Pool {
         };
         self.tasks[task].region = (unit / UNITS_PER_REGION) as usize;
         self.caches[task][class].pop();
-        group.push_back(unit % UNITS_PER_REGION / units(class));
+        group.push_back(unit % UNITS_PER_REGION / self.units(class));
         self.tasks[task].under = Under::Group(group);
         if self.caches[task][class].is_empty() && self.fault == Fault::ClosingFree {
             return self.go(task, Place::ReadAnchorToReturn);
@@ -232,6 +232,7 @@ impl Pool {
     /// Puts the group before the descriptor's chain and sets the state by the chain's length.
     fn join(&mut self, index: usize, group: VecDeque<u64>) {
         let fault = self.fault;
+        let blocks = self.per_region(self.descriptors[index].class) as usize + usize::from(fault == Fault::CountShort);
         let descriptor = &mut self.descriptors[index];
         let mut before: Vec<u64> = group.into();
         if fault == Fault::GroupReversed {
@@ -242,7 +243,6 @@ impl Pool {
             Fault::GroupBehind => chain.into_iter().chain(before).collect(),
             _ => before.into_iter().chain(chain).collect(),
         };
-        let blocks = per_region(descriptor.class) as usize + usize::from(fault == Fault::CountShort);
         descriptor.changes += 1;
         descriptor.state = if descriptor.chain.len() == blocks { State::Empty } else { State::Partial };
     }

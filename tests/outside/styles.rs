@@ -1,5 +1,8 @@
 //! The styles of random schedules. Each is biased towards other collisions; together they reach every step.
 
+use crate::classes::CLASSES;
+use crate::pool::REGIONS;
+
 /// Which held block is freed next.
 #[derive(Clone, Copy, PartialEq, Eq, Debug)]
 pub enum Order {
@@ -25,8 +28,8 @@ pub struct Style {
     pub name: &'static str,
     pub tasks: (u64, u64),
     pub regions: (u64, u64),
-    /// The classes to choose from, and how many are in use at a time.
-    pub classes: (usize, usize),
+    /// The smallest and the largest block of the classes to choose from, and how many classes are in use at a time.
+    pub blocks: (u64, u64),
     pub at_once: u64,
     pub turn: Turn,
     pub order: Order,
@@ -45,8 +48,8 @@ pub struct Style {
 const BASE: Style = Style {
     name: "",
     tasks: (1, 8),
-    regions: (1, 16),
-    classes: (0, 15),
+    regions: (1, REGIONS as u64),
+    blocks: (8, 256),
     at_once: 3,
     turn: Turn::Any,
     order: Order::Any,
@@ -59,13 +62,13 @@ const BASE: Style = Style {
 };
 
 pub const STYLES: &[Style] = &[
-    Style { name: "everything at random", at_once: 16, ..BASE },
-    Style { name: "few regions, large blocks", regions: (1, 3), classes: (12, 15), at_once: 2, stall: 60, ..BASE },
+    Style { name: "everything at random", at_once: CLASSES as u64, ..BASE },
+    Style { name: "few regions, large blocks", regions: (1, 3), blocks: (160, 256), at_once: 2, stall: 60, ..BASE },
     Style {
         name: "one region, many tasks",
         tasks: (4, 8),
         regions: (1, 1),
-        classes: (11, 15),
+        blocks: (128, 256),
         stall: 50,
         freeze: 100,
         ..BASE
@@ -73,7 +76,7 @@ pub const STYLES: &[Style] = &[
     Style {
         name: "all tasks in step",
         tasks: (2, 8),
-        classes: (13, 15),
+        blocks: (192, 256),
         at_once: 1,
         turn: Turn::Around,
         order: Order::Rising,
@@ -83,7 +86,7 @@ pub const STYLES: &[Style] = &[
         name: "bursts with long stops",
         tasks: (2, 8),
         regions: (2, 6),
-        classes: (12, 15),
+        blocks: (160, 256),
         at_once: 2,
         turn: Turn::Bursts(40),
         order: Order::Rising,
@@ -93,8 +96,8 @@ pub const STYLES: &[Style] = &[
     Style {
         name: "fill, empty, other class",
         tasks: (1, 2),
-        regions: (16, 16),
-        classes: (9, 15),
+        regions: (REGIONS as u64, REGIONS as u64),
+        blocks: (96, 256),
         at_once: 1,
         turn: Turn::Bursts(30),
         order: Order::Rising,
@@ -109,7 +112,7 @@ pub const STYLES: &[Style] = &[
         name: "small blocks, long chains",
         tasks: (1, 4),
         regions: (1, 5),
-        classes: (0, 4),
+        blocks: (8, 48),
         at_once: 2,
         turn: Turn::Bursts(200),
         order: Order::Rising,
@@ -121,7 +124,7 @@ pub const STYLES: &[Style] = &[
         name: "returns that collide",
         tasks: (3, 8),
         regions: (3, 8),
-        classes: (14, 15),
+        blocks: (224, 256),
         at_once: 1,
         turn: Turn::Around,
         stall: 40,
@@ -133,7 +136,7 @@ pub const STYLES: &[Style] = &[
         name: "few blocks, quick changes",
         tasks: (2, 6),
         regions: (2, 5),
-        classes: (15, 15),
+        blocks: (256, 256),
         at_once: 1,
         order: Order::Rising,
         stall: 60,
@@ -145,7 +148,7 @@ pub const STYLES: &[Style] = &[
         name: "stops before an exchange",
         tasks: (3, 6),
         regions: (2, 4),
-        classes: (13, 15),
+        blocks: (192, 256),
         at_once: 2,
         turn: Turn::Bursts(20),
         order: Order::Rising,
@@ -153,8 +156,8 @@ pub const STYLES: &[Style] = &[
         swing: 300,
         ..BASE
     },
-    Style { name: "newest freed first", classes: (8, 15), at_once: 2, order: Order::Newest, swing: 700, ..BASE },
-    Style { name: "many starts", restart: 300, odd: 15, classes: (10, 15), swing: 200, ..BASE },
+    Style { name: "newest freed first", blocks: (80, 256), at_once: 2, order: Order::Newest, swing: 700, ..BASE },
+    Style { name: "many starts", restart: 300, odd: 15, blocks: (112, 256), swing: 200, ..BASE },
 ];
 
 /// The same style without starts.

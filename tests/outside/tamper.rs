@@ -2,10 +2,11 @@
 //! as a broken library would leave them. They show that the checks on bytes notice what no fault of the plain pool
 //! can bring about.
 
+use crate::classes::{CLASSES, UNIT};
 use crate::faults::Fault;
-use crate::layout::{self, View, TASK_PLACE};
+use crate::layout::{self, cache_index, View, TASK_PLACE, TOP};
 use crate::memory::Memory;
-use crate::pool::{Answer, Request};
+use crate::pool::{Answer, Request, TASKS};
 use std::sync::OnceLock;
 
 /// Set once, where the program is asked for a fault.
@@ -20,6 +21,9 @@ pub struct Before {
 }
 
 const SKIPPED: usize = 8000;
+/// The cache of the last task and the last class, and the cache that the first written schedule carves into.
+const LAST_CACHE: usize = cache_index(TASKS - 1, CLASSES - 1);
+const FIRST_CARVED: usize = cache_index(0, CLASSES - 1);
 
 /// The call's answer and memories as the broken library would leave them.
 pub fn after(control: &mut Memory, area: &mut Memory, request: Request, before: Before, answer: Answer) -> Answer {
@@ -34,11 +38,11 @@ pub fn after(control: &mut Memory, area: &mut Memory, request: Request, before: 
         Fault::StartWritesArea if start && !refused => flip(area, 100),
         Fault::StartSkipsByte if start && !refused => control.bytes_mut()[SKIPPED] = byte,
         Fault::BeginningWritesArea if !start && !step && !refused => flip(area, 6),
-        Fault::BeginningWritesOthers if !start && !step && !refused => flip(control, layout::TOP.first + 255),
+        Fault::BeginningWritesOthers if !start && !step && !refused => flip_top(control, LAST_CACHE),
         Fault::StepTouchesHeld if place == 2 && !refused => flip_held(control, area),
         Fault::StepWritesTwoLinks if place == 27 => flip(area, area.len() / 2 + 1),
         Fault::LinkOfEightBytes if place == 27 => {
-            flip(area, layout::get(control.bytes(), layout::TOP, 15) as usize * 8 + 4)
+            flip(area, (layout::get(control.bytes(), TOP, FIRST_CARVED) * UNIT) as usize + 4)
         }
         Fault::WritesBehindArea => area.flip_behind(),
         Fault::FourteenInRun if place == 30 => return (14, 0),
@@ -53,7 +57,7 @@ pub fn after(control: &mut Memory, area: &mut Memory, request: Request, before: 
 
 pub fn before(control: &Memory, request: Request) -> Before {
     let place = match request {
-        Request::Step { task } if task < 8 && control.len() == 8192 => {
+        Request::Step { task } if task < TASKS as u64 && control.len() == 8192 => {
             layout::get(control.bytes(), TASK_PLACE, task as usize)
         }
         _ => 0,
@@ -65,6 +69,10 @@ fn flip(memory: &mut Memory, place: usize) {
     if let Some(byte) = memory.bytes_mut().get_mut(place) {
         *byte ^= 1;
     }
+}
+
+fn flip_top(control: &mut Memory, cache: usize) {
+    flip(control, TOP.first + TOP.width * cache)
 }
 
 /// Changes a byte of a block in a user's hands, where a link would be.
