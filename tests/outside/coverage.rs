@@ -51,6 +51,8 @@ pub struct Coverage {
     opened: [u64; CLASSES],
     taken: [u64; CLASSES],
     returned: [u64; CLASSES],
+    /// Finished allocations whose block was held against the table, by the class of their size.
+    pub allocated: [u64; CLASSES],
     pub calls: u64,
     pub writes: u64,
     pub comparisons: u64,
@@ -142,6 +144,7 @@ impl Coverage {
         let least = |row: &[u64]| row.iter().copied().min().unwrap_or(0);
         reached(checks, "starts with 1 to 8 tasks each", least(&self.tasks[1..]));
         reached(checks, "starts with 1 to 16 regions each", least(&self.regions[1..]));
+        reached(checks, "allocations finished in each class", least(&self.allocated));
         reached(checks, "regions opened in each class", least(&self.opened));
         reached(checks, "chains taken in each class", least(&self.taken));
         reached(checks, "groups returned in each class", least(&self.returned));
@@ -163,7 +166,7 @@ impl Coverage {
         println!("returns: {:?}; after the anchor changed and came back: {}", self.returns, self.came_back);
         println!("anchors found EMPTY by allocate: {}; users' writes: {}", self.anchor_empty, self.writes);
         println!("starts by tasks: {:?}; by regions: {:?}", &self.tasks[1..], &self.regions[1..]);
-        println!("by class, regions opened: {:?}", self.opened);
+        println!("by class, allocations finished: {:?}; regions opened: {:?}", self.allocated, self.opened);
         println!("by class, chains taken: {:?}; groups returned: {:?}", self.taken, self.returned);
         for (kind, name) in KINDS.iter().enumerate() {
             let codes: Vec<String> = self

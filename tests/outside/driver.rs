@@ -2,17 +2,19 @@
 //! a caller see is compared after it.
 
 use crate::checks::{Checks, Parted};
-use crate::classes::{block, UNIT};
+use crate::classes::{block, class_of, is_aligned, is_first, UNIT};
 use crate::coverage::Coverage;
 use crate::faults::Fault;
 use crate::layout::View;
 use crate::library;
 use crate::lists::LISTS;
 use crate::memory::{Memory, Side};
-use crate::pool::{Answer, Call, Place, Pool, Request, ALL_UNITS, CONTROL};
+use crate::pool::{Answer, Call, Place, Pool, Request, ALL_UNITS, CONTROL, TASKS};
 use crate::random::Random;
 use crate::structure;
 
+pub const ALIGNED: &str = "a block of 16 bytes or more starts at a multiple of 16 bytes of the area";
+pub const OF_CLASS: &str = "a finished allocation's unit is the first of a block of the size's class";
 pub const ANSWERS: &str = "answers of library and plain pool agree";
 pub const NO_14: &str = "14 does not occur in a run";
 pub const UNCHANGED: &str = "a refused call changes no byte of either memory";
@@ -35,6 +37,8 @@ pub struct Driver<'a> {
     pub area: Memory,
     control_before: Vec<u8>,
     area_before: Vec<u8>,
+    /// The size that each task's allocation under way has asked for.
+    asked: [Option<u64>; TASKS],
     pub held: Vec<Held>,
     /// For each unit of the area, whether it lies in a held block.
     covered: Vec<bool>,
@@ -59,6 +63,7 @@ impl<'a> Driver<'a> {
             area_before: area.bytes().to_vec(),
             control,
             area,
+            asked: [None; TASKS],
             held: Vec::new(),
             covered: vec![false; ALL_UNITS],
             tags_at_start: [0; LISTS],
@@ -84,6 +89,7 @@ impl<'a> Driver<'a> {
             self.call_with_other_lengths(call, expected)?;
         } else {
             let answer = library::call(&mut self.control, &mut self.area, call.request);
+            self.check_allocation(call.request, answer)?;
             self.compare_answers(call, answer, expected)?;
             self.compare_memories(call, expected)?;
         }
@@ -119,6 +125,20 @@ impl<'a> Driver<'a> {
             Request::Step { task } if task < 8 => self.pool.tasks[task as usize].place,
             _ => Place::Idle,
         }
+    }
+
+    /// Holds the unit by which the library finishes an allocation against the table of classes, without the plain pool.
+    fn check_allocation(&mut self, request: Request, (code, unit): Answer) -> Result<(), Parted> {
+        let asked = match request {
+            Request::Step { task } if code == 20 => self.asked.get_mut(task as usize).and_then(Option::take),
+            _ => None,
+        };
+        let Some(size) = asked else { return Ok(()) };
+        let class = class_of(size);
+        self.checks.hold(ALIGNED, is_aligned(class, unit), || format!("{size} bytes at unit {unit}"))?;
+        self.checks.hold(OF_CLASS, is_first(class, unit), || format!("{size} bytes at unit {unit}"))?;
+        self.coverage.allocated[class] += 1;
+        Ok(())
     }
 
     fn compare_answers(&mut self, call: Call, answer: Answer, expected: Answer) -> Result<(), Parted> {
@@ -177,11 +197,14 @@ impl<'a> Driver<'a> {
     fn follow(&mut self, request: Request, place: Place, answer: Answer) {
         match (request, answer.0) {
             (Request::Start { .. }, 0) => {
+                self.asked = [None; TASKS];
                 self.held.clear();
                 self.covered.fill(false);
                 self.tags_at_start = [0; LISTS];
             }
+            (Request::Allocate { task, size }, 0) => self.asked[task as usize] = Some(size),
             (Request::Free { task, unit }, 0) => self.give_back(task, unit),
+            (Request::Step { task }, 12 | 13) => self.asked[task as usize] = None,
             (Request::Step { task }, 20) if place == Place::AllocateCache => self.receive(task, answer.1),
             _ => (),
         }

@@ -61,6 +61,8 @@ faults! {
     StartSkipsByte "library-start-byte" "library: a start leaves a byte of control that it should not",
     BeginningWritesArea "library-beginning-area" "library: a beginning changes a byte of the area",
     BeginningWritesOthers "library-beginning-others" "library: a beginning changes another task's cache",
+    Unaligned "library-unaligned" "library: a finished allocation answers the unit behind the block's first",
+    BetweenBlocks "library-between-blocks" "library: a finished allocation answers the block's first unit plus 2",
     StepTouchesHeld "library-held-block" "library: a step changes a byte of a block in a user's hands",
     StepWritesTwoLinks "library-two-links" "library: a step that carves writes a second byte elsewhere",
     LinkOfEightBytes "library-long-link" "library: a carved block's fifth byte is written",

@@ -48,6 +48,8 @@ pub fn after(control: &mut Memory, area: &mut Memory, request: Request, before: 
         Fault::FourteenInRun if place == 30 => return (14, 0),
         Fault::ValueUnderWay if place == 27 && answer.0 == 0 => return (0, 1),
         Fault::BadLinkPassed if place == 25 && answer.0 == 14 => return (0, 0),
+        Fault::Unaligned if place == 1 && answer.0 == 20 => return (20, answer.1 + 1),
+        Fault::BetweenBlocks if place == 1 && answer.0 == 20 => return (20, answer.1 + 2),
         Fault::BadHeadPassed if place == 2 && answer.0 == 14 => return (0, 0),
         Fault::TagNotCounted if place == 22 && !refused => clear_tags(control),
         _ => (),
