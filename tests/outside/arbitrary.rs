@@ -2,6 +2,7 @@
 //! that is refused.
 
 use crate::checks::{Checks, Parted};
+use crate::classes::CLASSES;
 use crate::coverage::PerPlace;
 use crate::damage::{self, Bytes};
 use crate::expected;
@@ -11,6 +12,7 @@ use crate::library;
 use crate::memory::{Memory, Side};
 use crate::pool::{Answer, Request};
 use crate::random::Random;
+use std::collections::BTreeMap;
 
 const CODE: &str = "arbitrary: the answer is one of the paper's codes for the call";
 const DUE: &str = "arbitrary: the tests are made in the paper's order on the values stored";
@@ -34,6 +36,8 @@ pub struct Counts {
     codes: [[u64; 21]; 4],
     fourteen_at: PerPlace,
     went_on_at: PerPlace,
+    /// The classes of the requests that were stepped.
+    classes: BTreeMap<u64, u64>,
 }
 
 impl Counts {
@@ -59,6 +63,10 @@ impl Counts {
         ];
         let all = (0..4).all(|kind| due[kind].iter().all(|&code| self.codes[kind][code] > 0));
         let _ = checks.hold("arbitrary: each code of each kind of call occurs", all, || "see the counts".to_string());
+        let last = CLASSES as u64 - 1;
+        let edges = [last, last + 1, last + 2, last + 3, 255].iter().all(|class| self.classes.contains_key(class));
+        let _ = checks
+            .hold("arbitrary: steps of the last class and of some past it", edges, || format!("{:?}", self.classes));
         let deep = (1..=33).all(|place| self.went_on_at.0[place] > 0);
         let _ = checks.hold("arbitrary: steps are done at each place", deep, || "see the counts".to_string());
     }
@@ -196,7 +204,11 @@ impl<'a> Trial<'a> {
             Request::Step { .. } => 3,
         };
         self.counts.codes[kind][answer.0 as usize] += 1;
-        if kind == 3 {
+        if let Request::Step { task } = request {
+            if place != 0 && !(1..=11).contains(&answer.0) {
+                let class = layout::get(&self.before.control, layout::TASK_CLASS, task as usize);
+                *self.counts.classes.entry(class).or_default() += 1;
+            }
             match answer.0 {
                 14 => self.counts.fourteen_at.0[place] += 1,
                 0 | 12 | 13 | 20 => self.counts.went_on_at.0[place] += 1,

@@ -1,6 +1,7 @@
 //! The tests of a call in any memory, in their order, read by the documents of the layout: "Start tests 1, 2, 3. Other
 //! calls test 1, 4, 2, 5, then 6 or 7, then 8, 9 or 10, 11. 14 comes where the bad value is read, before any write."
-//! A start and a beginning are determined by them; of a step only the refusals before its place is looked at.
+//! A start and a beginning are determined by them; of a step only the refusals before its place is looked at, and the
+//! class, which every step reads.
 
 use crate::classes::{is_first, CLASSES, UNITS_PER_REGION};
 use crate::damage::Bytes;
@@ -20,7 +21,8 @@ pub fn code(bytes: &Bytes, request: Request) -> Option<u64> {
     let place = get(&bytes.control, TASK_PLACE, task as usize);
     match request {
         _ if place > 33 => Some(14),
-        Request::Step { .. } => (place == 0).then_some(7),
+        Request::Step { .. } if place == 0 => Some(7),
+        Request::Step { .. } => (get(&bytes.control, TASK_CLASS, task as usize) >= CLASSES as u64).then_some(14),
         _ if place != 0 => Some(6),
         Request::Allocate { size: 0, .. } => Some(8),
         Request::Allocate { size, .. } => Some(if size > 256 { 9 } else { 0 }),

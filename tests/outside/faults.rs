@@ -70,6 +70,7 @@ faults! {
     FourteenInRun "library-14-in-run" "library: the anchor's read of a free answers 14",
     ValueUnderWay "library-value-under-way" "library: a step under way answers a value",
     BadLinkPassed "library-bad-link" "library: a bad link of a taken chain is not answered by 14",
+    BadClassPassed "library-bad-class" "library: a step of the first class past the table is not answered by 14",
     BadHeadPassed "library-bad-head" "library: a bad head word is not answered by 14",
     TagNotCounted "library-tags-cleared" "library: the push of a partial descriptor sets all tags to 0",
 }

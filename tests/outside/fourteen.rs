@@ -1,5 +1,6 @@
-//! The paper's sentence on 14, clause by clause: in a state in the middle of a run one value that the next step has to
-//! read is made bad, and the step has to answer 14 and leave every byte as it is.
+//! The paper's sentence on 14, clause by clause: in a state in the middle of a run one value that the next call has to
+//! read is made bad, and the call has to answer 14 and leave every byte as it is. The call is a step of a task, or the
+//! beginning of a free by one that is idle. Beside them stand the last values that are in range, which are not 14.
 //!
 //! "14 a value read for this call is outside its field's range, or names none, or no block of the class, where one is
 //! due; a count would pass n; an anchor to take a chain from is FULL, or PARTIAL with count 0; or a link is outside 0
@@ -10,7 +11,7 @@ use crate::coverage::Coverage;
 use crate::damage::Bytes;
 use crate::driver::Driver;
 use crate::faults::Fault;
-use crate::fourteen_cases::{Case, CASES};
+use crate::fourteen_cases::{held, Case, CASES};
 use crate::library;
 use crate::memory::{Memory, Side};
 use crate::pool::Request;
@@ -53,23 +54,29 @@ fn try_all(driver: &Driver, checks: &mut Checks, tried: &mut Tried) {
         let place = driver.pool.tasks[task].place.number();
         for case in CASES.iter().filter(|case| case.places.contains(&place)) {
             let times = tried.entry((case.name, place)).or_default();
-            let mut damaged = bytes.clone();
-            if *times < AT_MOST && (case.change)(&mut damaged, task, place) {
-                *times += 1;
-                expect_14(case, &damaged, task, place, checks);
+            if *times < AT_MOST {
+                *times += u64::from(try_one(case, bytes.clone(), task, place, checks));
             }
         }
     }
 }
 
-fn expect_14(case: &Case, bytes: &Bytes, task: usize, place: usize, checks: &mut Checks) {
+/// Whether the state has the value of the case. Then it is changed, and the call is made.
+fn try_one(case: &Case, mut bytes: Bytes, task: usize, place: usize, checks: &mut Checks) -> bool {
+    if !(case.change)(&mut bytes, task, place) {
+        return false;
+    }
+    let task = task as u64;
+    let unit = if place == 0 { held(&bytes) } else { None };
+    let request = unit.map_or(Request::Step { task }, |unit| Request::Free { task, unit });
     let mut control = Memory::with(&bytes.control, Side::EndsAtGuard);
     let mut area = Memory::with(&bytes.area, Side::EndsAtGuard);
-    let answer = library::call(&mut control, &mut area, Request::Step { task: task as u64 });
-    let name = format!("14: {}", case.name);
-    let _ = checks.hold(&name, answer == (14, 0), || format!("at place {place}: {answer:?}"));
+    let answer = library::call(&mut control, &mut area, request);
+    let name = format!("{}: {}", if case.bad { "14" } else { "not 14" }, case.name);
+    let _ = checks.hold(&name, (answer == (14, 0)) == case.bad, || format!("at place {place}: {answer:?}"));
     let same = control.bytes() == bytes.control && area.bytes() == bytes.area;
     let _ = checks.hold("14: no byte changes", same || answer.0 != 14, || format!("{} at place {place}", case.name));
+    true
 }
 
 /// Each case has to have been tried at each of its places.

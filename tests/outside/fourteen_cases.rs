@@ -1,6 +1,7 @@
-//! The bad values, one at a time. Each change is made where the step list has the value read at the place named.
+//! The bad values, one at a time, and the last good ones of a table. Each change is made where the step list has the
+//! value read at the place named.
 
-use crate::classes::{per_region, tail, units, CLASSES, UNITS_PER_REGION};
+use crate::classes::{per_region, tail, units, CLASSES, UNIT, UNITS_PER_REGION};
 use crate::damage::Bytes;
 use crate::layout::*;
 use crate::lists::{SPARE_DESCRIPTORS, SPARE_REGIONS};
@@ -9,27 +10,49 @@ use crate::pool;
 pub struct Case {
     pub name: &'static str,
     pub places: &'static [usize],
-    /// Makes the value bad for this task at this place; false where the state has no such value.
+    /// Changes the value for this task at this place; false where the state has no such value.
     pub change: fn(&mut Bytes, usize, usize) -> bool,
+    /// Whether 14 is due; if not, any other code is.
+    pub bad: bool,
 }
 
 const fn case(name: &'static str, places: &'static [usize], change: fn(&mut Bytes, usize, usize) -> bool) -> Case {
-    Case { name, places, change }
+    Case { name, places, change, bad: true }
+}
+
+const fn in_range(name: &'static str, places: &'static [usize], change: fn(&mut Bytes, usize, usize) -> bool) -> Case {
+    Case { name, places, change, bad: false }
 }
 
 const HEAD_READS: &[usize] = &[2, 5, 8, 11, 14, 17, 20];
 const EXCHANGES: &[usize] = &[4, 7, 10, 13, 16, 19, 22];
+/// A free begins at the place of an idle task.
+const FREE: &[usize] = &[0];
 const ALL: &[usize] = &[
     1, 2, 3, 4, 5, 6, 7, 8, 9, 10, 11, 12, 13, 14, 15, 16, 17, 18, 19, 20, 21, 22, 23, 24, 25, 26, 27, 28, 29, 30, 31,
     32, 33,
 ];
+
+/// The first class past the table.
+const PAST: u64 = CLASSES as u64;
 
 pub const CASES: &[Case] = &[
     case("the started number of tasks is 9", ALL, |bytes, _, _| put(bytes, TASKS, 0, 9)),
     case("the started number of regions is 0", ALL, |bytes, _, _| put(bytes, REGIONS, 0, 0)),
     case("the started number of regions is 17", ALL, |bytes, _, _| put(bytes, REGIONS, 0, pool::REGIONS as u64 + 1)),
     case("a place past the step list", ALL, |bytes, task, _| put(bytes, TASK_PLACE, task, 34)),
-    case("a class past the table", &[1, 2, 28, 29], |bytes, task, _| put(bytes, TASK_CLASS, task, CLASSES as u64)),
+    in_range("the last class of the table", &[1, 2], task_class::<{ PAST - 1 }>),
+    case("the first class past the table", ALL, task_class::<PAST>),
+    case("the second class past the table", ALL, task_class::<{ PAST + 1 }>),
+    case("the third class past the table", ALL, task_class::<{ PAST + 2 }>),
+    case("the fourth class past the table", ALL, task_class::<{ PAST + 3 }>),
+    case("a class of 255", ALL, task_class::<255>),
+    in_range("a descriptor of the last class of the table", FREE, descriptor_class::<{ PAST - 1 }>),
+    case("a descriptor of the first class past the table", FREE, descriptor_class::<PAST>),
+    case("a descriptor of the second class past the table", FREE, descriptor_class::<{ PAST + 1 }>),
+    case("a descriptor of the third class past the table", FREE, descriptor_class::<{ PAST + 2 }>),
+    case("a descriptor of the fourth class past the table", FREE, descriptor_class::<{ PAST + 3 }>),
+    case("a descriptor of class 255", FREE, descriptor_class::<255>),
     case("a head's item that there is not", HEAD_READS, |bytes, task, place| bad_head(bytes, task, place)),
     case("a head's item that there is not, at the exchange", EXCHANGES, |bytes, task, place| {
         bad_head(bytes, task, place)
@@ -106,6 +129,23 @@ pub const CASES: &[Case] = &[
 fn put(bytes: &mut Bytes, column: Column, index: usize, value: u64) -> bool {
     set(&mut bytes.control, column, index, value);
     true
+}
+
+/// Every step reads the class of its request.
+fn task_class<const CLASS: u64>(bytes: &mut Bytes, task: usize, _: usize) -> bool {
+    put(bytes, TASK_CLASS, task, CLASS)
+}
+
+/// The class of the descriptor of a block in a user's hands, which the beginning of its free reads.
+fn descriptor_class<const CLASS: u64>(bytes: &mut Bytes, _: usize, _: usize) -> bool {
+    let entry = held(bytes).map(|unit| get(&bytes.control, MAP, (unit / UNITS_PER_REGION) as usize) as usize);
+    entry.is_some_and(|entry| entry > 0 && put(bytes, DESCRIPTOR_CLASS, entry - 1, CLASS))
+}
+
+/// The lowest block in a user's hands.
+pub fn held(bytes: &Bytes) -> Option<u64> {
+    let view = View { control: &bytes.control, area: &bytes.area };
+    (0..bytes.area.len() as u64 / UNIT).find(|&unit| view.mark(unit as usize))
 }
 
 fn class(bytes: &Bytes, task: usize) -> usize {

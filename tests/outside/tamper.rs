@@ -4,7 +4,7 @@
 
 use crate::classes::{CLASSES, UNIT};
 use crate::faults::Fault;
-use crate::layout::{self, cache_index, View, TASK_PLACE, TOP};
+use crate::layout::{self, cache_index, View, TASK_CLASS, TASK_PLACE, TOP};
 use crate::memory::Memory;
 use crate::pool::{Answer, Request, TASKS};
 use std::sync::OnceLock;
@@ -14,8 +14,9 @@ pub static TAMPERING: OnceLock<Fault> = OnceLock::new();
 
 /// What a fault needs to know of the state before the call.
 pub struct Before {
-    /// The place of the task that steps.
+    /// The place and the class of the task that steps.
     place: u64,
+    class: u64,
     /// A byte of control that a start has to write.
     byte: u8,
 }
@@ -27,7 +28,7 @@ const FIRST_CARVED: usize = cache_index(0, CLASSES - 1);
 
 /// The call's answer and memories as the broken library would leave them.
 pub fn after(control: &mut Memory, area: &mut Memory, request: Request, before: Before, answer: Answer) -> Answer {
-    let Before { place, byte } = before;
+    let Before { place, class, byte } = before;
     let Some(fault) = TAMPERING.get() else { return answer };
     let refused = matches!(answer.0, 1..=11 | 14);
     let start = matches!(request, Request::Start { .. });
@@ -50,6 +51,7 @@ pub fn after(control: &mut Memory, area: &mut Memory, request: Request, before: 
         Fault::BadLinkPassed if place == 25 && answer.0 == 14 => return (0, 0),
         Fault::Unaligned if place == 1 && answer.0 == 20 => return (20, answer.1 + 1),
         Fault::BetweenBlocks if place == 1 && answer.0 == 20 => return (20, answer.1 + 2),
+        Fault::BadClassPassed if class == CLASSES as u64 && answer.0 == 14 => return (0, 0),
         Fault::BadHeadPassed if place == 2 && answer.0 == 14 => return (0, 0),
         Fault::TagNotCounted if place == 22 && !refused => clear_tags(control),
         _ => (),
@@ -58,13 +60,14 @@ pub fn after(control: &mut Memory, area: &mut Memory, request: Request, before: 
 }
 
 pub fn before(control: &Memory, request: Request) -> Before {
-    let place = match request {
+    let (place, class) = match request {
         Request::Step { task } if task < TASKS as u64 && control.len() == 8192 => {
-            layout::get(control.bytes(), TASK_PLACE, task as usize)
+            let field = |column| layout::get(control.bytes(), column, task as usize);
+            (field(TASK_PLACE), field(TASK_CLASS))
         }
-        _ => 0,
+        _ => (0, 0),
     };
-    Before { place, byte: control.bytes().get(SKIPPED).copied().unwrap_or(0) }
+    Before { place, class, byte: control.bytes().get(SKIPPED).copied().unwrap_or(0) }
 }
 
 fn flip(memory: &mut Memory, place: usize) {
