@@ -266,6 +266,7 @@ impl<'a> Driver<'a> {
         self.checks.agree("structure: marks", structure::marks(pool, &view))?;
         self.checks.agree("structure: each block's holder, once", structure::holders(pool, &view))?;
         self.checks.agree("structure: bytes of control outside the fields are zero", structure::gaps(&view))?;
+        self.checks.agree("structure: cache entries of no class are empty", structure::entries_of_no_class(&view))?;
         self.checks.agree("structure: tags", structure::tags(pool, &view, &self.tags_at_start))
     }
 }

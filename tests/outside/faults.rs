@@ -61,6 +61,8 @@ faults! {
     StartSkipsByte "library-start-byte" "library: a start leaves a byte of control that it should not",
     BeginningWritesArea "library-beginning-area" "library: a beginning changes a byte of the area",
     BeginningWritesOthers "library-beginning-others" "library: a beginning changes another task's cache",
+    NoClassWritten "library-no-class-written" "library: a beginning changes a cache entry that no class has",
+    NoClassRead "library-no-class-read" "library: a step reads a cache entry that no class has",
     Unaligned "library-unaligned" "library: a finished allocation answers the unit behind the block's first",
     BetweenBlocks "library-between-blocks" "library: a finished allocation answers the block's first unit plus 2",
     StepTouchesHeld "library-held-block" "library: a step changes a byte of a block in a user's hands",

@@ -28,6 +28,7 @@ mod structure;
 mod styles;
 mod table;
 mod tamper;
+mod unread;
 
 use checks::{Checks, Parted};
 use coverage::Coverage;
@@ -118,6 +119,7 @@ fn memories(
     tried: &mut fourteen::Tried,
 ) {
     checks.context = format!("round {round}, arbitrary memories");
+    unread::round(options.seed.wrapping_add(round), checks);
     arbitrary::round(options.seed.wrapping_add(round << 32), checks, arbitrary);
     fourteen::round(options.seed.wrapping_add(round), checks, tried);
 }

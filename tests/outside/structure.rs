@@ -2,9 +2,10 @@
 //! class, and, for these, the chain in order and each block's holder."
 
 use crate::classes::{per_region, units, CLASSES, REGION, UNITS_PER_REGION};
-use crate::layout::{outside_fields, View, DESCRIPTOR_CLASS, MAP, REGIONS, TASKS, TASK_PLACE};
+use crate::layout::{cache_index, outside_fields, View, CACHE_STRIDE, COUNT, TOP};
+use crate::layout::{DESCRIPTOR_CLASS, MAP, REGIONS, TASKS, TASK_PLACE};
 use crate::lists::LISTS;
-use crate::pool::{Pool, Under, ALL_UNITS};
+use crate::pool::{self, Pool, Under, ALL_UNITS};
 use std::sync::LazyLock;
 
 /// A block's holder: "a user's hands, a task or its region's chain, and it stands there once".
@@ -123,6 +124,20 @@ pub fn gaps(view: &View) -> Result<(), String> {
         Some(byte) => Err(format!("byte {byte} of control is {}", view.control[byte])),
         None => Ok(()),
     }
+}
+
+/// The entries of the cache columns that no class has are as a start left them: an empty cache.
+pub fn entries_of_no_class(view: &View) -> Result<(), String> {
+    for task in 0..pool::TASKS {
+        for class in CLASSES..CACHE_STRIDE {
+            let index = cache_index(task, class);
+            let (top, count) = (view.get(TOP, index), view.get(COUNT, index));
+            if (top, count) != (ALL_UNITS as u64, 0) {
+                return Err(format!("entry {index}: top {top}, count {count}"));
+            }
+        }
+    }
+    Ok(())
 }
 
 /// "One mark per unit is set while the block starting there is in a user's hands."

@@ -6,7 +6,7 @@ use crate::classes::{CLASSES, UNIT};
 use crate::faults::Fault;
 use crate::layout::{self, cache_index, View, TASK_CLASS, TASK_PLACE, TOP};
 use crate::memory::Memory;
-use crate::pool::{Answer, Request, TASKS};
+use crate::pool::{Answer, Request, ALL_UNITS, TASKS};
 use std::sync::OnceLock;
 
 /// Set once, where the program is asked for a fault.
@@ -22,8 +22,10 @@ pub struct Before {
 }
 
 const SKIPPED: usize = 8000;
-/// The cache of the last task and the last class, and the cache that the first written schedule carves into.
+/// The cache of the last task and the last class, the entry behind it, which no class has, and the cache that the first
+/// written schedule carves into.
 const LAST_CACHE: usize = cache_index(TASKS - 1, CLASSES - 1);
+const ENTRY_OF_NO_CLASS: usize = LAST_CACHE + 1;
 const FIRST_CARVED: usize = cache_index(0, CLASSES - 1);
 
 /// The call's answer and memories as the broken library would leave them.
@@ -40,6 +42,8 @@ pub fn after(control: &mut Memory, area: &mut Memory, request: Request, before: 
         Fault::StartSkipsByte if start && !refused => control.bytes_mut()[SKIPPED] = byte,
         Fault::BeginningWritesArea if !start && !step && !refused => flip(area, 6),
         Fault::BeginningWritesOthers if !start && !step && !refused => flip_top(control, LAST_CACHE),
+        Fault::NoClassWritten if !start && !step && !refused => flip_top(control, ENTRY_OF_NO_CLASS),
+        Fault::NoClassRead if place > 0 && entry_of_no_class(control) != ALL_UNITS as u64 => return (14, 0),
         Fault::StepTouchesHeld if place == 2 && !refused => flip_held(control, area),
         Fault::StepWritesTwoLinks if place == 27 => flip(area, area.len() / 2 + 1),
         Fault::LinkOfEightBytes if place == 27 => {
@@ -78,6 +82,10 @@ fn flip(memory: &mut Memory, place: usize) {
 
 fn flip_top(control: &mut Memory, cache: usize) {
     flip(control, TOP.first + TOP.width * cache)
+}
+
+fn entry_of_no_class(control: &Memory) -> u64 {
+    layout::get(control.bytes(), TOP, ENTRY_OF_NO_CLASS)
 }
 
 /// Changes a byte of a block in a user's hands, where a link would be.
