@@ -79,18 +79,22 @@ fn edge(random: &mut Random) -> u64 {
     const EDGES: [u64; 18] = [0, 1, 2, 3, 7, 8, 16, 17, 33, 34, 63, 64, 65, 512, 513, 8191, 8192, u64::MAX];
     match random.below(5) {
         0 => random.pick(&EDGES),
-        // The last class of the table and the first three past it.
-        1 => CLASSES as u64 - 1 + random.below(4),
+        1 => class_edge(random),
         2 => random.below(80),
         3 => random.below(9000),
         _ => random.next(),
     }
 }
 
+/// The last class of the table or one of the first three past it.
+fn class_edge(random: &mut Random) -> u64 {
+    CLASSES as u64 - 1 + random.below(4)
+}
+
 /// Changes one or several bytes or fields.
 pub fn damage(bytes: &mut Bytes, random: &mut Random) {
     for _ in 0..random.pick(&[1, 1, 1, 2, 3, 8, 30]) {
-        match random.below(5) {
+        match random.below(6) {
             0 => bytes.control[random.below(6016) as usize] = random.next() as u8,
             1 => {
                 let place = random.below(bytes.area.len() as u64) as usize;
@@ -98,6 +102,7 @@ pub fn damage(bytes: &mut Bytes, random: &mut Random) {
             }
             2 => damage_field(bytes, &SHARED_COLUMNS, random),
             3 => damage_field(bytes, &OF_A_TASK, random),
+            4 => damage_class(bytes, random),
             _ => damage_link(bytes, random),
         }
     }
@@ -115,6 +120,18 @@ fn damage_field(bytes: &mut Bytes, columns: &[Column], random: &mut Random) {
         _ => get(&bytes.control, column, other),
     };
     set(&mut bytes.control, column, index, value);
+}
+
+/// Changes the class of a task, or that of the descriptor of a region.
+fn damage_class(bytes: &mut Bytes, random: &mut Random) {
+    let class = class_edge(random);
+    let region = random.below(pool::REGIONS as u64) as usize;
+    match get(&bytes.control, MAP, region) as usize {
+        entry @ 1..=pool::DESCRIPTORS if random.one_in(2) => {
+            set(&mut bytes.control, DESCRIPTOR_CLASS, entry - 1, class)
+        }
+        _ => set(&mut bytes.control, TASK_CLASS, random.below(pool::TASKS as u64) as usize, class),
+    }
 }
 
 fn damage_link(bytes: &mut Bytes, random: &mut Random) {
