@@ -1,7 +1,7 @@
 //! The table of classes, computed from the paper's series and not copied from its table.
 //!
-//! 002's series is "a power of two, and that plus a quarter, a half, three quarters". 8 is a class, and "classes above 8
-//! are those members of the series that are multiples of 16, thirteen classes in all".
+//! 002's series is "a power of two, and that plus a quarter, a half, three quarters". 8 is a class, and "classes above
+//! 8 are those members of the series that are multiples of 16, thirteen classes in all".
 
 use std::sync::LazyLock;
 

@@ -1,5 +1,5 @@
-//! What no call but a start reads or writes: the bytes of control that belong to no field, and the cache entries that no
-//! class has. With other bytes there every call answers the same and changes the same.
+//! What no call but a start reads or writes: the bytes of control that belong to no field, and the cache entries that
+//! no class has. With other bytes there every call answers the same and changes the same.
 
 use crate::checks::{Checks, Parted};
 use crate::classes::CLASSES;
