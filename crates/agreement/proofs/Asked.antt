@@ -1,7 +1,7 @@
 -- A task that is at work is at what it has asked for last, after every event.
 use mathlib.Core.Path.{_≡_, refl, sym, ap, subst, subst⁻¹}
 use mathlib.Core.Bool.{cond}
-use mathlib.Core.List.{List}
+use mathlib.Core.List.{List, _∷_}
 use Prim.Native.Nat.{ℕ, zero, suc, _≤_}
 use native.Mathlib.Omega.{arith}
 use native.Mathlib.Decide.{ℕ-discrete, decLt}
@@ -21,10 +21,11 @@ use Rattle.plain.specs.Calls.{Pool, Start, Lengths, Call, start, allocate, free
 use Rattle.plain.specs.Calls.{freeEntry, whenIdle, tested, unstarted, plainCall, StartArea, StartTasks}
 use Rattle.plain.proofs.CallTests.{either, by-tests, start-numbers, start-passed, by-start-tests}
 use Rattle.plain.proofs.Requests.{own-request}
-use Rattle.stepped.specs.Calls.{lengths}
+use Rattle.stepped.specs.Calls.{Lent, lengths}
 use Rattle.agreement.specs.Events.{Event, call, write, whole}
-use Rattle.agreement.specs.Reached.{starting}
-use Rattle.agreement.specs.Asked.{Asked, for-bytes, for-free, askedBy, askedIn, AsAsked, AtWhatAsked, AllAsAsked}
+use Rattle.agreement.specs.Reached.{History, starting}
+use Rattle.agreement.specs.Asked.{Asked, nothing-yet, for-bytes, for-free, askedBy, askedIn, asked}
+use Rattle.agreement.specs.AtWhatAsked.{AsAsked, AtWhatAsked, AllAtWhatAsked}
 
 -- a refused call asks for nothing
 refused-asks : (k : Call) (t n : ℕ) (a : Asked) → 1 ≤ n → askedBy t k n a ≡ a
@@ -39,7 +40,7 @@ still a w idle h k = tt
 still a w (working x) h k = subst⁻¹ (AsAsked a) k h
 
 -- the task u begins: it has now asked for b, and is at that
-begins : (a : ℕ → Asked) (m : Mem) → AllAsAsked a m → (u : ℕ) (b : Asked) (T : Task) → AtWhatAsked b (T .place)
+begins : (a : ℕ → Asked) (m : Mem) → AllAtWhatAsked a m → (u : ℕ) (b : Asked) (T : Task) → AtWhatAsked b (T .place)
     → (t : ℕ) → AtWhatAsked (cond (eqb u t) b (a t)) (update (m .task) u T t .place)
 begins a m A u b T h =
     update-all (λ t U. AtWhatAsked (cond (eqb u t) b (a t)) (U .place)) (m .task) u T (rw (eq-eqb u u refl) h)
@@ -51,7 +52,7 @@ unfolding stepOf
 idle-stays u m e = ap (λ (p : Place). whenWorking p (λ w. stepAt u (m .task u .cache) w m) m .0) e
 
 -- a step asks for nothing, and its task goes on
-step-asked : (a : ℕ → Asked) (m : Mem) → AllAsAsked a m → (u : ℕ) → AllAsAsked a (stepOf u m .0)
+step-asked : (a : ℕ → Asked) (m : Mem) → AllAtWhatAsked a m → (u : ℕ) → AllAtWhatAsked a (stepOf u m .0)
 step-asked a m A u t = by (m .task u .place) refl
   where
     by : (p : Place) → m .task u .place ≡ p → AtWhatAsked (a t) (stepOf u m .0 .task t .place)
@@ -63,7 +64,7 @@ step-asked a m A u t = by (m .task u .place) refl
           | no n ↦ rw (O .others t n) (A t)
         ]
 
-module _ (k : Call) (s : Pool) (a : ℕ → Asked) (A : AllAsAsked a (s .mem)) where
+module _ (k : Call) (s : Pool) (a : ℕ → Asked) (A : AllAtWhatAsked a (s .mem)) where
   -- what is shown of a call that leaves the memory of y and gives its answer
   abbrev Shown : Result → Type 0
   Shown y = (t : ℕ) → AtWhatAsked (askedBy t k (y .1 .code) (a t)) (y .0 .task t .place)
@@ -83,7 +84,7 @@ module _ (k : Call) (s : Pool) (a : ℕ → Asked) (A : AllAsAsked a (s .mem)) w
   when-idle (working w) x h = refuses 6 (omega arith)
 
 -- the beginning of a free, by the map's entry of the unit's region
-free-asked : (s : Pool) (a : ℕ → Asked) (A : AllAsAsked a (s .mem)) (u unit z : ℕ)
+free-asked : (s : Pool) (a : ℕ → Asked) (A : AllAtWhatAsked a (s .mem)) (u unit z : ℕ)
     → Shown (free u unit) s a A (freeEntry z u unit (s .mem))
 free-asked s a A u unit zero = refuses (free u unit) s a A 10 (omega arith)
 free-asked s a A u unit (suc d) =
@@ -96,7 +97,7 @@ free-asked s a A u unit (suc d) =
     (λ e. refuses k s a A 10 (omega arith))
 
 -- one call of the plain pool
-call-asked : (k : Call) (lent : Lengths) (s : Pool) (a : ℕ → Asked) (A : AllAsAsked a (s .mem))
+call-asked : (k : Call) (lent : Lengths) (s : Pool) (a : ℕ → Asked) (A : AllAtWhatAsked a (s .mem))
     → ShownOf k s a A (plainCall k lent s)
 unfolding plainCall startMem
 call-asked (start b) lent s a A =
@@ -117,20 +118,25 @@ call-asked (free u unit) lent s a A =
 call-asked (step u) lent s a A = when-tested (step u) s a A u lent (stepOf u (s .mem)) (step-asked a (s .mem) A u)
 
 -- one event of the whole run
-pub event-asked : (e : Event) (s : Pool) (a : ℕ → Asked) → AllAsAsked a (s .mem)
-    → AllAsAsked (λ t. askedIn t e (whole e s .1 .code) (a t)) (whole e s .0 .mem)
+pub event-asked : (e : Event) (s : Pool) (a : ℕ → Asked) → AllAtWhatAsked a (s .mem)
+    → AllAtWhatAsked (λ t. askedIn t e (whole e s .1 .code) (a t)) (whole e s .0 .mem)
 event-asked (call k lent) s a A = call-asked k (lengths lent) s a A
 event-asked (write at b) s a A = A
 
 -- nothing is asked for at first
-pub unstarted-asked : (a : ℕ → Asked) → AllAsAsked a (unstarted .mem)
+pub unstarted-asked : (a : ℕ → Asked) → AllAtWhatAsked a (unstarted .mem)
 unfolding unstarted startMem
 unstarted-asked a t = tt
 
 -- nothing is under way after an accepted start
 pub started-asked : (b : Start) (area : List ℕ) (s : Pool) (a : ℕ → Asked) → StartArea (length area)
-    → StartTasks (b .tasks) → AllAsAsked a (whole (starting b area) s .0 .mem)
+    → StartTasks (b .tasks) → AllAtWhatAsked a (whole (starting b area) s .0 .mem)
 unfolding plainCall startMem
 started-asked b area s a x y t =
     subst⁻¹ (λ (z : Pool × Answer). AtWhatAsked (a t) (z .0 .mem .task t .place))
     (start-passed s (record { control-is = refl; area = x; tasks = y })) tt
+
+-- "A start may come at any time and begins a new run": nothing is asked for behind one that is accepted
+pub start-forgets : (t : ℕ) (b : Start) (lent : Lent) (s : Pool) (x : Answer) (h : History) → x .code ≡ 0
+    → asked t (record { event = call (start b) lent; before = s; answer = x } ∷ h) ≡ nothing-yet
+start-forgets t b lent s x h e = rw (eq-eqb (x .code) 0 e)

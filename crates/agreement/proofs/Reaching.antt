@@ -1,4 +1,4 @@
--- The one induction over runs: whatever a run reaches is tied.
+-- The one induction over runs: whatever a run reaches is tied, and each task is at what it has asked for.
 use mathlib.Core.Path.{sym, subst}
 use mathlib.Core.List.{List, [], _∷_}
 use native.Mathlib.Omega.{arith}
@@ -10,7 +10,8 @@ use Rattle.agreement.specs.Events.{Event, stepped, whole, Premise, Premi
 use Rattle.agreement.specs.Tied.{Tied, FoundStates}
 use Rattle.agreement.specs.Reached.{History, happened, Reached, from-unstarted, from-start, by-event, Along}
 use Rattle.agreement.specs.Reached.{Wherever}
-use Rattle.agreement.specs.Asked.{asked, askedIn, AllAsAsked}
+use Rattle.agreement.specs.Asked.{asked, askedIn}
+use Rattle.agreement.specs.AtWhatAsked.{AllAtWhatAsked}
 use Rattle.agreement.proofs.Unstarted.{unstarted-tied}
 use Rattle.agreement.proofs.Starting.{accepted-start}
 use Rattle.agreement.proofs.FoundStates.{accepted-found, event-found}
@@ -22,7 +23,7 @@ use Rattle.agreement.proofs.Asked.{unstarted-asked, started-asked, even
 record HoldsThere (h : History) (s₁ : Memories) (s : Pool) : Type 0 where
   tied : Tied s₁ s
   found : FoundStates (s₁ .control)
-  asks : AllAsAsked (λ t. asked t h) (s .mem)
+  asks : AllAtWhatAsked (λ t. asked t h) (s .mem)
 
 reached : {h : History} {s₁ : Memories} {s : Pool} → Reached h s₁ s → HoldsThere h s₁ s
 unfolding Plain.plainCall
@@ -43,7 +44,7 @@ reached (by-event {h} {s₁} {s} R e p) =
       tied = A .tied;
       found = event-found e s₁ (H .tied .length) (H .tied .bytes) (H .found);
       asks =
-          subst (λ (x : Answer). AllAsAsked (λ t. askedIn t e (x .code) (asked t h)) (whole e s .0 .mem))
+          subst (λ (x : Answer). AllAtWhatAsked (λ t. askedIn t e (x .code) (asked t h)) (whole e s .0 .mem))
           (sym (A .says)) (event-asked e s (λ t. asked t h) (H .asks));
     }
 
@@ -53,7 +54,7 @@ reached-tied R = reached R .tied
 pub reached-found : {h : History} {s₁ : Memories} {s : Pool} → Reached h s₁ s → FoundStates (s₁ .control)
 reached-found R = reached R .found
 
-pub reached-asked : {h : History} {s₁ : Memories} {s : Pool} → Reached h s₁ s → AllAsAsked (λ t. asked t h) (s .mem)
+pub reached-asked : {h : History} {s₁ : Memories} {s : Pool} → Reached h s₁ s → AllAtWhatAsked (λ t. asked t h) (s .mem)
 reached-asked R = reached R .asks
 
 -- What follows of each event from something that every event keeps holds along every list of events that meets the

@@ -1,5 +1,5 @@
 -- The tests of the calls, and the ways in which a step can end, whatever the two memories hold.
-use Prim.Native.Nat.{ℕ, _*_}
+use Prim.Native.Nat.{ℕ, _*_, _<_}
 use mathlib.Core.Path.{_≡_, refl, sym, subst, _∙_}
 use mathlib.Core.Logic.{_⊎_, ⊎-elim, inl, inr}
 use mathlib.Core.Bool.{Bool, true, false, cond, _||_, false≢true}
@@ -7,27 +7,27 @@ use mathlib.Core.List.{List, [], _∷_, _++_}
 use native.Mathlib.Omega.{arith}
 use borrow.Author.Tests.{eq-eqb, le-leb, eqb-true, eqb-false, leb-true, leb-false, ltb-true, ltb-false}
 use lib.Dec.{eqb, leb, ltb}
-use Rattle.limits.specs.Limits.{CONTROL-BYTES, REGIONS, REGION-BYTES, TASKS}
+use Rattle.limits.specs.Limits.{CONTROL-BYTES, REGIONS, REGION-BYTES, TASKS, CLASSES}
 use Rattle.fields.specs.Columns.{View, Write, _:=_, assign, assigned}
 use Rattle.links.specs.Link.{LinkWrite}
 use Rattle.plain.specs.Moves.{Decided}
 use Rattle.plain.specs.Calls.{Start, Lengths, StartTested, StartFails, start-control, start-area, start-tasks}
 use Rattle.plain.proofs.CallTests.{start-tested}
-use Rattle.control.specs.Layout.{TaskPlace, Tasks, Regions}
-use Rattle.control.specs.Places.{IDLE, F1}
+use Rattle.control.specs.Layout.{CacheTop, TaskPlace, TaskClass, Tasks, Regions}
+use Rattle.control.specs.Places.{IDLE, A1, F1}
 use Rattle.control.specs.declared.answer.Answer.{Answer}
 use Rattle.control.specs.declared.answer.Answer.the-variants.{Accepted, Allocated, Freed, NoDescriptor, NoRegion}
 use Rattle.control.specs.declared.answer.Answer.the-variants.{Refused}
 use Rattle.control.specs.declared.moves.Pop.the-variants.{Spare, Region}
 use Rattle.control.specs.declared.moves.Push.the-variants.{Back}
 use Rattle.stepped.specs.Outcome.{Outcome, refuse, bad, accept, over, Memories, Effect, effect}
-use Rattle.stepped.specs.Ranges.{oneTo}
+use Rattle.stepped.specs.Ranges.{oneTo, isBlock}
 use Rattle.stepped.specs.Calls as Calls
 use Rattle.stepped.specs.Calls.{Tested, HasTasks, HasRegions, Lent, lengths, startEffect}
 use Rattle.stepped.specs.Calls.{FirstFails, control-fails, tasks-fail, not-started, regions-fail, area-fails}
 use Rattle.stepped.specs.Calls.{task-fails}
 use Rattle.agreement.specs.Ends.{startRefusals, oneOf, testRefusals, placeRefusals, stepRefusals, Begins}
-use Rattle.agreement.specs.Ends.{FindsEmpty, WinsPush, HandsOut, InPush}
+use Rattle.agreement.specs.Ends.{FindsEmpty, WinsPush, InPush}
 use Rattle.stepped.proofs.CallTests.{one-to, start-failed, start-passed}
 use Rattle.agreement.proofs.BothPass.{both-true}
 
@@ -128,10 +128,18 @@ among-start-tests (start-tasks c a h) = refl
 
 -- ---- the ways out of a step
 
+-- "If the cache has a block, take the top, set its mark and finish": the task t is at step 1 of an allocation, and u is
+-- the top of its cache, a block of its request's class in the area.
+pub record TakesTop (v : View) (t u : ℕ) : Type 0 where
+  pub place : v (TaskPlace t) ≡ A1
+  pub class : v (TaskClass t) < CLASSES
+  pub top : u ≡ v (CacheTop t (v (TaskClass t)))
+  pub is-block : isBlock (v Regions) (v (TaskClass t)) u ≡ true
+
 -- why a step gives an answer that ends the request
 abbrev pub Cause : View → ℕ → Answer → Type 0
 Cause v t Accepted = ⊥
-Cause v t (Allocated u) = HandsOut v t u
+Cause v t (Allocated u) = TakesTop v t u
 Cause v t Freed = v (TaskPlace t) ≡ F1
 Cause v t NoDescriptor = FindsEmpty Spare v t
 Cause v t NoRegion = WinsPush Back v t

@@ -1,14 +1,9 @@
 -- docs/POOL.md, "Runs and premises"
 -- What each task has asked for last, by the history of a run.
-use mathlib.Core.Path.{_≡_}
 use mathlib.Core.Bool.{cond, _&&_}
 use mathlib.Core.List.{[], _∷_}
-use Prim.Native.Nat.{ℕ, _≤_}
+use Prim.Native.Nat.{ℕ}
 use lib.Dec.{eqb}
-use Rattle.limits.specs.Limits.{LARGEST-SIZE}
-use Rattle.classes.specs.Sizes.{classOf}
-use Rattle.plain.specs.State.{Place, idle, working, Mem}
-use Rattle.plain.specs.Requests.{Request, allocation, freeing, requestAt}
 use Rattle.plain.specs.Calls.{Call, start, allocate, free, step}
 use Rattle.agreement.specs.Events.{Event, call, write}
 use Rattle.agreement.specs.Reached.{History}
@@ -19,8 +14,8 @@ pub data Asked : Type 0 where
   for-bytes : (size : ℕ) → Asked
   for-free : (unit : ℕ) → Asked
 
--- What the task t has asked for after a call that answered `code`, if it was a before: an accepted beginning, which
--- answers 0, asks anew, and an accepted start forgets what was asked.
+-- What the task t has asked for after a call that answered `code`, where it had asked for a before it: an accepted
+-- beginning, which answers 0, asks anew, and an accepted start forgets what was asked.
 abbrev pub askedBy : ℕ → Call → ℕ → Asked → Asked
 askedBy t (start b) code a = cond (eqb code 0) nothing-yet a
 askedBy t (allocate u size) code a = cond (eqb code 0 && eqb u t) (for-bytes size) a
@@ -36,24 +31,3 @@ askedIn t (write at b) code a = a
 abbrev pub asked : ℕ → History → Asked
 asked t [] = nothing-yet
 asked t (x ∷ h) = askedIn t (x .event) (x .answer .code) (asked t h)
-
--- the class c serves the size
-abbrev pub Serves : ℕ → ℕ → Type 0
-Serves size c = (1 ≤ size) × (size ≤ LARGEST-SIZE) × (c ≡ classOf size)
-
--- the request is what was asked for
-abbrev pub AsAsked : Asked → Request → Type 0
-AsAsked nothing-yet q = ⊥
-AsAsked (for-bytes size) (allocation c) = Serves size c
-AsAsked (for-bytes size) (freeing c u) = ⊥
-AsAsked (for-free unit) (allocation c) = ⊥
-AsAsked (for-free unit) (freeing c u) = u ≡ unit
-
--- a task that is at work is at what it has asked for
-abbrev pub AtWhatAsked : Asked → Place → Type 0
-AtWhatAsked a idle = Unit {0}
-AtWhatAsked a (working w) = AsAsked a (requestAt w)
-
--- all tasks of a memory are at what they have asked for, each at its own
-abbrev pub AllAsAsked : (ℕ → Asked) → Mem → Type 0
-AllAsAsked a m = (t : ℕ) → AtWhatAsked (a t) (m .task t .place)

@@ -11,7 +11,7 @@ use Rattle.fields.specs.Columns.{View, _:=_, assigned}
 use Rattle.words.specs.Head.{itemOf}
 use Rattle.classes.specs.Classes.{block}
 use Rattle.classes.specs.Sizes.{classOf}
-use Rattle.control.specs.Layout.{Head, TaskHead, CacheTop, TaskPlace, TaskClass, Regions}
+use Rattle.control.specs.Layout.{Head, TaskHead, TaskPlace, TaskClass, Regions}
 use Rattle.control.specs.Places.{IDLE, A1}
 use Rattle.control.specs.Places.{TO-EXCHANGE}
 use Rattle.control.specs.declared.answer.Answer.{Answer}
@@ -20,7 +20,6 @@ use Rattle.control.specs.declared.answer.Answer.the-variants.{Refused}
 use Rattle.control.specs.declared.moves.Pop.{Pop}
 use Rattle.control.specs.declared.moves.Push.{Push}
 use Rattle.stepped.specs.Outcome.{Outcome, Memories, Effect}
-use Rattle.stepped.specs.Ranges.{isBlock}
 use Rattle.stepped.specs.Lists.{howMany, handField, popPlace, popList, pushPlace, pushList, pushItems}
 
 -- ---- refusals
@@ -107,14 +106,6 @@ pub record WinsPush (p : Push) (v : View) (t : ℕ) : Type 0 where
   pub item : v (handField (pushItems p) t) < howMany (pushItems p) (v Regions)
   pub noted : itemOf (v (TaskHead t)) ≤ howMany (pushItems p) (v Regions)
   pub same : v (Head (pushList p (v (TaskClass t)))) ≡ v (TaskHead t)
-
--- "If the cache has a block, take the top, set its mark and finish": the task t is at step 1 of an allocation, and u is
--- the top of its cache, a block of its request's class in the area.
-pub record HandsOut (v : View) (t u : ℕ) : Type 0 where
-  pub place : v (TaskPlace t) ≡ A1
-  pub class : v (TaskClass t) < CLASSES
-  pub top : u ≡ v (CacheTop t (v (TaskClass t)))
-  pub is-block : isBlock (v Regions) (v (TaskClass t)) u ≡ true
 
 -- the place is one of the three of the push p
 pub record InPush (p : Push) (place : ℕ) : Type 0 where

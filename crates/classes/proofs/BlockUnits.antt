@@ -101,6 +101,6 @@ aligned r c i h =
     let f : units c * i ≡ 2 * (k * i) = ap (λ (n : ℕ). n * i) e ∙ mul-assoc 2 k i in
     omega (arith, f)
 
--- and so does one that a first unit names
+-- the same of a block by its first unit
 pub block-aligned : {r c u : ℕ} → BlockOf r c u → Aligned c u
 block-aligned {r} {c} b = subst⁻¹ (Aligned c) (b .is) (aligned r c (b .at))

@@ -83,7 +83,12 @@ quarter s l h =
     ltb→lt (4 * (block (classOf s) - s)) (block (classOf s))
     (subst (λ (k : ℕ). T (little k)) e (at (λ k. little (49 + k)) (suc LARGEST-SIZE - 49) tt (s - 49) (omega arith)))
 
--- it does not hold of every size below: at 36, 4 × (block − size) is the block
+-- "At 17 it is not" (the paper): 4 × (block − size) is not below the block
+pub not-at-17 : 4 * (block (classOf 17) - 17) < block (classOf 17) → ⊥
+unfolding classOf units
+not-at-17 h = omega arith
+
+-- nor is it at 36, where it is the block
 pub not-at-36 : 4 * (block (classOf 36) - 36) < block (classOf 36) → ⊥
 unfolding classOf units
 not-at-36 h = omega arith

@@ -28,7 +28,7 @@ every-class f t c = elim (decLt c CLASSES) [
       (at (entry f) (suc CLASSES) t CLASSES (omega arith)))
 ]
 
--- the table has a row for each of the classes of `limits`, and no more
+-- the table has an entry in each row for each of the classes of `limits`, and no more
 pub as-many-sizes : length blockSizes ≡ CLASSES
 as-many-sizes = refl
 
@@ -54,7 +54,7 @@ from : (n c : ℕ) → Others n c → n ≤ c
 from zero c h = omega arith
 from (suc n) c h = let l : n ≤ c = from n c (h .0) in let k : c ≢ n = h .1 in omega arith
 
--- no number below n is none of the first n
+-- a number below n is one of the first n
 pub no-more : (n c : ℕ) → c < n → Others n c → ⊥
 no-more n c l h = absurd (omega (arith, from n c h))
 

@@ -5,11 +5,12 @@ use Prim.Native.Nat.{ℕ, _*_, _/_}
 use lib.ListN.{getD}
 use Rattle.limits.specs.Limits.{UNIT-BYTES, REGION-BYTES, LARGEST-SIZE, MOST-BLOCKS}
 
--- the table's row "block": the bytes of a block of each class
+-- "classes above 8 are those members of the series that are multiples of 16" (the request for the new processor): the
+-- bytes of a block of each class
 abbrev pub blockSizes : List ℕ
 blockSizes = 8 ∷ 16 ∷ 32 ∷ 48 ∷ 64 ∷ 80 ∷ 96 ∷ 112 ∷ 128 ∷ 160 ∷ 192 ∷ 224 ∷ 256 ∷ []
 
--- the table's row "n, per region": how many blocks of each class a region has
+-- "n per class is unchanged": the paper's row "n, per region", for these blocks
 abbrev pub blockCounts : List ℕ
 blockCounts = 512 ∷ 256 ∷ 128 ∷ 85 ∷ 64 ∷ 51 ∷ 42 ∷ 36 ∷ 32 ∷ 25 ∷ 21 ∷ 18 ∷ 16 ∷ []
 

@@ -23,7 +23,7 @@ use Rattle.plain.specs.TaskHolds.{NoteHolds, PlaceHolds}
 use Rattle.plain.specs.Invariant.{OpenDescriptor, ClosedDescriptor, Invariant}
 use Rattle.plain.proofs.ByState.{open-holds, open-asks, open-not-empty, empty-is}
 use Rattle.plain.proofs.NotesKept.{as-before}
-use Rattle.plain.proofs.Turn.{Turn, Asked, fewer, enough, as-mapped, turn-inv}
+use Rattle.plain.proofs.Turn.{Turn, Bounded, fewer, enough, as-mapped, turn-inv}
 use Rattle.plain.proofs.PlaceAlone.{taskOf, lengths}
 
 -- ---- a descriptor that a task holds
@@ -154,7 +154,7 @@ module _ {area : ℕ} {m : Mem} {t : ℕ} {p : Place} {k : ℕ → List ℕ} (w 
         ap (λ (z : ℕ). when x d (one c z)) (a .class),
       )
 
-      classes : (c x : ℕ) → c < CLASSES → Asked
+      classes : (c x : ℕ) → c < CLASSES → Bounded
           (count x (m .row c) + descriptorClassWeight c x t (taskOf p k))
           (count x (m .row c) + descriptorClassWeight c x t (taskOf p′ k))
           (one c (m .descriptor x .class)) (one c (update (m .descriptor) d E x .class))

@@ -28,7 +28,7 @@ use Rattle.plain.proofs.CallTests.{KeepsInvariant}
 use Rattle.plain.proofs.Blocks.{isBlock-row}
 use Rattle.plain.proofs.ByState.{open-map}
 use Rattle.plain.proofs.NotesKept.{as-before}
-use Rattle.plain.proofs.Turn.{Turn, Asked, fewer, enough, as-mapped, no-entry, opens, turn-inv}
+use Rattle.plain.proofs.Turn.{Turn, Bounded, fewer, enough, as-mapped, no-entry, opens, turn-inv}
 use Rattle.plain.proofs.PlaceAlone.{taskOf, placeHolds, lengths}
 use Rattle.plain.proofs.AnchorExchange.{in-hand, spare-empty}
 
@@ -179,7 +179,7 @@ module _ {area : ℕ} {m : Mem} {t : ℕ} {k : ℕ → List ℕ} where
           ap (λ (n : ℕ). count v (blocksFrom r c 0 n)) (sub-zero (perRegion c)) ∙ sym (isBlock-row v r c)
 
       -- the descriptor is FULL now, and so on no list and in no hand; the others are as they were
-      classes : (f x : ℕ) → Asked
+      classes : (f x : ℕ) → Bounded
           (count x (m .row f) + descriptorClassWeight f x t (taskOf (working (a7 c d r)) k))
           (count x (m .row f) + descriptorClassWeight f x t (taskOf (working (a8 c r 0)) k))
           (one f (m .descriptor x .class)) (one f (update (m .descriptor) d E x .class))

@@ -13,9 +13,9 @@ use Rattle.plain.specs.State.{region, Push, retire, back, release, offer
 use Rattle.plain.specs.State.{a3-read, a3-exchange, a4, a7, a8, f1, f2, f3-read, f3-link, f3-exchange, f4-clear}
 use Rattle.plain.specs.State.{Task, Mem, working}
 use Rattle.plain.specs.Moves.{Decided}
-use Rattle.plain.specs.Steps.{Result, popList, pushList, pushItem, f6, f5, moving, whenEmpty, whenPopped}
+use Rattle.plain.specs.Steps.{Result, popList, pushList, f6, f5, moving, whenEmpty, whenPopped}
 use Rattle.plain.specs.Steps.{whenPushed, asNoted?, closed, popRead, popTake, popStep, pushStep, a1Step, a3Read}
-use Rattle.plain.specs.Steps.{a3Exchange, f2Step, f3Read, f3Won, f3Exchange, stepAt, stepOf, whenWorking}
+use Rattle.plain.specs.Steps.{f2Step, f3Read, f3Won, stepAt, stepOf, whenWorking}
 use Rattle.plain.specs.Requests.{Request, popRequest, pushRequest, requestAt, StillAt, OwnRequest}
 use Rattle.plain.proofs.CallTests.{either}
 

@@ -33,9 +33,9 @@ pub record Turn (area : ℕ) (m : Mem) (t : ℕ) (T : Task) : Type 0 where
 
 -- Two of the laws say n ≤ e, of a descriptor that is on some list or held in some way. After a step n′ ≤ e′
 -- holds if no more is asked, or if e′ is 1 or the descriptor is FULL (f′), since it has one place at most.
-pub data Asked (n n′ e e′ f′ : ℕ) : Type 0 where
-  fewer : n′ + e ≤ n + e′ → Asked n n′ e e′ f′
-  enough : 1 ≤ e′ + f′ → Asked n n′ e e′ f′
+pub data Bounded (n n′ e e′ f′ : ℕ) : Type 0 where
+  fewer : n′ + e ≤ n + e′ → Bounded n n′ e e′ f′
+  enough : 1 ≤ e′ + f′ → Bounded n n′ e e′ f′
 
 -- A region that is spare, or held without an entry, n′ times in all, has the entry z′ = 0: no more is asked than
 -- before and its entry stays; or it has none; or it is open now (o′), and so neither spare nor held.
@@ -54,13 +54,13 @@ pub record Balanced (m : Mem) (t : ℕ) (T : Task) (m′ : Mem) (T′ : Task) : 
   pub regions : (r : ℕ)
       → count r (m′ .row SPARE-REGIONS) + regionWeight r t T′ + total DESCRIPTORS (openWeight r) (m′ .descriptor)
       ≡ count r (m .row SPARE-REGIONS) + regionWeight r t T + total DESCRIPTORS (openWeight r) (m .descriptor)
-  pub classes : (c x : ℕ) → c < CLASSES → Asked
+  pub classes : (c x : ℕ) → c < CLASSES → Bounded
       (count x (m .row c) + descriptorClassWeight c x t T)
       (count x (m′ .row c) + descriptorClassWeight c x t T′)
       (one c (m .descriptor x .class))
       (one c (m′ .descriptor x .class))
       (total DESCRIPTORS (fullWeight x) (m′ .descriptor))
-  pub spares : (x : ℕ) → Asked
+  pub spares : (x : ℕ) → Bounded
       (count x (m .row SPARE-DESCRIPTORS) + spareWeight x t T)
       (count x (m′ .row SPARE-DESCRIPTORS) + spareWeight x t T′)
       (oneIfEmpty (m .descriptor x .state))
@@ -143,7 +143,7 @@ module _ {area : ℕ} {m : Mem} {t : ℕ} {T : Task} (w : Turn area m t T) where
         below-max x DESCRIPTORS,
       )
 
-      classes : (c x : ℕ) → c < CLASSES → Asked
+      classes : (c x : ℕ) → c < CLASSES → Bounded
           (count x (m .row c) + descriptorClassWeight c x t T)
           (count x (m′ .row c) + descriptorClassWeight c x t T′)
           (one c (m .descriptor x .class))
@@ -155,7 +155,7 @@ module _ {area : ℕ} {m : Mem} {t : ℕ} {T : Task} (w : Turn area m t T) where
           let z = descriptorClassWeight c x in
           omega (arith, once z x c (omega arith) (λ i. class-held c x (m′ .task i .place)))
 
-      spares : (x : ℕ) → Asked
+      spares : (x : ℕ) → Bounded
           (count x (m .row SPARE-DESCRIPTORS) + spareWeight x t T)
           (count x (m′ .row SPARE-DESCRIPTORS) + spareWeight x t T′)
           (oneIfEmpty (m .descriptor x .state))

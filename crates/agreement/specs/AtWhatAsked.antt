@@ -1,0 +1,30 @@
+-- docs/POOL.md, "The relation"
+-- Every task of the plain pool that is at work is at what it has asked for last.
+use mathlib.Core.Path.{_≡_}
+use Prim.Native.Nat.{ℕ, _≤_}
+use Rattle.limits.specs.Limits.{LARGEST-SIZE}
+use Rattle.classes.specs.Sizes.{classOf}
+use Rattle.plain.specs.State.{Place, idle, working, Mem}
+use Rattle.plain.specs.Requests.{Request, allocation, freeing, requestAt}
+use Rattle.agreement.specs.Asked.{Asked, nothing-yet, for-bytes, for-free}
+
+-- the class c serves the size
+abbrev pub Serves : ℕ → ℕ → Type 0
+Serves size c = (1 ≤ size) × (size ≤ LARGEST-SIZE) × (c ≡ classOf size)
+
+-- the request is what was asked for
+abbrev pub AsAsked : Asked → Request → Type 0
+AsAsked nothing-yet q = ⊥
+AsAsked (for-bytes size) (allocation c) = Serves size c
+AsAsked (for-bytes size) (freeing c u) = ⊥
+AsAsked (for-free unit) (allocation c) = ⊥
+AsAsked (for-free unit) (freeing c u) = u ≡ unit
+
+-- a task that is at work is at what it has asked for
+abbrev pub AtWhatAsked : Asked → Place → Type 0
+AtWhatAsked a idle = Unit {0}
+AtWhatAsked a (working w) = AsAsked a (requestAt w)
+
+-- all tasks of a memory are at what they have asked for, each at its own
+abbrev pub AllAtWhatAsked : (ℕ → Asked) → Mem → Type 0
+AllAtWhatAsked a m = (t : ℕ) → AtWhatAsked (a t) (m .task t .place)
