@@ -67,9 +67,9 @@ def unsaid(*sentences):
 
 
 def waste():
-    """The quarter limit is told for the sizes of its law, and its failure for that of the other law."""
+    """The quarter limit is told for the sizes of its law, and its failure for the largest size that a law names."""
     first, last = re.search(r'^pub quarter : \(s : ℕ\) → (\d+) ≤ s → s ≤ (\S+) →', read(SIZES), re.M).groups()
-    failing = int(re.search(r'^pub not-at-\d+ : 4 \* \(block \(classOf (\d+)\)', read(SIZES), re.M).group(1))
+    failing = max(map(int, re.findall(r'^pub not-at-\d+ : 4 \* \(block \(classOf (\d+)\)', read(SIZES), re.M)))
     block = min(size for size in row_of('blockSizes') if failing <= size)
     return unsaid(f'For every size from {first} to {value(last, named(LIMITS))}, less than a quarter',
                   f'At {failing} it is not less: {block - failing} of {block} bytes are a quarter')
