@@ -12,9 +12,12 @@
  *
  * ---- Alignment ----
  *
- * A block of 16 bytes or more begins at a multiple of 16 bytes of the area, a block of 8 bytes at a multiple of 8. So
- * the area has to be aligned to 16 itself (POOL_ALIGNMENT), if the blocks are to be. In C11, C++11 and later, with the
- * alignas in front:
+ * A block of 16 bytes or more begins at a multiple of 16 bytes of the area, a block of 8 bytes at a multiple of 8. A
+ * size of 1 to 8 bytes gets a block of 8, every larger one a block of 16 or more. No alignment above 16 is promised.
+ *
+ * So the area has to be aligned to 16 itself (POOL_ALIGNMENT), if the blocks are to be. No call tests it: a start takes
+ * any area, and on one that is aligned to 8 only, no block of 16 bytes or more is aligned to 16. In C11, C++11 and
+ * later, with the alignas in front:
  *
  *     #include <stdalign.h>
  *     alignas(POOL_ALIGNMENT) static uint8_t area[4 * POOL_REGION_BYTES];
@@ -47,8 +50,8 @@
  *
  *   - each block of an open region is in exactly one place: a user's hands, a task or its region's chain;
  *   - no call changes a byte of a block that is in a user's hands;
- *   - the unit of a finished allocation is the first of a block of the smallest class that holds the size, at a
- *     multiple of 16 bytes of the area where that block has 16 bytes or more;
+ *   - the unit of a finished allocation is the first of a block of the smallest size that holds the request (see
+ *     pool_begin_allocate), at a multiple of 16 bytes of the area where that block has 16 bytes or more;
  *   - POOL_DAMAGED does not occur.
  *
  * The premises, which the firmware has to see to:
@@ -169,7 +172,8 @@ uint64_t pool_start(uint8_t *control, size_t control_length, const uint8_t *area
 /*
  * Begins an allocation of 1 to 256 bytes for a task that is idle. It makes no step and neither reads nor writes the
  * area. The block comes with the step that answers POOL_FINISHED. A size gets the smallest block that holds it, of 8,
- * 16, 32, 48, 64, 80, 96, 112, 128, 160, 192, 224 or 256 bytes. Do not rely on what it holds then.
+ * 16, 32, 48, 64, 80, 96, 112, 128, 160, 192, 224 or 256 bytes. All bytes of the block are the user's, also those
+ * behind the size. Do not rely on what it holds then.
  *
  * Answers, by the first test that fails: POOL_BAD_CONTROL, POOL_NOT_STARTED, POOL_BAD_AREA, POOL_NO_SUCH_TASK,
  * POOL_REQUEST_IN_HAND, POOL_SIZE_ZERO, POOL_SIZE_TOO_LARGE; else POOL_UNDER_WAY. POOL_DAMAGED comes where a bad value
