@@ -50,7 +50,7 @@
  *
  *   - each block of an open region is in exactly one place: a user's hands, a task or its region's chain;
  *   - no call changes a byte of a block that is in a user's hands;
- *   - the unit of a finished allocation is the first of a block of the smallest size that holds the request (see
+ *   - the unit of a finished allocation is the first of the smallest block that holds the size (see
  *     pool_begin_allocate), at a multiple of 16 bytes of the area where that block has 16 bytes or more;
  *   - POOL_DAMAGED does not occur.
  *

@@ -57,8 +57,8 @@ static void first_units(const struct class *class)
     check(name, told);
 }
 
-/* Two words that the compiler expects at a multiple of their size: it loads and stores them together, by instructions
-   that fail elsewhere. */
+/* Two words that the compiler expects at a multiple of their size: it stores them together, by an instruction that
+   fails elsewhere. */
 typedef uint64_t pair __attribute__((vector_size(POOL_ALIGNMENT)));
 
 static void fill(void *block, unsigned bytes, uint64_t unit)

@@ -69,13 +69,13 @@ pub fn is_first(class: usize, unit: u64) -> bool {
     offset % units(class) == 0 && offset < tail(class)
 }
 
-/// Whether a block of the class that starts at the unit is aligned in the area as the paper wants it.
+/// Whether a block of the class that starts at the unit is aligned in the area as the request wants it.
 pub fn is_aligned(class: usize, unit: u64) -> bool {
     block(class) < ALIGNMENT || unit * UNIT % ALIGNMENT == 0
 }
 
-/// Compares the computed series with the two rows that the paper prints, and with what it says about sizes, waste and
-/// alignment.
+/// Compares the computed series with the two rows of the table, as the request leaves them, and with what the papers
+/// say about sizes, waste and alignment.
 pub fn agrees_with_the_paper() -> Result<(), String> {
     let blocks: [u64; CLASSES] = [8, 16, 32, 48, 64, 80, 96, 112, 128, 160, 192, 224, 256];
     let counts: [u64; CLASSES] = [512, 256, 128, 85, 64, 51, 42, 36, 32, 25, 21, 18, 16];

@@ -51,7 +51,8 @@ module _ (v : View) (link : ℕ → ℕ) (t : ℕ) (fits : v (TaskClass t) < CLA
       either (eqb k 0) (to (popPlace Partial) (omega arith) (λ u. refl))
       (test (leb k (perRegion c))
       (branch End (isBlock regions c u && below)
-      (λ e. finish (record { place = here; class = fits; top = refl; is-block = left-true (isBlock regions c u) below e })
+      (λ e. finish
+      (record { place = here; class = fits; top = refl; is-block = left-true (isBlock regions c u) below e })
       (λ u. refl))
       (λ e. wrong)))
 

@@ -29,7 +29,7 @@ pub record BlockOf (r c u : ℕ) : Type 0 where
   pub below : at < perRegion c
   pub is : u ≡ unitOf r c at
 
--- "every block of 16 bytes or more to start at a multiple of 16" (the request for the new processor): a block of class c
--- that begins at unit u does so, counted in bytes of the area
+-- "every block of 16 bytes or more to start at a multiple of 16" (the request for the new processor): a block of class
+-- c that begins at unit u does so, counted in bytes of the area
 abbrev pub Aligned : ℕ → ℕ → Type 0
 Aligned c u = ALIGNMENT ≤ block c → UNIT-BYTES * u % ALIGNMENT ≡ 0

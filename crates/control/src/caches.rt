@@ -30,8 +30,8 @@ pub fn set_cache_top(c: &mut [u8], task: usize, class: usize, value: u16)
     );
 }
 
-// The top block of the cache at an index: the caches of each task, one after the other, with room for 16 classes. The
-// caller is a start, which stores them in a row.
+// The top block of the cache at an index: the caches of each task, one after the other, with room for
+// `CACHES_OF_TASK` classes. The caller is a start, which stores them in a row.
 pub fn set_top(c: &mut [u8], index: usize, value: u16)
     requires { ⌜ Control (now c) × (index < CACHES) ⌝ }
     ensures { λ r. ⌜ now (c .exit) ≡ changed (TopOfCache index := value ∷ []) (now (c .entry)) ⌝ }

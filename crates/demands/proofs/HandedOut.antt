@@ -1,5 +1,6 @@
 -- What a finished allocation hands out, of the exported functions: "every block of 16 bytes or more to start at a
--- multiple of 16" (the request for the new processor), and "A size gets the smallest class that holds it" (the demands).
+-- multiple of 16" (the request for the new processor), and "A size gets the smallest class that holds it" (the
+-- demands).
 use mathlib.Core.Path.{_≡_, sym, ap, subst, _∙_}
 use mathlib.Core.Logic.{⊎-elim}
 use Prim.Native.Nat.{ℕ, _/_, _%_}

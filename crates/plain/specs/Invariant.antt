@@ -25,7 +25,7 @@ ChainLength EMPTY n l = Unit {0}
 ChainLength PARTIAL n l = (1 ≤ l) × (l < n)
 ChainLength FULL n l = l ≡ 0
 
--- an open region's descriptor: its class is one of the paper's, its chain has blocks of its region, each once,
+-- an open region's descriptor: its class is one of the classes, its chain has blocks of its region, each once,
 -- and as many as its state says
 pub record OpenDescriptor (D : Descriptor) : Type 0 where
   pub fits : D .class < CLASSES

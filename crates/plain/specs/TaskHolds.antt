@@ -24,11 +24,11 @@ abbrev pub Group : List ℕ → Type 0
 Group [] = Unit {0}
 Group (y ∷ g) = Together y g
 
--- The class is one of the paper's, and its cache is empty.
+-- The class is one of the classes, and its cache is empty.
 abbrev pub EmptyCache : (ℕ → List ℕ) → ℕ → Type 0
 EmptyCache k c = (c < CLASSES) × (length (k c) ≡ 0)
 
--- The class is one of the paper's, and its cache has fewer than n blocks.
+-- The class is one of the classes, and its cache has fewer than n blocks.
 abbrev pub RoomInCache : (ℕ → List ℕ) → ℕ → Type 0
 RoomInCache k c = (c < CLASSES) × (length (k c) < perRegion c)
 
@@ -39,7 +39,7 @@ PushHolds k (back c d) = EmptyCache k c
 PushHolds k (release c u d w r) = RoomInCache k c
 PushHolds k (offer c u d) = RoomInCache k c
 
--- What holds of the caches k at each place. The class is one of the paper's. In an allocate, from the pop of step 2 to
+-- What holds of the caches k at each place. The class is one of the classes. In an allocate, from the pop of step 2 to
 -- step 7, its cache is empty; an anchor that is to be exchanged was not noted as EMPTY; the taken chain and the cache
 -- have fewer than n blocks; as many blocks are cached as carved. In a free, group and cache are not both empty, and
 -- have at most n blocks; the group lies in one region, and has at most n blocks with the chain that was noted; after

@@ -12,7 +12,8 @@ ghost use Rattle.control.specs.Layout.{CACHES, Control, DescriptorNext, RegionN
 ghost use Rattle.stepped.specs.Start.{nextUp, startImage};
 ghost use Rattle.start.specs.Filled.{filled};
 
-// How many descriptors are spare at first, all of them; how many caches there are; the top of a cache without blocks.
+// How many descriptors are spare at first, all of them; how many caches there is room for; the top of a cache without
+// blocks.
 const SPARES: u8 = limits::DESCRIPTORS as u8;
 
 const CACHES: usize = layout::CACHES_OF_TASK * limits::TASKS;
@@ -63,7 +64,7 @@ fn chain_regions(control: &mut [u8], regions: u8)
     }
 }
 
-// Writes the top of each of the caches: no block.
+// Writes the top of each cache that there is room for: no block.
 fn empty_caches(control: &mut [u8])
     requires { ⌜ Control (now control) ⌝ }
     ensures { λ r. ⌜ now (control .exit) ≡ filled TopOfCache (λ i. UNITS) CACHES (now (control .entry)) ⌝ }
