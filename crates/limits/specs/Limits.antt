@@ -1,5 +1,5 @@
 -- docs/POOL.md, "The pool in numbers"
--- How many there are of each thing in the customer's papers. What follows from others is tied to them in proofs/Ties.antt.
+-- How many there are of each thing, by the customer's papers. What follows from others is tied in proofs/Ties.antt.
 use Prim.Native.Nat.{ℕ, _+_}
 
 -- "Control memory is 8,192 bytes"
