@@ -68,7 +68,8 @@ def unsaid(*sentences):
 
 def waste():
     """The quarter limit is told for the sizes of its law, and its failure for the largest size that a law names."""
-    first, last = re.search(r'^pub quarter : \(s : ℕ\) → (\d+) ≤ s → s ≤ (\S+) →', read(SIZES), re.M).groups()
+    law = re.search(r'^pub quarter : \(s : ℕ\) → (\d+) ≤ s → s ≤ (\S+) →', read(SIZES), re.M)
+    first, last = law.groups()
     failing = max(map(int, re.findall(r'^pub not-at-\d+ : 4 \* \(block \(classOf (\d+)\)', read(SIZES), re.M)))
     block = min(size for size in row_of('blockSizes') if failing <= size)
     return unsaid(f'For every size from {first} to {value(last, named(LIMITS))}, less than a quarter',

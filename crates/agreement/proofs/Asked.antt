@@ -40,7 +40,8 @@ still a w idle h k = tt
 still a w (working x) h k = subst⁻¹ (AsAsked a) k h
 
 -- the task u begins: it has now asked for b, and is at that
-begins : (a : ℕ → Asked) (m : Mem) → AllAtWhatAsked a m → (u : ℕ) (b : Asked) (T : Task) → AtWhatAsked b (T .place)
+begins : (a : ℕ → Asked) (m : Mem) → AllAtWhatAsked a m
+    → (u : ℕ) (b : Asked) (T : Task) → AtWhatAsked b (T .place)
     → (t : ℕ) → AtWhatAsked (cond (eqb u t) b (a t)) (update (m .task) u T t .place)
 begins a m A u b T h =
     update-all (λ t U. AtWhatAsked (cond (eqb u t) b (a t)) (U .place)) (m .task) u T (rw (eq-eqb u u refl) h)

@@ -28,8 +28,8 @@ use Rattle.stepped.specs.Calls.{Tested, stepOutcome}
 use Rattle.stepped.proofs.Conjunction.{left-true, right-true}
 use Rattle.agreement.specs.Contents.{Contents, Slot, TaskHand}
 use Rattle.agreement.specs.Relation.{plainPop, PlaceRelated, r-idle, r-working, WorkRelated, r-a1, r-popping}
-use Rattle.agreement.specs.Relation.{r-pushing, r-a3-read, r-a3-exchange, r-a4, r-a7, r-a8, r-f1, r-f2, r-f2-more}
-use Rattle.agreement.specs.Relation.{r-f3-read, r-f3-link, r-f3-exchange, r-f4-clear}
+use Rattle.agreement.specs.Relation.{r-pushing, r-a3-read, r-a3-exchange, r-a4, r-a7, r-a8, r-f1, r-f2}
+use Rattle.agreement.specs.Relation.{r-f2-more, r-f3-read, r-f3-link, r-f3-exchange, r-f4-clear}
 use Rattle.agreement.specs.Reached.{History, Reached}
 use Rattle.agreement.specs.Asked.{Asked, nothing-yet, for-bytes, for-free, asked}
 use Rattle.agreement.specs.AtWhatAsked.{AsAsked, AtWhatAsked}
@@ -54,7 +54,8 @@ tested-block regions c u l e =
     }
 
 -- A step that finishes an allocation hands out an aligned block of the class of the task's request.
-pub hands-out : (lent : Lengths) (v : View) (links : ℕ → ℕ) (t u : ℕ) → stepOutcome lent v links t .answer ≡ Allocated u
+pub hands-out : (lent : Lengths) (v : View) (links : ℕ → ℕ) (t u : ℕ)
+    → stepOutcome lent v links t .answer ≡ Allocated u
     → AlignedBlock (v Regions) (v (TaskClass t)) u
 hands-out lent v links t u e =
     let H = ends-by lent v links t (Allocated u) tt e .1 in
@@ -66,6 +67,11 @@ hands-out lent v links t u e =
 data Works (s : Slot) (w : Work) : Type 0 where
   allocates : requestAt w ≡ allocation (s .class) → s .place ≢ F1 → Works s w
   frees : requestAt w ≡ freeing (s .class) (s .unit) → s .place ≢ A1 → Works s w
+
+-- a task at step 1 of a request, by the number of its place, is at what it has asked for
+abbrev AtStepOne : Asked → (place class unit : ℕ) → Type 0
+AtStepOne b place class unit =
+    (place ≡ F1 → AsAsked b (freeing class unit)) × (place ≡ A1 → AsAsked b (allocation class))
 
 pops : (P : Pop) (c : ℕ) (h : TaskHand) → popRequest (plainPop P c h) ≡ allocation c
 pops Partial c h = refl
@@ -93,15 +99,13 @@ module _ {regions : ℕ} {a : Contents} {m : Mem} {s : Slot} where
   works (r-f3-exchange e G N l i) = frees refl (λ f. absurd (omega arith))
   works (r-f4-clear e i) = frees refl (λ f. absurd (omega arith))
 
-  -- a task at step 1 of either request is at what it has asked for
+  -- a task of the stepped pool, by that of the plain pool
   asked-at : (b : Asked) {p : Place} → PlaceRelated regions a m s p → AtWhatAsked b p
-      → (s .place ≡ F1 → AsAsked b (freeing (s .class) (s .unit))) × (s .place ≡ A1 → AsAsked b (allocation (s .class)))
+      → AtStepOne b (s .place) (s .class) (s .unit)
   asked-at b (r-idle e) h = (λ f. absurd (omega arith), λ f. absurd (omega arith))
   asked-at b (r-working {w} W) h = by (works W)
     where
-      by : Works s w
-          → (s .place ≡ F1 → AsAsked b (freeing (s .class) (s .unit)))
-          × (s .place ≡ A1 → AsAsked b (allocation (s .class)))
+      by : Works s w → AtStepOne b (s .place) (s .class) (s .unit)
       by (allocates q n) = (λ f. absurd (n f), λ f. subst (AsAsked b) q h)
       by (frees q n) = (λ f. subst (AsAsked b) q h, λ f. absurd (n f))
 
@@ -131,9 +135,7 @@ module _ {h : History} {s₁ : Memories} {s : Pool} (R : Reached h s₁ s) (lent
   links = link (s₁ .area)
 
   -- the task of a step that passes the tests
-  at-task : Tested lent v t
-      → (v (TaskPlace t) ≡ F1 → AsAsked (asked t h) (freeing (v (TaskClass t)) (v (TaskUnit t))))
-      × (v (TaskPlace t) ≡ A1 → AsAsked (asked t h) (allocation (v (TaskClass t))))
+  at-task : Tested lent v t → AtStepOne (asked t h) (v (TaskPlace t)) (v (TaskClass t)) (v (TaskUnit t))
   at-task T =
       let S = reached-tied R in
       let l : t < TASKS = omega (arith, T .below, T .tasks) in

@@ -11,7 +11,7 @@ use Rattle.agreement.specs.Tied.{Tied, FoundStates}
 use Rattle.agreement.specs.Reached.{History, happened, Reached, from-unstarted, from-start, by-event, Along}
 use Rattle.agreement.specs.Reached.{Wherever}
 use Rattle.agreement.specs.Asked.{asked, askedIn}
-use Rattle.agreement.specs.AtWhatAsked.{AllAtWhatAsked}
+use Rattle.agreement.specs.AtWhatAsked.{AllAtWhatAsked, AtLastAsked}
 use Rattle.agreement.proofs.Unstarted.{unstarted-tied}
 use Rattle.agreement.proofs.Starting.{accepted-start}
 use Rattle.agreement.proofs.FoundStates.{accepted-found, event-found}
@@ -23,7 +23,7 @@ use Rattle.agreement.proofs.Asked.{unstarted-asked, started-asked, even
 record HoldsThere (h : History) (s₁ : Memories) (s : Pool) : Type 0 where
   tied : Tied s₁ s
   found : FoundStates (s₁ .control)
-  asks : AllAtWhatAsked (λ t. asked t h) (s .mem)
+  asks : AtLastAsked h (s .mem)
 
 reached : {h : History} {s₁ : Memories} {s : Pool} → Reached h s₁ s → HoldsThere h s₁ s
 unfolding Plain.plainCall
@@ -54,7 +54,7 @@ reached-tied R = reached R .tied
 pub reached-found : {h : History} {s₁ : Memories} {s : Pool} → Reached h s₁ s → FoundStates (s₁ .control)
 reached-found R = reached R .found
 
-pub reached-asked : {h : History} {s₁ : Memories} {s : Pool} → Reached h s₁ s → AllAtWhatAsked (λ t. asked t h) (s .mem)
+pub reached-asked : {h : History} {s₁ : Memories} {s : Pool} → Reached h s₁ s → AtLastAsked h (s .mem)
 reached-asked R = reached R .asks
 
 -- What follows of each event from something that every event keeps holds along every list of events that meets the

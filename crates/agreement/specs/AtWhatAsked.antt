@@ -6,7 +6,8 @@ use Rattle.limits.specs.Limits.{LARGEST-SIZE}
 use Rattle.classes.specs.Sizes.{classOf}
 use Rattle.plain.specs.State.{Place, idle, working, Mem}
 use Rattle.plain.specs.Requests.{Request, allocation, freeing, requestAt}
-use Rattle.agreement.specs.Asked.{Asked, nothing-yet, for-bytes, for-free}
+use Rattle.agreement.specs.Reached.{History}
+use Rattle.agreement.specs.Asked.{Asked, nothing-yet, for-bytes, for-free, asked}
 
 -- the class c serves the size
 abbrev pub Serves : ℕ → ℕ → Type 0
@@ -28,3 +29,7 @@ AtWhatAsked a (working w) = AsAsked a (requestAt w)
 -- all tasks of a memory are at what they have asked for, each at its own
 abbrev pub AllAtWhatAsked : (ℕ → Asked) → Mem → Type 0
 AllAtWhatAsked a m = (t : ℕ) → AtWhatAsked (a t) (m .task t .place)
+
+-- after the history h, all tasks of a memory are at what they have asked for last
+abbrev pub AtLastAsked : History → Mem → Type 0
+AtLastAsked h = AllAtWhatAsked (λ t. asked t h)

@@ -80,8 +80,8 @@ pub quarter : (s : ℕ) → 49 ≤ s → s ≤ LARGEST-SIZE → 4 * (block (clas
 unfolding classOf units
 quarter s l h =
     let e : 49 + (s - 49) ≡ s = omega arith in
-    ltb→lt (4 * (block (classOf s) - s)) (block (classOf s))
-    (subst (λ (k : ℕ). T (little k)) e (at (λ k. little (49 + k)) (suc LARGEST-SIZE - 49) tt (s - 49) (omega arith)))
+    let t = at (λ k. little (49 + k)) (suc LARGEST-SIZE - 49) tt (s - 49) (omega arith) in
+    ltb→lt (4 * (block (classOf s) - s)) (block (classOf s)) (subst (λ (k : ℕ). T (little k)) e t)
 
 -- "At 17 it is not" (the paper): 4 × (block − size) is not below the block
 pub not-at-17 : 4 * (block (classOf 17) - 17) < block (classOf 17) → ⊥

@@ -32,8 +32,13 @@ module _ (s left : Memories) (r t : ℕ) (C : Contract (step t) s left r) (finis
   abbrev o : Outcome
   o = stepOutcome long v (link (s .area)) t
 
+  -- the value that the step answers
+  abbrev pub value : ℕ
+  value = r / CODES
+
   -- what holds of the unit that an allocation hands out, and of 0 where a free has finished, holds of the value
-  of-value : (P : ℕ → Type 0) → ((u : ℕ) → o .answer ≡ Allocated u → P u) → (o .answer ≡ Freed → P 0) → P (r / CODES)
+  of-value : (P : ℕ → Type 0) → ((u : ℕ) → o .answer ≡ Allocated u → P u) → (o .answer ≡ Freed → P 0)
+      → P value
   of-value P h k =
       ⊎-elim (λ f. subst P (sym (f .2) ∙ ap (λ (n : ℕ). n / CODES) (sym (C .number))) (h (f .0) (f .1)))
       (λ f. subst P (ap (λ (n : ℕ). n / CODES) (sym (C .number ∙ ap numberOf f))) (k f))
@@ -42,17 +47,17 @@ module _ (s left : Memories) (r t : ℕ) (C : Contract (step t) s left r) (finis
 
   -- A step that finishes an allocation, at its step 1, hands out an aligned block, in the area, of the class of the
   -- task's request, whatever the memories hold.
-  pub class-handed : v (TaskPlace t) ≡ A1 → AlignedBlock (v Regions) (v (TaskClass t)) (r / CODES)
+  pub class-handed : v (TaskPlace t) ≡ A1 → AlignedBlock (v Regions) (v (TaskClass t)) value
   class-handed here =
       of-value (AlignedBlock (v Regions) (v (TaskClass t))) (hands-out long v (link (s .area)) t)
       (λ f. absurd (omega (arith, here, ends-by long v (link (s .area)) t Freed tt f .1)))
 
   -- Wherever a run has come, a step that finishes a request finishes what its task has asked for last: for `size` bytes
   -- it hands out an aligned block, in the area, of the smallest class that holds them; of a free the value is 0.
-  pub asked-given : {h : History} {p : Pool} → Reached h s p → Gives (p .regions) (asked t h) (r / CODES)
+  pub asked-given : {h : History} {p : Pool} → Reached h s p → Gives (p .regions) (asked t h) value
   asked-given {h} {p} R = of-value (Gives (p .regions) (asked t h)) (handed R long t) (freed R long t)
 
   -- the same of an allocation
   pub size-handed : {h : History} {p : Pool} → Reached h s p → (size : ℕ) → asked t h ≡ for-bytes size
-      → Handed (p .regions) size (r / CODES)
-  size-handed {p = p} R size a = subst (λ (b : Asked). Gives (p .regions) b (r / CODES)) a (asked-given R)
+      → Handed (p .regions) size value
+  size-handed {p = p} R size a = subst (λ (b : Asked). Gives (p .regions) b value) a (asked-given R)

@@ -152,5 +152,6 @@ pub own-request : (t : ℕ) (m : Mem) (w : Work) → m .task t .place ≡ workin
     → OwnRequest t (requestAt w) m (stepOf t m .0)
 unfolding stepOf
 own-request t m w h =
-    subst⁻¹ (λ (p : Place). OwnRequest t (requestAt w) m (whenWorking p (λ w. stepAt t (m .task t .cache) w m) m .0)) h
-    (step-at t (m .task t .cache) m w h)
+    let k = m .task t .cache in
+    let from : Place → Mem = λ p. whenWorking p (λ x. stepAt t k x m) m .0 in
+    subst⁻¹ (λ (p : Place). OwnRequest t (requestAt w) m (from p)) h (step-at t k m w h)

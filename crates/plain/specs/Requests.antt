@@ -3,9 +3,9 @@
 use mathlib.Core.Path.{_≡_}
 use mathlib.Core.Logic.{_≢_}
 use Prim.Native.Nat.{ℕ}
-use Rattle.plain.specs.State.{Pop, partial, spare, region, Push, retire, back, release, offer, Work, a1, popping}
-use Rattle.plain.specs.State.{pushing, a3-read, a3-exchange, a4, a7, a8, f1, f2, f3-read, f3-link, f3-exchange}
-use Rattle.plain.specs.State.{f4-clear, Place, idle, working, Mem}
+use Rattle.plain.specs.State.{Pop, partial, spare, region, Push, retire, back, release, offer, Work, a1}
+use Rattle.plain.specs.State.{popping, pushing, a3-read, a3-exchange, a4, a7, a8, f1, f2, f3-read, f3-link}
+use Rattle.plain.specs.State.{f3-exchange, f4-clear, Place, idle, working, Mem}
 
 -- "each task's request": the allocation of a block of the class c, or the free of the block u, which is of the class c
 pub data Request : Type 0 where
