@@ -9,6 +9,10 @@ use Rattle.plain.specs.Calls.{Lengths}
 use Rattle.stepped.specs.Outcome.{Outcome, refuse}
 use Rattle.stepped.specs.Calls.{tested, Tested}
 
+-- "4 pool not started": the first that fails of this test, by the number of tasks, and of one behind it that fails by n
+abbrev pub firstFailed : ℕ → ℕ → ℕ
+firstFailed tasks n = cond (eqb tasks 0) 4 n
+
 -- the outcome of a call whose tests tell r: the first that fails refuses it; where r is 0 all pass, and x follows
 abbrev pub unlessRefused : ℕ → Outcome → Outcome
 unlessRefused r x = cond (eqb r 0) x (refuse r)

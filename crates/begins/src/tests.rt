@@ -1,11 +1,23 @@
 // The tests that every call but a start makes first.
 use control::started;
+ghost use mathlib.Core.Path.{_≡_};
 ghost use lib.ListN.{length};
 ghost use Rattle.control.specs.Layout.{seen};
-ghost use Rattle.begins.specs.TestNumber.{TestsAre};
+ghost use Rattle.begins.specs.TestNumber.{firstFailed, TestsAre};
+
+// The first that fails of test 4 and of a test behind it that fails by the number `behind`. Caller: `tests`.
+fn first_failed(tasks: u8, behind: u8) -> u8
+    ensures { λ r. ⌜ r ≡ firstFailed tasks behind ⌝ }
+{
+    if tasks == 0 {
+        return 4;
+    }
+    behind
+}
 
 // The tests 1, 4, 2, 5, in this order: the number of the first that fails, 14 where a stored number is out of its
-// range, and 0 where all pass. The callers are the exported calls.
+// range, and 0 where all pass. In a pool that is not started test 5 fails, too, since it has no tasks: so 4 is asked
+// for only where a test behind it fails, and not by a call that passes. The callers are the exported calls.
 pub fn tests(control: &[u8], area: usize, task: u64) -> u8
     ensures { λ r. ⌜ TestsAre (record { control = length (now (control .entry)); area = area })
         (seen (now (control .entry))) task r ⌝ }
@@ -17,21 +29,18 @@ pub fn tests(control: &[u8], area: usize, task: u64) -> u8
     if limits::TASKS < (tasks as usize) {
         return 14;
     }
-    if tasks == 0 {
-        return 4;
-    }
     let regions = started::regions(control);
     if regions == 0 {
-        return 14;
+        return first_failed(tasks, 14);
     }
     if limits::REGIONS < (regions as usize) {
-        return 14;
+        return first_failed(tasks, 14);
     }
     if area != limits::REGION_BYTES * (regions as usize) {
-        return 2;
+        return first_failed(tasks, 2);
     }
     if (tasks as u64) <= task {
-        return 5;
+        return first_failed(tasks, 5);
     }
     0
 }

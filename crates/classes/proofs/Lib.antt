@@ -2,6 +2,7 @@ pub mod Below
 pub mod Tables
 pub mod Series
 pub mod Sizes
+pub mod LeadingBits
 pub mod BenchSizes
 pub mod BlockUnits
 pub mod Factors

@@ -11,50 +11,29 @@ pub enum Choice {
     Refused(u8),
 }
 
-// The class of so many units, a block of which holds them. No size that is served is of 0 units. Caller: `size_class`.
+// Two words of hexadecimal digits. Digit p is about the sizes s with the leading bit of s - 1 at place p: the class of
+// the smallest of them, and how many of the two bits after the leading one do not matter to the class.
+const FIRST_CLASSES: usize = 0x9532_1000;
+
+const UNREAD_BITS: usize = 0x0012_2222;
+
+// The class of so many units, a block of which holds them: arithmetic on the leading bit of their bytes less one and
+// the two bits after it, without a branch. No size that is served is of 0 units; from those nothing is taken, and their
+// leading bit is at place 0. Caller: `size_class`.
 fn class_of(units: usize) -> u8
     requires { ⌜ units ≤ LARGEST-UNITS ⌝ }
     ensures { λ r. ⌜ r ≡ classOf (UNIT-BYTES * units) ⌝ }
 {
-    match units {
-        0 => 0,
-        1 => 0,
-        2 => 1,
-        3 => 2,
-        4 => 2,
-        5 => 3,
-        6 => 3,
-        7 => 4,
-        8 => 4,
-        9 => 5,
-        10 => 5,
-        11 => 6,
-        12 => 6,
-        13 => 7,
-        14 => 7,
-        15 => 8,
-        16 => 8,
-        17 => 9,
-        18 => 9,
-        19 => 9,
-        20 => 9,
-        21 => 10,
-        22 => 10,
-        23 => 10,
-        24 => 10,
-        25 => 11,
-        26 => 11,
-        27 => 11,
-        28 => 11,
-        29 => 12,
-        30 => 12,
-        31 => 12,
-        _ => 12,
-    }
+    let size = limits::UNIT_BYTES * units;
+    let less_one = size - (size + limits::LARGEST_SIZE - 1) / limits::LARGEST_SIZE;
+    let place = 63 - u64::leading_zeros((less_one | 1) as u64);
+    let next_two = ((4 * less_one) >> place) & 3;
+    let first_class = (FIRST_CLASSES >> (4 * place)) & 15;
+    let unread = (UNREAD_BITS >> (4 * place)) & 15;
+    (first_class + (next_two >> unread)) as u8
 }
 
 // The class of the smallest block that holds the size; 8 refuses size 0, and 9 a size above the largest.
-// One look into a table, since each allocation begins with it.
 pub fn size_class(size: u64) -> Choice
     ensures { λ r. ⌜ r ≡ choice size ⌝ }
 {
