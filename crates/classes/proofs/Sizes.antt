@@ -1,5 +1,5 @@
 -- The laws of the class that serves a size.
-use mathlib.Core.Path.{_≡_, sym, ap, subst, _∙_}
+use mathlib.Core.Path.{_≡_, subst}
 use mathlib.Core.Bool.{Bool}
 use mathlib.Core.List.{List, [], _∷_}
 use Prim.Native.Nat.{ℕ, zero, suc, _+_, _*_, _-_, _/_, _≤_, _<_}
@@ -54,10 +54,6 @@ is-class s h = elim (decLt (classOf s) CLASSES) [
 pub holds : (s : ℕ) → s ≤ LARGEST-SIZE → s ≤ block (classOf s)
 unfolding classOf
 holds s h = rw (rows (classOf s) .0) (found s blockSizes SMALLEST-SIZE (is-class s h))
-
--- the class x of k units is that of every number of units that is k
-pub class-at : (u k : ℕ) {x : ℕ} → x ≡ classOf (UNIT-BYTES * k) → u ≡ k → x ≡ classOf (UNIT-BYTES * u)
-class-at u k h e = h ∙ ap (λ (n : ℕ). classOf (UNIT-BYTES * n)) (sym e)
 
 -- a size and the bytes of its units, rounded up, have one class
 pub rounded : (s : ℕ) → s ≤ LARGEST-SIZE → classOf (UNIT-BYTES * ((s + UNIT-BYTES - 1) / UNIT-BYTES)) ≡ classOf s

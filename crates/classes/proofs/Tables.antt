@@ -58,10 +58,6 @@ from (suc n) c h = let l : n ≤ c = from n c (h .0) in let k : c ≢ n = h .1 i
 pub no-more : (n c : ℕ) → c < n → Others n c → ⊥
 no-more n c l h = absurd (omega (arith, from n c h))
 
--- a number that is none of the first n, and not more than n, is n
-pub last : (n c : ℕ) → c < suc n → Others n c → c ≡ n
-last n c l h = omega (arith, from n c h)
-
 -- the entry x of the class k is that of every class that is k
 pub units-at : (c k : ℕ) {x : ℕ} → x ≡ units k → c ≡ k → x ≡ units c
 units-at c k h e = h ∙ ap units (sym e)

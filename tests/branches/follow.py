@@ -1,0 +1,120 @@
+"""Follows what is computed from one argument through a function, along every path."""
+from listing import NARROW, is_memory, is_whole, registers
+
+# What the flags may hold: nothing that comes from the argument, something that does, or a comparison of the argument
+# itself with a constant, which is held as that number.
+CLEAN, FOLLOWS = 'clean', 'follows'
+
+MOVES = {'mov', 'movb', 'movw', 'movl', 'movq', 'movabs', 'movzbl', 'movzwl', 'movslq', 'movsbl', 'movswl', 'lea'}
+TESTS = {'cmp', 'cmpb', 'cmpw', 'cmpl', 'cmpq', 'test', 'testb', 'testw', 'testl', 'testq'}
+# These set every flag that a jump asks for; those after them leave some as they were.
+SETTING = {'add', 'sub', 'and', 'or', 'xor', 'neg', 'adc', 'sbb'}
+PARTLY = {'imul', 'shl', 'shr', 'sar', 'inc', 'dec', 'not', 'bt', 'bts', 'btr', 'btc', 'bsr', 'bsf'}
+BY_FLAGS = {'adc', 'sbb'}
+ANEW = {'bsr', 'bsf'}
+MEMORY = 'memory'
+
+
+class NotKnown(Exception):
+    """An instruction that is not followed, so that nothing can be said of the function."""
+
+
+class State:
+    """What comes from the argument: registers and memory, the flags, and which registers hold the argument itself."""
+
+    def __init__(self, follows, itself, flags):
+        self.follows, self.itself, self.flags = frozenset(follows), frozenset(itself), flags
+
+    def key(self):
+        return self.follows, self.itself, self.flags
+
+    def joined(self, other):
+        same = self.flags == other.flags
+        return State(self.follows | other.follows, self.itself & other.itself, self.flags if same else FOLLOWS)
+
+
+def follows(state, operand):
+    """Whether what an operand holds, or where it lies, comes from the argument."""
+    return bool(registers(operand) & state.follows) or (is_memory(operand) and MEMORY in state.follows)
+
+
+def written(state, operand, comes, keeps, itself=False):
+    """The state after a write to an operand; one to a part of a register keeps what the rest comes from."""
+    if is_memory(operand):
+        return State(state.follows | {MEMORY} if comes else state.follows, state.itself, state.flags)
+    whole = registers(operand)
+    keeps = keeps or operand[1:] in NARROW
+    came = state.follows | whole if comes else state.follows if keeps else state.follows - whole
+    return State(came, state.itself | whole if itself else state.itself - whole, state.flags)
+
+
+def compared(state, one):
+    """What the flags hold after a comparison."""
+    first, second = one.operands
+    plain = is_whole(second) and registers(second) <= state.itself
+    if plain and one.name == 'test' and first == second:
+        return 0
+    if plain and one.name == 'cmp' and first.startswith('$'):
+        return int(first[1:], 0)
+    return FOLLOWS if follows(state, first) or follows(state, second) else CLEAN
+
+
+def changed(state, one):
+    """The state after an instruction that changes its last operand by the others."""
+    if one.name == 'imul' and len(one.operands) == 1:
+        raise NotKnown(one.text)
+    cleared = one.name == 'xor' and len(set(one.operands)) == 1
+    sources = one.operands[:-1] if one.name in ANEW else one.operands
+    comes = not cleared and any(follows(state, operand) for operand in sources)
+    comes = comes or (one.name in BY_FLAGS and state.flags != CLEAN)
+    flags = FOLLOWS if comes or (one.name in PARTLY and state.flags != CLEAN) else CLEAN
+    if one.name == 'bt':
+        return State(state.follows, state.itself, flags)
+    result = written(state, one.operands[-1], comes, not (cleared or one.name in ANEW))
+    return State(result.follows, result.itself, flags)
+
+
+def after(state, one):
+    """The state after an instruction that is no jump."""
+    if one.name in TESTS:
+        return State(state.follows, state.itself, compared(state, one))
+    if one.name.startswith(('set', 'cmov')):
+        comes = state.flags != CLEAN or any(follows(state, operand) for operand in one.operands)
+        return written(state, one.operands[-1], comes, one.name.startswith('cmov'))
+    if one.name in MOVES:
+        source, to = one.operands
+        copies = one.name == 'mov' and is_whole(source) and is_whole(to) and registers(source) <= state.itself
+        return written(state, to, follows(state, source), False, copies)
+    if one.name in SETTING | PARTLY:
+        return changed(state, one)
+    raise NotKnown(one.text)
+
+
+def targets(one, place, addresses):
+    """Where a jump leads, as places in the list of instructions."""
+    if one.operands[0].startswith('*'):
+        return []
+    address = int(one.operands[0], 16)
+    if address not in addresses:
+        raise NotKnown(one.text)
+    return [addresses[address]] + ([] if one.name == 'jmp' else [place + 1])
+
+
+def states(code, argument):
+    """The state before each instruction that can be reached, in the order of the code."""
+    addresses = {one.address: place for place, one in enumerate(code)}
+    before = {0: State({argument}, {argument}, CLEAN)}
+    work = [0]
+    while work:
+        place = work.pop()
+        one, state = code[place], before[place]
+        if one.name.startswith('ret'):
+            continue
+        jumps = one.name.startswith('j')
+        next_state = state if jumps else after(state, one)
+        for to in targets(one, place, addresses) if jumps else [place + 1]:
+            joined = before[to].joined(next_state) if to in before else next_state
+            if to not in before or joined.key() != before[to].key():
+                before[to] = joined
+                work.append(to)
+    return [(code[place], before[place]) for place in sorted(before)]
