@@ -31,6 +31,7 @@ CHECKS = [
     ('the table of places is the step list', tables.places),
     ('the numbers of the pool, and the constants of the header', pool.limits),
     ('the classes and their blocks', pool.classes),
+    ('the leading bits and the classes', pool.bits),
     ('the sizes of the quarter limit', pool.waste),
     ("the bench table's sizes", pool.bench),
     ('the regions that are drawn', pool.drawn),

@@ -6,6 +6,7 @@ from tables import HEADER, LIMITS, named, value
 
 CLASSES = 'crates/classes/specs/Classes.antt'
 SIZES = 'crates/classes/proofs/Sizes.antt'
+SIZE_CODE = 'crates/classes/src/size.rt'
 BENCH_SIZES = 'crates/classes/proofs/BenchSizes.antt'
 TESTS = 'crates/demands/specs/Tests.antt'
 PICTURE = 'docs/pictures/memories.svg'
@@ -74,6 +75,23 @@ def waste():
     block = min(size for size in row_of('blockSizes') if failing <= size)
     return unsaid(f'For every size from {first} to {value(last, named(LIMITS))}, less than a quarter',
                   f'At {failing} it is not less: {block - failing} of {block} bytes are a quarter')
+
+
+def bits():
+    """The table of leading bits has the digits of the code's words, and the sizes between the powers of two."""
+    first, unread = (re.search(rf'^const {name}: usize = 0x(\w+);$', read(SIZE_CODE), re.M).group(1).replace('_', '')
+                     for name in ('FIRST_CLASSES', 'UNREAD_BITS'))
+    digits = [(int(first[-1 - place], 16), int(unread[-1 - place], 16)) for place in range(8)]
+    words = {2: 'none', 1: 'one', 0: 'two'}
+    due = [['sizes', '1 to 8'] + [f'{2 ** place + 1} to {2 ** place * 2}' for place in range(3, 8)],
+           ['first class', *(str(class_of) for class_of, _ in digits[2:])],
+           ['bits after it that are added', *(words[left] for _, left in digits[2:])]]
+    table = next(table for table in tables(POOL) if table[0][0] == 'place of the leading bit')
+    result = [] if table[0][1:] == ['0 to 2', *map(str, range(3, 8))] else [f'{POOL}: the places {table[0][1:]}']
+    if digits[:3] != [(0, 2)] * 3:
+        result.append(f'{SIZE_CODE}: the places 0 to 2 differ: {digits[:3]}')
+    return result + [f'{POOL}: {row} is told; {SIZE_CODE} has {true}'
+                     for row, true in zip(table[1:], due) if row != true]
 
 
 def bench():
