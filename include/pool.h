@@ -59,7 +59,7 @@
  *   1. The two memories do not overlap, and each really has the length that is lent with it. A pointer may be null
  *      where its length is 0.
  *   2. Calls do not overlap in time: mask interrupts or lock around each single call. The longest is a step of at most
- *      174 instructions. A start, which comes before the others, also fills 8,192 bytes by your memset.
+ *      172 instructions. A start, which comes before the others, also fills 8,192 bytes by your memset.
  *   3. Each call but a start lends the control memory and the area of the last accepted start. If it lends another
  *      length, it is refused and does no harm.
  *   4. Users write only inside blocks that they hold. A block is held from the step that finishes with its unit to the

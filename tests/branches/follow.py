@@ -1,5 +1,5 @@
 """Follows what is computed from one argument through a function, along every path."""
-from listing import NARROW, is_memory, is_whole, registers
+from listing import NARROW, NotKnown, is_memory, is_whole, registers
 
 # What the flags may hold: nothing that comes from the argument, something that does, or a comparison of the argument
 # itself with a constant, which is held as that number.
@@ -7,16 +7,15 @@ CLEAN, FOLLOWS = 'clean', 'follows'
 
 MOVES = {'mov', 'movb', 'movw', 'movl', 'movq', 'movabs', 'movzbl', 'movzwl', 'movslq', 'movsbl', 'movswl', 'lea'}
 TESTS = {'cmp', 'cmpb', 'cmpw', 'cmpl', 'cmpq', 'test', 'testb', 'testw', 'testl', 'testq'}
-# These set every flag that a jump asks for; those after them leave some as they were.
+# These set every flag that a condition asks for; those after them leave some as they were.
 SETTING = {'add', 'sub', 'and', 'or', 'xor', 'neg', 'adc', 'sbb'}
 PARTLY = {'imul', 'shl', 'shr', 'sar', 'inc', 'dec', 'not', 'bt', 'bts', 'btr', 'btc', 'bsr', 'bsf'}
-BY_FLAGS = {'adc', 'sbb'}
-ANEW = {'bsr', 'bsf'}
+CONDITIONS = ['o', 'no', 'b', 'ae', 'e', 'ne', 'be', 'a', 's', 'ns', 'p', 'np', 'l', 'ge', 'le', 'g']
+JUMPS = {'j' + condition for condition in CONDITIONS}
+CHOICES = {kind + condition for kind in ('set', 'cmov') for condition in CONDITIONS}
+# What is done by the flags.
+ASKING = JUMPS | CHOICES | {'adc', 'sbb'}
 MEMORY = 'memory'
-
-
-class NotKnown(Exception):
-    """An instruction that is not followed, so that nothing can be said of the function."""
 
 
 class State:
@@ -60,27 +59,26 @@ def compared(state, one):
 
 
 def changed(state, one):
-    """The state after an instruction that changes its last operand by the others."""
-    if one.name == 'imul' and len(one.operands) == 1:
+    """The state after an instruction that changes its last operand by all of them."""
+    if len(one.operands) == 1 and one.name == 'imul' or one.name.startswith('bt') and is_memory(one.operands[-1]):
         raise NotKnown(one.text)
     cleared = one.name == 'xor' and len(set(one.operands)) == 1
-    sources = one.operands[:-1] if one.name in ANEW else one.operands
-    comes = not cleared and any(follows(state, operand) for operand in sources)
-    comes = comes or (one.name in BY_FLAGS and state.flags != CLEAN)
+    comes = not cleared and any(follows(state, operand) for operand in one.operands)
+    comes = comes or (one.name in ASKING and state.flags != CLEAN)
     flags = FOLLOWS if comes or (one.name in PARTLY and state.flags != CLEAN) else CLEAN
-    if one.name == 'bt':
-        return State(state.follows, state.itself, flags)
-    result = written(state, one.operands[-1], comes, not (cleared or one.name in ANEW))
+    result = state if one.name == 'bt' else written(state, one.operands[-1], comes, not cleared)
     return State(result.follows, result.itself, flags)
 
 
 def after(state, one):
     """The state after an instruction that is no jump."""
+    if one.relocated and not any('(%rip)' in operand for operand in one.operands):
+        raise NotKnown(one.text)
     if one.name in TESTS:
         return State(state.follows, state.itself, compared(state, one))
-    if one.name.startswith(('set', 'cmov')):
+    if one.name in CHOICES:
         comes = state.flags != CLEAN or any(follows(state, operand) for operand in one.operands)
-        return written(state, one.operands[-1], comes, one.name.startswith('cmov'))
+        return written(state, one.operands[-1], comes, True)
     if one.name in MOVES:
         source, to = one.operands
         copies = one.name == 'mov' and is_whole(source) and is_whole(to) and registers(source) <= state.itself
@@ -92,12 +90,9 @@ def after(state, one):
 
 def targets(one, place, addresses):
     """Where a jump leads, as places in the list of instructions."""
-    if one.operands[0].startswith('*'):
-        return []
-    address = int(one.operands[0], 16)
-    if address not in addresses:
+    if one.relocated or one.operands[0].startswith('*') or int(one.operands[0], 16) not in addresses:
         raise NotKnown(one.text)
-    return [addresses[address]] + ([] if one.name == 'jmp' else [place + 1])
+    return [addresses[int(one.operands[0], 16)]] + ([place + 1] if one.name in JUMPS else [])
 
 
 def states(code, argument):
@@ -107,10 +102,12 @@ def states(code, argument):
     work = [0]
     while work:
         place = work.pop()
+        if place == len(code):
+            raise NotKnown('the end of the function is passed')
         one, state = code[place], before[place]
-        if one.name.startswith('ret'):
+        if one.name == 'ret':
             continue
-        jumps = one.name.startswith('j')
+        jumps = one.name == 'jmp' or one.name in JUMPS
         next_state = state if jumps else after(state, one)
         for to in targets(one, place, addresses) if jumps else [place + 1]:
             joined = before[to].joined(next_state) if to in before else next_state

@@ -13,41 +13,54 @@ WHOLE = {name: names[0] for names in NAMES for name in names}
 NARROW = {name for names in NAMES for name in names[2:]}
 
 
+class NotKnown(Exception):
+    """Something that is not followed, so that nothing can be said of the function."""
+
+
 class Instruction:
-    """One line: its address, its name and its operands, the destination last."""
+    """One line: its address, its name and its operands, the destination last; and whether the linker completes it."""
 
     def __init__(self, address, name, text):
         self.address = address
         self.name = name
-        self.text = f'{name} {text}'.strip()
+        self.text = f'{address:x}: {name} {text}'.strip()
         self.operands = [o.strip() for o in re.split(r',(?![^(]*\))', text)] if text else []
+        self.relocated = False
 
 
 def instructions(listing):
     """The instructions of the lines of a listing, in their order."""
     found = []
-    for line in listing.splitlines():
+    for line in filter(str.strip, listing.splitlines()):
         match = LINE.match(line)
-        if match:
-            found.append(Instruction(int(match.group(1), 16), match.group(2), match.group(3)))
+        if not match:
+            raise NotKnown(line)
+        address, name, text = match.groups()
+        if name.startswith('R_'):
+            found[-1].relocated = True
+        else:
+            found.append(Instruction(int(address, 16), name, text))
     return found
 
 
 def function(library, symbol):
-    """The instructions of a function of the library; none where it has no such symbol."""
-    text = subprocess.run(['objdump', '-d', '--no-show-raw-insn', library], capture_output=True, text=True,
+    """The listing of a function of the library; empty where it has no such symbol."""
+    text = subprocess.run(['objdump', '-drz', '--no-show-raw-insn', library], capture_output=True, text=True,
                           check=True).stdout
     found = re.search(rf'^[0-9a-f]+ <{re.escape(symbol)}>:\n(.*?)(?:\n\n|\Z)', text, re.M | re.S)
-    return instructions(found.group(1)) if found else []
+    return found.group(1) if found else ''
 
 
 def registers(operand):
     """The registers that an operand names, each by its whole."""
-    return {WHOLE[name] for name in re.findall(r'%(\w+)', operand) if name in WHOLE}
+    names = set(re.findall(r'%(\w+)', operand)) - {'rip'}
+    if not names <= WHOLE.keys():
+        raise NotKnown(operand)
+    return {WHOLE[name] for name in names}
 
 
 def is_memory(operand):
-    return '(' in operand
+    return not operand.startswith(('%', '$', '*'))
 
 
 def is_whole(operand):

@@ -90,8 +90,7 @@ def bits():
     result = [] if table[0][1:] == ['0 to 2', *map(str, range(3, 8))] else [f'{POOL}: the places {table[0][1:]}']
     if digits[:3] != [(0, 2)] * 3:
         result.append(f'{SIZE_CODE}: the places 0 to 2 differ: {digits[:3]}')
-    return result + [f'{POOL}: {row} is told; {SIZE_CODE} has {true}'
-                     for row, true in zip(table[1:], due) if row != true]
+    return result + ([] if table[1:] == due else [f'{POOL}: {table[1:]} is told; {SIZE_CODE} has {due}'])
 
 
 def bench():

@@ -1,5 +1,6 @@
 -- The class of whole units by the leading bit of their bytes less one and the two bits after it, as the code computes
--- it. The numbers that the code has are arguments here, and each law is computed for every number of units.
+-- it. The numbers that the code has are arguments here. What a law asks of them, antt computes for each number of
+-- units.
 use mathlib.Core.Path.{_≡_}
 use mathlib.Core.Bool.{Bool}
 use Prim.Native.Nat.{ℕ, suc, _+_, _-_, _*_, _/_, _^_, _≤_, _<_}
@@ -49,11 +50,13 @@ abbrev pub byBits : ℕ → ℕ → ℕ → ℕ → ℕ → ℕ
 byBits d m f r u = digit d f u + next d m u / 2 ^ digit d r u
 
 -- there is a leading bit
-pub has-leading : (d : ℕ) → Always (λ n. ltb (zeros d n) 64) → (u : ℕ) → u ≤ LARGEST-UNITS → zeros d u < 64
+pub has-leading : (d : ℕ) → Always (λ n. ltb (zeros d n) 64)
+    → (u : ℕ) → u ≤ LARGEST-UNITS → zeros d u < 64
 has-leading d = low (zeros d) 64
 
 -- a word has a digit at its place
-pub has-digit : (d : ℕ) → Always (λ n. ltb (4 * place d n) 64) → (u : ℕ) → u ≤ LARGEST-UNITS → 4 * place d u < 64
+pub has-digit : (d : ℕ) → Always (λ n. ltb (4 * place d n) 64)
+    → (u : ℕ) → u ≤ LARGEST-UNITS → 4 * place d u < 64
 has-digit d = low (λ u. 4 * place d u) 64
 
 -- the sum is a byte

@@ -11,15 +11,15 @@ pub enum Choice {
     Refused(u8),
 }
 
-// Two words of hexadecimal digits. Digit p is about the sizes s with the leading bit of s - 1 at place p: the class of
-// the smallest of them, and how many of the two bits after the leading one do not matter to the class.
+// Hexadecimal digit p is the class of the smallest size s with the leading bit of s - 1 at place p.
 const FIRST_CLASSES: usize = 0x9532_1000;
 
+// Digit p is how many of the two bits after that leading bit do not matter to the class.
 const UNREAD_BITS: usize = 0x0012_2222;
 
 // The class of so many units, a block of which holds them: arithmetic on the leading bit of their bytes less one and
-// the two bits after it, without a branch. No size that is served is of 0 units; from those nothing is taken, and their
-// leading bit is at place 0. Caller: `size_class`.
+// the two bits after it, without a branch. No caller gives 0 units: there the quotient is 0, so nothing is subtracted,
+// and the lowest bit, which is set, is the leading one. Caller: `size_class`.
 fn class_of(units: usize) -> u8
     requires { ⌜ units ≤ LARGEST-UNITS ⌝ }
     ensures { λ r. ⌜ r ≡ classOf (UNIT-BYTES * units) ⌝ }
