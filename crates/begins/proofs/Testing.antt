@@ -9,23 +9,34 @@ use Rattle.limits.specs.Limits.{CONTROL-BYTES}
 use Rattle.fields.specs.Columns.{View}
 use Rattle.plain.specs.Calls.{Lengths}
 use Rattle.control.specs.Layout.{Tasks}
-use Rattle.stepped.specs.Calls.{Tested, FirstFails, not-started}
+use Rattle.stepped.specs.Calls.{Tested, FirstFails}
+use Rattle.stepped.specs.Calls.{control-fails, tasks-fail, not-started, regions-fail, area-fails, task-fails}
 use Rattle.stepped.proofs.CallTests.{failed, passed}
 use Rattle.begins.specs.TestNumber.{firstFailed, TestsAre}
 
 module _ {lent : Lengths} {v : View} {t : ℕ} where
-  pub fails : {n : ℕ} → n ≢ 0 → FirstFails lent v t n → TestsAre lent v t n
-  fails {n} h F = record { is = λ x. failed x F ∙ rw (ne-eqb n 0 h); passed = λ e. absurd (h e) }
+  -- the number of a test that fails is not 0, which tells that all pass
+  not-zero : {n : ℕ} → FirstFails lent v t n → n ≢ 0
+  not-zero (control-fails h) e = omega arith
+  not-zero (tasks-fail c h) e = omega arith
+  not-zero (not-started c h) e = omega arith
+  not-zero (regions-fail T h) e = omega arith
+  not-zero (area-fails T R h) e = omega arith
+  not-zero (task-fails T R a h) e = omega arith
+
+  -- the number of the first test that fails is told
+  pub fails : {n : ℕ} → FirstFails lent v t n → TestsAre lent v t n
+  fails {n} F = record { is = λ x. failed x F ∙ rw (ne-eqb n 0 (not-zero F)); passed = λ e. absurd (not-zero F e) }
 
   -- a test behind 4 fails by n where the pool is started; where it is not, 4 does
-  pub behind : {k n r : ℕ} → r ≡ firstFailed k n → k ≡ v Tasks → lent .control ≡ CONTROL-BYTES → n ≢ 0
+  pub behind : {k n r : ℕ} → r ≡ firstFailed k n → k ≡ v Tasks → lent .control ≡ CONTROL-BYTES
       → (1 ≤ v Tasks → FirstFails lent v t n) → TestsAre lent v t r
-  behind {k} {n} {r} e i c h F = elim (decLe 1 k) [
-    | yes some ↦ (let f : r ≡ n = e ∙ rw (ne-eqb k 0 (λ j. omega arith)) refl in
-        rw f (fails h (F (omega arith))))
+  behind {k} {n} {r} e i c F = elim (decLe 1 k) [
+    | yes some ↦ (let f : r ≡ n = e ∙ rw (ne-eqb k 0 (λ j. omega arith)) refl in rw f (fails (F (omega arith))))
     | no none ↦ (let f : r ≡ 4 = e ∙ rw (eq-eqb k 0 (omega arith)) refl in
-        rw f (fails (λ j. omega arith) (not-started c (omega arith))))
+        rw f (fails (not-started c (omega arith))))
   ]
 
+  -- 0 tells that all pass
   pub all-pass : Tested lent v t → TestsAre lent v t 0
   all-pass T = record { is = λ x. passed x T; passed = λ e. T }

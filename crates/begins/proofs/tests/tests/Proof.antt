@@ -7,33 +7,33 @@ use Rattle.begins.proofs.tests.tests.Statement.{statement}
 use Rattle.begins.proofs.tests.tests.Tie as tie
 
 returns : tie.Need-returns
-returns c = fails (λ e. omega arith) (control-fails (λ e. omega arith))
+returns c = fails (control-fails (λ e. omega arith))
 
 returns-2 : tie.Need-returns-2
-returns-2 c = fails (λ e. omega arith) (tasks-fail (omega arith) (omega arith))
+returns-2 c = fails (tasks-fail (omega arith) (omega arith))
 
 returns-3 : tie.Need-returns-3
 returns-3 c =
     let read = c .before .before .before .before in
-    behind (c .first-failed .ensures) (read .tasks .ensures) (omega arith) (λ e. omega arith)
+    behind (c .first-failed .ensures) (read .tasks .ensures) (omega arith)
     (λ some. regions-fail (omega arith, some, omega arith) (λ R. omega (arith, R .0, R .1)))
 
 returns-4 : tie.Need-returns-4
 returns-4 c =
     let read = c .before .before .before .before .before in
-    behind (c .first-failed2 .ensures) (read .tasks .ensures) (omega arith) (λ e. omega arith)
+    behind (c .first-failed2 .ensures) (read .tasks .ensures) (omega arith)
     (λ some. regions-fail (omega arith, some, omega arith) (λ R. omega (arith, R .0, R .1)))
 
 returns-5 : tie.Need-returns-5
 returns-5 c =
     let read = c .before .before .before .before .before .before in
-    behind (c .first-failed3 .ensures) (read .tasks .ensures) (omega arith) (λ e. omega arith)
+    behind (c .first-failed3 .ensures) (read .tasks .ensures) (omega arith)
     (λ some. area-fails (omega arith, some, omega arith) (omega arith, omega arith) (λ e. omega arith))
 
 returns-6 : tie.Need-returns-6
 returns-6 c =
     let read = c .before .before .before .before .before .before .before in
-    behind (c .first-failed4 .ensures) (read .tasks .ensures) (omega arith) (λ e. omega arith)
+    behind (c .first-failed4 .ensures) (read .tasks .ensures) (omega arith)
     (λ some. task-fails (omega arith, some, omega arith) (omega arith, omega arith) (omega arith) (omega arith))
 
 returns-7 : tie.Need-returns-7
