@@ -3,16 +3,16 @@
  * range test that the paper demands and no proof. The prefix of the names can be set, so that one program can hold it
  * from two compilers.
  */
-#include <stddef.h>
-
 #include "by_hand_free.h"
+#include "by_hand_strips.h"
 
 #ifndef BY_HAND
 #define BY_HAND(call) by_hand_##call
 #endif
 
 /* Tests 1, 4, 2 and 5. */
-static inline unsigned tests(const struct control *c, size_t control_length, size_t area_length, uint64_t task)
+static inline unsigned tests(const struct control *c, uint64_t control_length, uint64_t area_length,
+                             uint64_t strips_length, uint64_t task)
 {
     if (control_length != sizeof *c)
         return 1;
@@ -22,20 +22,21 @@ static inline unsigned tests(const struct control *c, size_t control_length, siz
         return 4;
     if (c->regions - 1u >= REGIONS)
         return DAMAGED;
-    if (area_length != 4096 * (size_t)c->regions)
+    if (area_length != 4096 * (uint64_t)c->regions || strips_length != STRIPS)
         return 2;
     return task < c->tasks ? 0 : 5;
 }
 
-uint64_t BY_HAND(start)(uint8_t *control, size_t control_length, const uint8_t *area, size_t area_length,
-                        uint64_t tasks)
+uint64_t BY_HAND(start)(uint8_t *control, uint64_t control_length, const uint8_t *area, uint64_t area_length,
+                        const uint8_t *strips, uint64_t strips_length, uint64_t tasks)
 {
     struct control *c = (struct control *)control;
     unsigned regions = (unsigned)(area_length / 4096);
     (void)area;
+    (void)strips;
     if (control_length != sizeof *c)
         return 1;
-    if (area_length % 4096 != 0 || area_length == 0 || area_length > 4096 * REGIONS)
+    if (area_length % 4096 != 0 || area_length == 0 || area_length > 4096 * REGIONS || strips_length != STRIPS)
         return 2;
     if (tasks == 0 || tasks > TASKS)
         return 3;
@@ -44,6 +45,7 @@ uint64_t BY_HAND(start)(uint8_t *control, size_t control_length, const uint8_t *
     c->regions = (uint8_t)regions;
     c->head[SPARE_DESCRIPTORS] = 1;
     c->head[SPARE_REGIONS] = 1;
+    c->free_nodes[0] = 1 << WHOLE;
     for (unsigned i = 0; i + 1 < DESCRIPTORS; i++)
         c->descriptor_next[i] = (uint8_t)(i + 2);
     for (unsigned i = 0; i + 1 < regions; i++)
@@ -54,20 +56,21 @@ uint64_t BY_HAND(start)(uint8_t *control, size_t control_length, const uint8_t *
     return 0;
 }
 
-uint64_t BY_HAND(begin_allocate)(uint8_t *control, size_t control_length, const uint8_t *area, size_t area_length,
-                                 uint64_t task, uint64_t size)
+uint64_t BY_HAND(begin_allocate)(uint8_t *control, uint64_t control_length, const uint8_t *area, uint64_t area_length,
+                                 const uint8_t *strips, uint64_t strips_length, uint64_t task, uint64_t size)
 {
     struct control *c = (struct control *)control;
-    unsigned refused = tests(c, control_length, area_length, task);
+    unsigned refused = tests(c, control_length, area_length, strips_length, task);
     (void)area;
+    (void)strips;
     if (refused != 0)
         return refused;
     if (c->task_place[task] != 0)
-        return c->task_place[task] > 33 ? DAMAGED : 6;
+        return c->task_place[task] >= PLACES ? DAMAGED : 6;
     if (size == 0)
         return 8;
     if (size > 256)
-        return 9;
+        return size > STRIPS ? 9 : strip_begin_take(c, task, size);
     c->task_place[task] = 1;
     c->task_class[task] = CLASS_OF_UNITS[(size + 7) / 8];
     return 0;
@@ -99,17 +102,20 @@ static inline unsigned class_of_block(const struct control *c, uint64_t unit)
     return is_first(c->descriptor_class[descriptor], (uint32_t)unit) ? c->descriptor_class[descriptor] : CLASSES + 10;
 }
 
-uint64_t BY_HAND(begin_free)(uint8_t *control, size_t control_length, const uint8_t *area, size_t area_length,
-                             uint64_t task, uint64_t unit)
+uint64_t BY_HAND(begin_free)(uint8_t *control, uint64_t control_length, const uint8_t *area, uint64_t area_length,
+                             const uint8_t *strips, uint64_t strips_length, uint64_t task, uint64_t unit)
 {
     struct control *c = (struct control *)control;
-    unsigned refused = tests(c, control_length, area_length, task);
+    unsigned refused = tests(c, control_length, area_length, strips_length, task);
     unsigned class;
     (void)area;
+    (void)strips;
     if (refused != 0)
         return refused;
     if (c->task_place[task] != 0)
-        return c->task_place[task] > 33 ? DAMAGED : 6;
+        return c->task_place[task] >= PLACES ? DAMAGED : 6;
+    if (unit >= FIRST_STRIP)
+        return strip_begin_give(c, task, unit);
     class = class_of_block(c, unit);
     if (class >= CLASSES)
         return class - CLASSES;
@@ -181,15 +187,19 @@ static inline uint64_t step_at(const struct request *r, unsigned place)
     case 31: return return_link(r);
     case 32: return return_exchange(r);
     case 33: return map_clear(r);
+    case TAKE: return strip_take(r);
+    case GIVE: return strip_give(r);
     default: return list_step(r, place);
     }
 }
 
-uint64_t BY_HAND(step)(uint8_t *control, size_t control_length, uint8_t *area, size_t area_length, uint64_t task)
+uint64_t BY_HAND(step)(uint8_t *control, uint64_t control_length, uint8_t *area, uint64_t area_length,
+                       const uint8_t *strips, uint64_t strips_length, uint64_t task)
 {
     struct control *c = (struct control *)control;
     struct request request = {c, area, 0, (unsigned)task, 0};
-    unsigned refused = tests(c, control_length, area_length, task);
+    unsigned refused = tests(c, control_length, area_length, strips_length, task);
+    (void)strips;
     if (refused != 0)
         return refused;
     if (c->task_place[task] == 0)

@@ -10,7 +10,7 @@
 #include <string.h>
 
 /* CACHES is the room for caches of a task: more than there are classes, so that an index is a shift. */
-enum { CLASSES = 13, CACHES = 16, TASKS = 8, REGIONS = 16, DESCRIPTORS = 64 };
+enum { CLASSES = 13, CACHES = 16, TASKS = 8, REGIONS = 16, DESCRIPTORS = 64, SLOTS = 128, PLACES = 36 };
 
 /* The lists: the partial descriptors of each class, by its number, and behind them these two. */
 enum { SPARE_DESCRIPTORS = CLASSES, SPARE_REGIONS, LISTS };
@@ -47,12 +47,15 @@ struct __attribute__((packed, may_alias)) control {
     uint8_t unused_5920[24];
     uint8_t tasks;
     uint8_t regions;
-    uint8_t unused_5946[2246];
+    uint8_t unused_5946[70];
+    uint64_t free_nodes[4];
+    uint8_t slot[SLOTS];
+    uint8_t unused_6176[2016];
 };
 
 typedef char control_is_8192_bytes[sizeof(struct control) == 8192 ? 1 : -1];
 
-enum { NO_BLOCK = 8192, DAMAGED = 14, FINISHED = 20 };
+enum { NO_BLOCK = 8192, DAMAGED = 14, NO_STRIP = 16, FINISHED = 20 };
 enum { EMPTY = 0, PARTIAL = 1, FULL = 2 };
 
 static const uint8_t UNITS[CLASSES] = {1, 2, 4, 6, 8, 10, 12, 14, 16, 20, 24, 28, 32};

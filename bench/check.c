@@ -1,6 +1,7 @@
 /*
  * That the contenders do the same: on random schedules each is fed the same calls on memories of its own, and after
- * every call the answers and every byte of both memories are equal. In half of the schedules each call is first made on
+ * every call the answers and every byte of the control memories and areas are equal. The strips' memory cannot be read
+ * or written. In half of the schedules each call is first made on
  * memories that were damaged, the same way in each, so that the tests for 14 are compared, too; then the damage and
  * what came of it are taken back.
  */
@@ -13,7 +14,8 @@
 #include "pool.h"
 #include "schedule.h"
 
-enum { CALLS = 60000, SEEDS = 96, CONTENDERS_MOST = 3, AREA_MOST = POOL_REGIONS_MOST * POOL_REGION_BYTES };
+enum { CALLS = 60000, SEEDS = 96, CONTENDERS_MOST = 3, PLACES_MOST = 35 };
+enum { AREA_MOST = POOL_REGIONS_MOST * POOL_REGION_BYTES };
 
 static uint8_t controls[CONTENDERS_MOST][POOL_CONTROL_BYTES];
 static uint8_t areas[CONTENDERS_MOST][AREA_MOST];
@@ -49,7 +51,9 @@ static int begin(struct schedule *schedule, size_t area_length, unsigned tasks)
         memcpy(areas[i], areas[0], area_length);
     }
     for (unsigned i = 0; i < CONTENDER_COUNT; i++)
-        if (CONTENDERS[i].start(controls[i], POOL_CONTROL_BYTES, areas[i], area_length, tasks) != 0
+        if (CONTENDERS[i].start(controls[i], POOL_CONTROL_BYTES, areas[i], area_length, untouchable_strips(),
+                                POOL_STRIPS_BYTES, tasks)
+                != 0
             || memcmp(controls[i], controls[0], POOL_CONTROL_BYTES) != 0) {
             printf("%s differs at the start\n", CONTENDERS[i].name);
             return 0;
@@ -125,9 +129,9 @@ int main(void)
     unsigned places = 0;
     for (uint64_t seed = 1; seed <= SEEDS; seed++)
         passed += (unsigned)run(seed);
-    for (unsigned place = 1; place <= 33; place++)
+    for (unsigned place = 1; place <= PLACES_MOST; place++)
         places += place_counts[place] != 0;
-    printf("%u contenders; steps were made at %u of 33 places\n", CONTENDER_COUNT, places);
+    printf("%u contenders; steps were made at %u of %d places\n", CONTENDER_COUNT, places, PLACES_MOST);
     print_counts("answers", code_counts);
     print_counts("answers on damaged memories", damaged_counts);
     printf("%u passed, %u failed\n", passed, SEEDS - passed);

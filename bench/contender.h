@@ -2,15 +2,16 @@
 #ifndef CONTENDER_H
 #define CONTENDER_H
 
-#include <stddef.h>
 #include <stdint.h>
 
 struct contender {
     const char *name;
-    uint64_t (*start)(uint8_t *, size_t, const uint8_t *, size_t, uint64_t tasks);
-    uint64_t (*begin_allocate)(uint8_t *, size_t, const uint8_t *, size_t, uint64_t task, uint64_t size);
-    uint64_t (*begin_free)(uint8_t *, size_t, const uint8_t *, size_t, uint64_t task, uint64_t unit);
-    uint64_t (*step)(uint8_t *, size_t, uint8_t *, size_t, uint64_t task);
+    uint64_t (*start)(uint8_t *, uint64_t, const uint8_t *, uint64_t, const uint8_t *, uint64_t, uint64_t tasks);
+    uint64_t (*begin_allocate)(uint8_t *, uint64_t, const uint8_t *, uint64_t, const uint8_t *, uint64_t, uint64_t task,
+                               uint64_t size);
+    uint64_t (*begin_free)(uint8_t *, uint64_t, const uint8_t *, uint64_t, const uint8_t *, uint64_t, uint64_t task,
+                           uint64_t unit);
+    uint64_t (*step)(uint8_t *, uint64_t, uint8_t *, uint64_t, const uint8_t *, uint64_t, uint64_t task);
 };
 
 /* The library first, then the pool written by hand, from gcc and, where it was compiled in, from clang. */

@@ -3,10 +3,12 @@
 #include "pool.h"
 
 #define DECLARE(prefix) \
-    uint64_t prefix##_start(uint8_t *, size_t, const uint8_t *, size_t, uint64_t); \
-    uint64_t prefix##_begin_allocate(uint8_t *, size_t, const uint8_t *, size_t, uint64_t, uint64_t); \
-    uint64_t prefix##_begin_free(uint8_t *, size_t, const uint8_t *, size_t, uint64_t, uint64_t); \
-    uint64_t prefix##_step(uint8_t *, size_t, uint8_t *, size_t, uint64_t);
+    uint64_t prefix##_start(uint8_t *, uint64_t, const uint8_t *, uint64_t, const uint8_t *, uint64_t, uint64_t); \
+    uint64_t prefix##_begin_allocate(uint8_t *, uint64_t, const uint8_t *, uint64_t, const uint8_t *, uint64_t, \
+                                     uint64_t, uint64_t); \
+    uint64_t prefix##_begin_free(uint8_t *, uint64_t, const uint8_t *, uint64_t, const uint8_t *, uint64_t, \
+                                 uint64_t, uint64_t); \
+    uint64_t prefix##_step(uint8_t *, uint64_t, uint8_t *, uint64_t, const uint8_t *, uint64_t, uint64_t);
 
 #define CALLS(prefix) prefix##_start, prefix##_begin_allocate, prefix##_begin_free, prefix##_step
 

@@ -5,8 +5,8 @@
 #include "by_hand_control.h"
 
 /* The columns of docs/LAYOUT.md, with what picks the number in a column. */
-enum index { LIST, DESCRIPTOR, WORD, TASK, CACHE, REGION, ONE };
-enum { HEAD = 0, ANCHOR = 1, TASK_HEAD = 3, TASK_ANCHOR = 4, MOVING_A_CHAIN = 25 };
+enum index { LIST, DESCRIPTOR, WORD, TASK, CACHE, REGION, ONE, NODES, SLOT };
+enum { HEAD = 0, ANCHOR = 1, TASK_HEAD = 3, TASK_ANCHOR = 4, FREE_NODES = 26, MOVING_A_CHAIN = 25 };
 
 static const struct {
     uint16_t start;
@@ -18,7 +18,7 @@ static const struct {
     {5552, 2, TASK},     {5568, 2, TASK},      {5584, 2, TASK},      {5632, 1, TASK},       {5640, 1, TASK},
     {5648, 1, TASK},     {5656, 1, TASK},      {5664, 1, TASK},      {5672, 1, TASK},       {5696, 1, DESCRIPTOR},
     {5760, 1, REGION},   {5776, 1, DESCRIPTOR}, {5840, 1, DESCRIPTOR}, {5904, 1, REGION},   {5944, 1, ONE},
-    {5945, 1, ONE},
+    {5945, 1, ONE},      {6016, 8, NODES},     {6048, 1, SLOT},
 };
 
 static unsigned class_in_hand(const struct control *c, unsigned task)
@@ -39,6 +39,9 @@ static size_t index_of(enum index kind, struct schedule *schedule, const struct 
     case TASK: return task;
     case CACHE: return CACHES * task + class;
     case REGION: return schedule_random(schedule, 2) == 0 ? region : schedule_random(schedule, REGIONS);
+    case NODES: return schedule_random(schedule, 4);
+    case SLOT:
+        return schedule_random(schedule, 2) == 0 ? c->task_unit[task] / 64u % SLOTS : schedule_random(schedule, SLOTS);
     default: return 0;
     }
 }
@@ -46,10 +49,19 @@ static size_t index_of(enum index kind, struct schedule *schedule, const struct 
 /* A number at most one away from a bound. */
 static uint32_t near_a_bound(struct schedule *schedule, const struct control *c, unsigned task)
 {
-    const uint32_t bounds[] = {1, PER_REGION[class_in_hand(c, task)], c->regions, 3, TASKS, CLASSES, REGIONS, 34,
-                               DESCRIPTORS, 512, NO_BLOCK, 65536, 512u * c->regions, c->task_place[task]};
+    const uint32_t bounds[] = {1, PER_REGION[class_in_hand(c, task)], c->regions, 3, TASKS, CLASSES, REGIONS, PLACES,
+                               DESCRIPTORS, 512, NO_BLOCK, 65536, 512u * c->regions, c->task_place[task], 16384};
     uint64_t which = schedule_random(schedule, sizeof bounds / sizeof *bounds);
     return bounds[which] + (uint32_t)schedule_random(schedule, 3) - 1;
+}
+
+/* A word with many bits set, with few or with none. */
+static uint64_t some_bits(struct schedule *schedule)
+{
+    uint64_t word = schedule_random(schedule, UINT64_MAX);
+    for (uint64_t times = schedule_random(schedule, 8); times > 0; times--)
+        word &= schedule_random(schedule, UINT64_MAX);
+    return word;
 }
 
 /* The block whose link a task reads next: the chain's block in its hand, or the top of its cache. */
@@ -72,6 +84,8 @@ static struct damage one_field(struct schedule *schedule, const struct control *
     if (column == ANCHOR || column == TASK_ANCHOR)
         damage.value = anchor_of((unsigned)schedule_random(schedule, 4), near_a_bound(schedule, c, task) % 1024,
                                  near_a_bound(schedule, c, task) % 1024);
+    if (column == FREE_NODES)
+        damage.value = some_bits(schedule);
     return damage;
 }
 

@@ -2,6 +2,8 @@
 #ifndef DAMAGE_H
 #define DAMAGE_H
 
+#include <stddef.h>
+
 #include "schedule.h"
 
 struct damage {

@@ -2,7 +2,8 @@
 """The deepest stack of each call, in bytes, from the disassembly of the library.
 
 It is counted from the caller's stack pointer on: the call's return address, what is pushed and reserved, and the same
-of a function that is called. Of memset, which a start calls and the firmware brings, the return address alone counts.
+of a function that is called, as often as it can be entered. Of memset, which a start calls and the firmware brings, the
+return address alone counts.
 Every path through the code is looked at, also those that cannot be taken, so the number is a bound.
 
 A line is workload, contender, measure, value, as of longest_path.py.
@@ -11,7 +12,7 @@ import re
 import sys
 
 sys.dont_write_bytecode = True  # nothing is left among the sources
-from longest_path import read_code, read_tables, successors  # noqa: E402
+from longest_path import entries_left, read_code, read_tables, successors  # noqa: E402
 
 ADDRESS = 8  # bytes of a return address, and of a register that is pushed
 NAMES = {
@@ -34,7 +35,15 @@ def growth(text):
     return 0
 
 
-def deepest(function, code, tables):
+def below(called, function, code, tables, entries):
+    """The stack of a function that is called; nothing where it cannot be entered once more."""
+    if called not in code:
+        return ADDRESS
+    left = entries_left(called, function, entries)
+    return deepest(called, code, tables, left) if left > 0 else 0
+
+
+def deepest(function, code, tables, entries=1):
     """The depth is the same on every path to an instruction, so that each is looked at once."""
     after = successors(function, code, tables)
     body = {line[0]: line for line in code[function]}
@@ -44,10 +53,10 @@ def deepest(function, code, tables):
         address = waiting.pop()
         _, text, called, _ = body[address]
         depth = depths[address] + growth(text)
-        below = re.search(r"-0x([0-9a-f]+)\(%rsp", text)  # used without being reserved
-        most = max(most, depth + (int(below.group(1), 16) if below else 0))
+        unreserved = re.search(r"-0x([0-9a-f]+)\(%rsp", text)
+        most = max(most, depth + (int(unreserved.group(1), 16) if unreserved else 0))
         if called and text.startswith("call"):
-            most = max(most, depth + (deepest(called, code, tables) if called in code else ADDRESS))
+            most = max(most, depth + below(called, function, code, tables, entries))
         for next_one in after[address]:
             if next_one not in depths:
                 depths[next_one] = depth

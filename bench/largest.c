@@ -1,9 +1,7 @@
 /*
- * The largest number of instructions of any single call, exactly. A child makes the calls of mixed schedules and stops
- * itself before a call that is to be counted; the parent then runs it one instruction at a time, from the first
- * instruction of the call to its return address, and counts. The child leaves the place of the step in a memory that
- * both see, so that the largest number is known for each place. (A repeated string instruction counts once for each
- * repetition.)
+ * The largest number of instructions of any single call of mixed schedules, counted exactly (one_call.h). The child
+ * leaves the place of the step in a memory that both see, so that the largest number is known for each place. The steps
+ * of strips have more cases than a schedule meets; strips.c counts them all.
  *
  * One instruction at a time is slow, so not every call is counted: of each place, and of each beginning, the first 120,
  * and every 97th call besides.
@@ -14,24 +12,21 @@
 #include <stdio.h>
 #include <stdlib.h>
 #include <string.h>
-#include <sys/mman.h>
-#include <sys/ptrace.h>
-#include <sys/user.h>
-#include <sys/wait.h>
 #include <unistd.h>
 
 #include "contender.h"
+#include "one_call.h"
 #include "pool.h"
 #include "schedule.h"
 
-enum { CALLS = 60000, FIRST = 120, EVERY = 97, PLACES = 34, TASK_PLACE = 5632 };
+enum { CALLS = 60000, FIRST = 120, EVERY = 97, PLACES = 36, STRIP_TAKE = 34, TASK_PLACE = 5632 };
 
 /* Schedules that between them reach every place, with few tasks and with many. */
 static const struct {
     uint64_t seed;
     unsigned tasks;
     unsigned regions;
-} SCHEDULES[] = {{6, 2, 5}, {10, 4, 4}, {8, 8, 4}};
+} SCHEDULES[] = {{2, 2, 5}, {21, 4, 5}, {2, 8, 5}};
 
 /* What the child tells the parent. */
 struct told {
@@ -45,16 +40,17 @@ static uint8_t area[5 * POOL_REGION_BYTES];
 static void run(const struct contender *contender, unsigned which, struct told *told)
 {
     static unsigned counted[3][PLACES];
-    size_t area_length = SCHEDULES[which].regions * (size_t)POOL_REGION_BYTES;
+    uint64_t area_length = SCHEDULES[which].regions * (uint64_t)POOL_REGION_BYTES;
     struct schedule schedule = schedule_of(SCHEDULES[which].seed, SCHEDULES[which].tasks, 0);
-    (void)contender->start(control, sizeof control, area, area_length, SCHEDULES[which].tasks);
+    (void)contender->start(control, sizeof control, area, area_length, untouchable_strips(), POOL_STRIPS_BYTES,
+                           SCHEDULES[which].tasks);
     for (unsigned i = 0; i < CALLS; i++) {
         struct call call = schedule_next(&schedule);
         uint64_t answer;
         told->kind = call.kind;
         told->place = control[TASK_PLACE + call.task];
         if (counted[call.kind][told->place]++ < FIRST || i % EVERY == 0)
-            __asm__ volatile("int3");
+            STOP_BEFORE_CALL();
         answer = make_call(contender, call, control, area, area_length);
         schedule_answered(&schedule, call, answer);
     }
@@ -62,39 +58,10 @@ static void run(const struct contender *contender, unsigned which, struct told *
 
 static void child(const struct contender *contender, struct told *told)
 {
-    ptrace(PTRACE_TRACEME, 0, NULL, NULL);
+    let_parent_follow();
     for (unsigned which = 0; which < sizeof SCHEDULES / sizeof *SCHEDULES; which++)
         run(contender, which, told);
     _exit(0);
-}
-
-static unsigned long long instruction(pid_t pid, struct user_regs_struct *registers)
-{
-    ptrace(PTRACE_GETREGS, pid, NULL, registers);
-    return registers->rip;
-}
-
-static void one_instruction(pid_t pid)
-{
-    int status;
-    ptrace(PTRACE_SINGLESTEP, pid, NULL, NULL);
-    waitpid(pid, &status, 0);
-}
-
-/* Instructions of the call that the child is about to make, which begins at `entry`. */
-static unsigned count_call(pid_t pid, unsigned long long entry)
-{
-    struct user_regs_struct registers;
-    unsigned long long back;
-    unsigned count = 0;
-    while (instruction(pid, &registers) != entry)
-        one_instruction(pid);
-    back = (unsigned long long)ptrace(PTRACE_PEEKDATA, pid, (void *)registers.rsp, NULL);
-    while (instruction(pid, &registers) != back) {
-        one_instruction(pid);
-        count += 1;
-    }
-    return count;
 }
 
 static unsigned long long entry_of(const struct contender *contender, enum kind kind)
@@ -106,29 +73,24 @@ static unsigned long long entry_of(const struct contender *contender, enum kind 
 
 static void follow(const struct contender *contender, unsigned kinds[3], unsigned places[PLACES])
 {
-    struct told *told = mmap(NULL, sizeof *told, PROT_READ | PROT_WRITE, MAP_SHARED | MAP_ANONYMOUS, -1, 0);
+    struct told *told = seen_by_both(sizeof *told);
     pid_t pid = fork();
-    int status;
     if (pid == 0)
         child(contender, told);
-    for (;;) {
-        unsigned count;
-        waitpid(pid, &status, 0);
-        if (!WIFSTOPPED(status))
-            return;
-        count = count_call(pid, entry_of(contender, told->kind));
-        if (count > kinds[told->kind])
+    while (child_stops(pid)) {
+        unsigned count = count_call(pid, entry_of(contender, told->kind));
+        if (count > kinds[told->kind] && !(told->kind == STEP && told->place >= STRIP_TAKE))
             kinds[told->kind] = count;
         if (told->kind == STEP && count > places[told->place])
             places[told->place] = count;
-        ptrace(PTRACE_CONT, pid, NULL, NULL);
+        child_runs_on(pid);
     }
 }
 
 int main(int count, char **arguments)
 {
     static const char *const NAMES[] = {"largest beginning of an allocation", "largest beginning of a free",
-                                        "largest step"};
+                                        "largest step for a block"};
     int with_places = count == 2 && strcmp(arguments[1], "--places") == 0;
     for (unsigned c = 0; c < CONTENDER_COUNT; c++) {
         unsigned kinds[3] = {0, 0, 0};
@@ -142,7 +104,7 @@ int main(int count, char **arguments)
             if (with_places)
                 printf("step at place %u\t%s\tinstructions\t%u\n", place, CONTENDERS[c].name, places[place]);
         }
-        printf("places where a step was made\t%s\tof 33\t%u\n", CONTENDERS[c].name, made);
+        printf("places where a step was made\t%s\tof 35\t%u\n", CONTENDERS[c].name, made);
     }
     return 0;
 }

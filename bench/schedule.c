@@ -1,6 +1,9 @@
+#define _DEFAULT_SOURCE
 #include "schedule.h"
 
+#include <stdlib.h>
 #include <string.h>
+#include <sys/mman.h>
 
 #include "pool.h"
 
@@ -37,11 +40,13 @@ static void next_phase(struct schedule *schedule)
 /* A call with a number that no careful caller passes, or of a task that is not ready for it. */
 static struct call odd_call(struct schedule *schedule)
 {
-    static const uint64_t NUMBERS[] = {0, 1, 257, 511, 8191, 8192, 65536, UINT64_MAX};
+    static const uint64_t NUMBERS[] = {0, 1, 257, 511, 8191, 8192, 8193, 8256, 16383, 16384, 65536, 65537, UINT64_MAX};
+    static const uint64_t LENGTHS[] = {0, POOL_STRIPS_BYTES - 1, POOL_STRIPS_BYTES + 1};
     struct call call;
     call.kind = (enum kind)schedule_random(schedule, 3);
     call.task = (unsigned)schedule_random(schedule, 10);
-    call.number = NUMBERS[schedule_random(schedule, 8)];
+    call.number = NUMBERS[schedule_random(schedule, sizeof NUMBERS / sizeof *NUMBERS)];
+    call.strips_length = schedule_random(schedule, 8) == 0 ? LENGTHS[schedule_random(schedule, 3)] : POOL_STRIPS_BYTES;
     return call;
 }
 
@@ -56,9 +61,16 @@ static uint64_t held_block(struct schedule *schedule)
     return lowest;
 }
 
+/* Any size that gets a strip; each order is as likely as another. */
+static uint64_t strip_size(struct schedule *schedule)
+{
+    uint64_t half = (uint64_t)POOL_BLOCK_MOST << schedule_random(schedule, 8);
+    return half + 1 + schedule_random(schedule, half);
+}
+
 struct call schedule_next(struct schedule *schedule)
 {
-    struct call call = {STEP, (unsigned)schedule_random(schedule, schedule->tasks), 0};
+    struct call call = {STEP, (unsigned)schedule_random(schedule, schedule->tasks), 0, POOL_STRIPS_BYTES};
     int allocate;
     if (schedule->left == 0)
         next_phase(schedule);
@@ -68,7 +80,11 @@ struct call schedule_next(struct schedule *schedule)
     if (schedule->busy[call.task])
         return call;
     allocate = schedule_random(schedule, 8) != 0 ? schedule->filling : !schedule->filling;
-    if (allocate || schedule->held_count == 0) {
+    if (schedule_random(schedule, 6) == 0 && (allocate || schedule->strip_count != 0)) {
+        call.kind = allocate ? BEGIN_ALLOCATE : BEGIN_FREE;
+        call.number = allocate ? strip_size(schedule)
+                               : schedule->strips[schedule_random(schedule, schedule->strip_count)];
+    } else if (allocate || schedule->held_count == 0) {
         call.kind = BEGIN_ALLOCATE;
         call.number = SIZES[schedule_random(schedule, schedule->sizes)];
     } else {
@@ -78,13 +94,29 @@ struct call schedule_next(struct schedule *schedule)
     return call;
 }
 
-static void drop_held(struct schedule *schedule, uint64_t unit)
+static void drop(uint16_t *held, unsigned *count, uint64_t unit)
 {
-    for (unsigned i = 0; i < schedule->held_count; i++)
-        if (schedule->held[i] == unit) {
-            schedule->held[i] = schedule->held[--schedule->held_count];
+    for (unsigned i = 0; i < *count; i++)
+        if (held[i] == unit) {
+            held[i] = held[--*count];
             return;
         }
+}
+
+static void drop_held(struct schedule *schedule, uint64_t unit)
+{
+    if (unit < POOL_STRIP_FIRST)
+        drop(schedule->held, &schedule->held_count, unit);
+    else
+        drop(schedule->strips, &schedule->strip_count, unit);
+}
+
+static void hold(struct schedule *schedule, uint16_t unit)
+{
+    if (unit < POOL_STRIP_FIRST)
+        schedule->held[schedule->held_count++] = unit;
+    else
+        schedule->strips[schedule->strip_count++] = unit;
 }
 
 void schedule_answered(struct schedule *schedule, struct call call, uint64_t answer)
@@ -100,20 +132,33 @@ void schedule_answered(struct schedule *schedule, struct call call, uint64_t ans
         return;
     }
     if (code == POOL_FINISHED && schedule->allocating[call.task])
-        schedule->held[schedule->held_count++] = (uint16_t)POOL_VALUE(answer);
-    if (code == POOL_FINISHED || code == POOL_NO_DESCRIPTOR || code == POOL_NO_REGION)
+        hold(schedule, (uint16_t)POOL_VALUE(answer));
+    if (code == POOL_FINISHED || code == POOL_NO_DESCRIPTOR || code == POOL_NO_REGION || code == POOL_NO_STRIP)
         schedule->busy[call.task] = 0;
 }
 
-uint64_t make_call(const struct contender *contender, struct call call, uint8_t *control, uint8_t *area,
-                   size_t area_length)
+const uint8_t *untouchable_strips(void)
 {
+    static void *strips;
+    if (strips == NULL)
+        strips = mmap(NULL, POOL_STRIPS_BYTES, PROT_NONE, MAP_PRIVATE | MAP_ANONYMOUS, -1, 0);
+    if (strips == MAP_FAILED)
+        abort();
+    return strips;
+}
+
+uint64_t make_call(const struct contender *contender, struct call call, uint8_t *control, uint8_t *area,
+                   uint64_t area_length)
+{
+    const uint8_t *strips = untouchable_strips();
     switch (call.kind) {
     case BEGIN_ALLOCATE:
-        return contender->begin_allocate(control, POOL_CONTROL_BYTES, area, area_length, call.task, call.number);
+        return contender->begin_allocate(control, POOL_CONTROL_BYTES, area, area_length, strips, call.strips_length,
+                                         call.task, call.number);
     case BEGIN_FREE:
-        return contender->begin_free(control, POOL_CONTROL_BYTES, area, area_length, call.task, call.number);
+        return contender->begin_free(control, POOL_CONTROL_BYTES, area, area_length, strips, call.strips_length,
+                                     call.task, call.number);
     default:
-        return contender->step(control, POOL_CONTROL_BYTES, area, area_length, call.task);
+        return contender->step(control, POOL_CONTROL_BYTES, area, area_length, strips, call.strips_length, call.task);
     }
 }

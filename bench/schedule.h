@@ -1,7 +1,7 @@
 /*
  * A random schedule of calls by several tasks, the same for the same seed and the same answers. Tasks are stepped in
  * random order, so that exchanges are lost; phases of filling and emptying follow each other, so that regions open,
- * empty and change their class, and the ends 12 and 13 occur.
+ * empty and change their class, strips are halved and joined, and the ends 12, 13 and 16 occur.
  */
 #ifndef SCHEDULE_H
 #define SCHEDULE_H
@@ -15,7 +15,8 @@ enum kind { BEGIN_ALLOCATE, BEGIN_FREE, STEP };
 struct call {
     enum kind kind;
     unsigned task;
-    uint64_t number; /* the size or the unit; unused by a step */
+    uint64_t number;        /* the size or the unit; unused by a step */
+    uint64_t strips_length; /* that is lent */
 };
 
 struct schedule {
@@ -30,6 +31,8 @@ struct schedule {
     int allocating[8];    /* whether the task's request is an allocation */
     uint16_t held[8192];  /* the blocks in users' hands */
     unsigned held_count;
+    uint16_t strips[128]; /* the strips in users' hands */
+    unsigned strip_count;
 };
 
 struct schedule schedule_of(uint64_t seed, unsigned tasks, int odd_calls);
@@ -39,8 +42,11 @@ uint64_t schedule_random(struct schedule *schedule, uint64_t below);
 struct call schedule_next(struct schedule *schedule);
 void schedule_answered(struct schedule *schedule, struct call call, uint64_t answer);
 
-/* Makes a call of a schedule. */
+/* Makes a call of a schedule. The strips' memory that it lends cannot be read or written. */
 uint64_t make_call(const struct contender *contender, struct call call, uint8_t *control, uint8_t *area,
-                   size_t area_length);
+                   uint64_t area_length);
+
+/* A memory for strips that stops the program where it is read or written. */
+const uint8_t *untouchable_strips(void);
 
 #endif

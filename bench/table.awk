@@ -1,14 +1,16 @@
 # The tables of the benchmark, as Markdown, from lines of workload, contender, measure and value. Each measure has a
-# table of the pools and one of the heaps. A ratio is the library's value by the other's: below 1 the library needs less.
+# table of the pools and one of the heaps, as far as they were measured. A ratio is the library's value by the other's:
+# below 1 the library needs less.
 BEGIN {
     FS = "\t"
     pools = split("by hand, gcc|by hand, clang", pool, "|")
-    heaps = split("glibc|jemalloc|mimalloc", heap, "|")
+    choices = split("glibc|jemalloc|mimalloc", choice, "|")
     whats = split("instructions|ns", what, "|")
 }
 
 {
     value[$1, $2, $3] = $4
+    measured[$2] = 1
     if ($2 == "library" && !(($1, $3) in known)) {
         known[$1, $3] = 1
         order[++rows] = $1
@@ -64,15 +66,18 @@ function table(title, unit, others, count, needed,    i, k, any) {
 }
 
 END {
+    for (k = 1; k <= choices; k++)
+        if (choice[k] in measured)
+            heap[++heaps] = choice[k]
     for (w = 1; w <= whats; w++) {
         table(what[w], what[w], pool, pools, "")
         table(what[w] ", for orientation", what[w], heap, heaps, heap[1])
     }
     made = "places where a step was made"
-    if ((made, "library", "of 33") in value) {
-        printf "\nPlaces where a step was made, of 33: library %s", value[made, "library", "of 33"]
+    if ((made, "library", "of 35") in value) {
+        printf "\nPlaces where a step was made, of 35: library %s", value[made, "library", "of 35"]
         for (k = 1; k <= pools; k++)
-            printf "; %s %s", pool[k], shown(made, pool[k], "of 33")
+            printf "; %s %s", pool[k], shown(made, pool[k], "of 35")
         print "."
     }
 }

@@ -7,18 +7,19 @@
 
 static uint8_t control[POOL_CONTROL_BYTES];
 static uint8_t area[POOL_REGIONS_MOST * POOL_REGION_BYTES];
+static uint8_t strips[POOL_STRIPS_BYTES];
 static uint64_t units[1024];
 
-static size_t area_length(const struct workload *workload)
+static uint64_t area_length(const struct workload *workload)
 {
-    return workload->regions * (size_t)POOL_REGION_BYTES;
+    return workload->regions * (uint64_t)POOL_REGION_BYTES;
 }
 
 /* Steps task 0 to the end of its request. A workload never meets a refusal; if it does, its figures mean nothing. */
 static uint64_t finish(const struct contender *contender, const struct workload *workload, uint64_t answer)
 {
     while (POOL_CODE(answer) == POOL_UNDER_WAY)
-        answer = contender->step(control, sizeof control, area, area_length(workload), 0);
+        answer = contender->step(control, sizeof control, area, area_length(workload), strips, sizeof strips, 0);
     if (POOL_CODE(answer) != POOL_FINISHED) {
         fprintf(stderr, "%s, %s: code %u\n", contender->name, workload->name, POOL_CODE(answer));
         exit(1);
@@ -29,17 +30,19 @@ static uint64_t finish(const struct contender *contender, const struct workload 
 static uint64_t allocate(const struct contender *contender, const struct workload *workload)
 {
     return finish(contender, workload,
-                  contender->begin_allocate(control, sizeof control, area, area_length(workload), 0, workload->size));
+                  contender->begin_allocate(control, sizeof control, area, area_length(workload), strips, sizeof strips,
+                                            0, workload->size));
 }
 
 static void release(const struct contender *contender, const struct workload *workload, uint64_t unit)
 {
     (void)finish(contender, workload,
-                 contender->begin_free(control, sizeof control, area, area_length(workload), 0, unit));
+                 contender->begin_free(control, sizeof control, area, area_length(workload), strips, sizeof strips, 0,
+                                       unit));
 }
 
-/* The hot pair: the cache has the block, and room for it. Four calls. */
-static void hot_turn(const struct contender *contender, const struct workload *workload)
+/* The hot pair: the cache has the block, and room for it. Four calls. The same calls are the pair of a strip. */
+static void one_turn(const struct contender *contender, const struct workload *workload)
 {
     release(contender, workload, allocate(contender, workload));
 }
@@ -69,15 +72,30 @@ static void chain_turn(const struct contender *contender, const struct workload 
 
 static void start_turn(const struct contender *contender, const struct workload *workload)
 {
-    (void)contender->start(control, sizeof control, area, area_length(workload), POOL_TASKS_MOST);
+    (void)contender->start(control, sizeof control, area, area_length(workload), strips, sizeof strips,
+                           POOL_TASKS_MOST);
+}
+
+/* Takes all strips of 512 bytes and gives every other one back: no piece is to be halved, and no two to be joined. */
+static void fragment(const struct contender *contender, const struct workload *workload)
+{
+    enum { ALL = POOL_STRIPS_BYTES / POOL_STRIP_LEAST };
+    for (unsigned i = 0; i < ALL; i++)
+        units[i] = allocate(contender, workload);
+    for (unsigned i = 0; i < ALL; i += 2)
+        release(contender, workload, units[i]);
 }
 
 const struct workload WORKLOADS[] = {
-    {"hot pair of 64 bytes", 64, 1, 1, hot_turn},
-    {"hot pair of 48 bytes", 48, 1, 1, hot_turn},
-    {"cold pair, carving", 64, 2, 128, carve_turn},
-    {"cold pair, chains", 64, 2, 128, chain_turn},
-    {"start", 0, POOL_REGIONS_MOST, 0, start_turn},
+    {"hot pair of 64 bytes", 64, 1, 1, one_turn, NULL},
+    {"hot pair of 48 bytes", 48, 1, 1, one_turn, NULL},
+    {"cold pair, carving", 64, 2, 128, carve_turn, NULL},
+    {"cold pair, chains", 64, 2, 128, chain_turn, NULL},
+    {"strip pair of 512 bytes, fresh", POOL_STRIP_LEAST, 1, 1, one_turn, NULL},
+    {"strip pair of 512 bytes, fragmented", POOL_STRIP_LEAST, 1, 1, one_turn, fragment},
+    {"strip pair of 65,536 bytes, fresh", POOL_STRIPS_BYTES, 1, 1, one_turn, NULL},
+    {"strip pair of 512 bytes, all 128 in turn", POOL_STRIP_LEAST, 1, 128, carve_turn, NULL},
+    {"start", 0, POOL_REGIONS_MOST, 0, start_turn, NULL},
 };
 
 const unsigned WORKLOAD_COUNT = sizeof WORKLOADS / sizeof *WORKLOADS;
@@ -85,5 +103,7 @@ const unsigned WORKLOAD_COUNT = sizeof WORKLOADS / sizeof *WORKLOADS;
 void workload_ready(const struct contender *contender, const struct workload *workload)
 {
     start_turn(contender, workload);
+    if (workload->before != NULL)
+        workload->before(contender, workload);
     workload->turn(contender, workload);
 }

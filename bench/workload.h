@@ -1,6 +1,6 @@
 /*
  * What is measured. Each workload makes a pool ready once, then does the same work again and again, and leaves the pool
- * as it found it. A pair is the allocation of one block and its free, each begun and stepped to its end.
+ * as it found it. A pair is the allocation of one block or strip and its free, each begun and stepped to its end.
  */
 #ifndef WORKLOAD_H
 #define WORKLOAD_H
@@ -9,10 +9,11 @@
 
 struct workload {
     const char *name;
-    unsigned size;    /* of the blocks */
+    unsigned size;    /* of the blocks or strips */
     unsigned regions; /* of the area */
     unsigned pairs;   /* done by one turn of the work; 0 for a start */
     void (*turn)(const struct contender *contender, const struct workload *workload);
+    void (*before)(const struct contender *contender, const struct workload *workload); /* the first turn, or NULL */
 };
 
 extern const struct workload WORKLOADS[];

@@ -1,80 +1,107 @@
 /*
- * A pool of blocks for requests of 1 to 256 bytes of 1 to 8 tasks, worked one step at a time.
+ * A pool of blocks for requests of 1 to 65,536 bytes of 1 to 8 tasks, worked one step at a time.
  *
- * ---- The two memories ----
+ * ---- The three memories ----
  *
- * The pool lives in two memories that the firmware lends to every call:
+ * The pool lives in three memories that the firmware lends to every call:
  *
- *   control  8,192 bytes, the pool's own: lists, descriptors, marks, caches, and what each task is doing;
- *   area     1 to 16 regions of 4,096 bytes, from which the blocks are cut.
+ *   control  8,192 bytes, the pool's own: lists, descriptors, marks, caches, strips, and what each task is doing;
+ *   area     1 to 16 regions of 4,096 bytes, from which the blocks of 1 to 256 bytes are cut;
+ *   strips   65,536 bytes, from which the strips are cut, for requests of 257 to 65,536 bytes.
  *
- * A unit is 8 bytes. A block is named by its first unit, counted from the start of the area.
+ * A unit is 8 bytes. A block is named by its first unit, counted from the start of the area: 0 to 8,191. A strip is
+ * named by its first unit, too, counted from 8,192 at the start of the strips' memory: 8,192 to 16,383.
+ *
+ * The strips' memory is lent to every call so that its length can be tested. No call reads or writes a byte of it:
+ * which strips there are stands in the control memory.
+ *
+ * ---- Strips ----
+ *
+ * A size from 257 up is rounded up to a power of two, at least 512. A strip has as many bytes: 512, 1,024, 2,048,
+ * 4,096, 8,192, 16,384, 32,768 or 65,536. All of them are the user's, also those behind the size.
+ *
+ * A start leaves the strips' memory as one free piece. A request takes the smallest free piece that is large enough, of
+ * equal ones that at the lowest place, and halves it until it fits: the lower half is halved further, the upper one
+ * stays a free piece. A strip that is given back becomes a free piece, and two halves of a piece that are both free
+ * become one again.
+ *
+ * A request for a strip, or the free of one, is over with its first step. A strip whose free has begun is out of its
+ * user's hands and not yet free: another task gets it only after that step.
  *
  * ---- Alignment ----
  *
  * A block of 16 bytes or more begins at a multiple of 16 bytes of the area, a block of 8 bytes at a multiple of 8. A
- * size of 1 to 8 bytes gets a block of 8, every larger one a block of 16 or more. No alignment above 16 is promised.
+ * size of 1 to 8 bytes gets a block of 8, every larger one a block of 16 or more. No alignment above 16 is promised for
+ * blocks. A strip begins at a multiple of its own length, counted from the start of the strips' memory.
  *
- * So the area has to be aligned to 16 itself (POOL_ALIGNMENT), if the blocks are to be. No call tests it: a start takes
- * any area, and on one that is aligned to 8 only, no block of 16 bytes or more is aligned to 16. In C11, C++11 and
- * later, with the alignas in front:
+ * So the area has to be aligned to 16 itself (POOL_ALIGNMENT), if the blocks are to be, and the strips' memory as its
+ * user wants it. No call tests it: a start takes any area, and on one that is aligned to 8 only, no block of 16 bytes
+ * or more is aligned to 16. In C11, C++11 and later, with the alignas in front:
  *
  *     #include <stdalign.h>
  *     alignas(POOL_ALIGNMENT) static uint8_t area[4 * POOL_REGION_BYTES];
+ *     alignas(POOL_ALIGNMENT) static uint8_t strips[POOL_STRIPS_BYTES];
  *     static uint8_t control[POOL_CONTROL_BYTES];
  *
  * In C99 and C++98, with gcc or clang:
  *
  *     static uint8_t area[4 * POOL_REGION_BYTES] __attribute__((aligned(POOL_ALIGNMENT)));
  *
- * The calls themselves need no alignment of either memory.
+ * The calls themselves need no alignment of any memory.
  *
  * ---- How a request is driven ----
  *
  * Begin it, then step until the code is not POOL_UNDER_WAY:
  *
- *     uint64_t answer = pool_begin_allocate(control, sizeof control, area, sizeof area, task, size);
+ *     uint64_t answer = pool_begin_allocate(control, sizeof control, area, sizeof area, strips, sizeof strips, task,
+ *                                           size);
  *     while (POOL_CODE(answer) == POOL_UNDER_WAY)
- *         answer = pool_step(control, sizeof control, area, sizeof area, task);
+ *         answer = pool_step(control, sizeof control, area, sizeof area, strips, sizeof strips, task);
  *     if (POOL_CODE(answer) == POOL_FINISHED)
- *         block = POOL_BLOCK(area, POOL_VALUE(answer));
+ *         block = size <= POOL_BLOCK_MOST ? POOL_BLOCK(area, POOL_VALUE(answer))
+ *                                         : POOL_STRIP(strips, POOL_VALUE(answer));
  *
- * Between any two of these calls other tasks may begin requests and step theirs. Any task may free any block.
+ * Between any two of these calls other tasks may begin requests and step theirs. Any task may free any block or strip.
  *
  * ---- What is proved ----
  *
- * Of each call, for any bytes in the memories and any numbers: its answer, and every byte of both memories afterwards,
+ * Of each call, for any bytes in the memories and any numbers: its answer, and every byte of the memories afterwards,
  * are those that the definition of the call gives. So a refused call changes no byte. This needs premises 1 and 2.
  *
  * Of all calls of a run together, under all six premises:
  *
  *   - each block of an open region is in exactly one place: a user's hands, a task or its region's chain;
- *   - no call changes a byte of a block that is in a user's hands;
- *   - the unit of a finished allocation is the first of the smallest block that holds the size (see
+ *   - each unit of the strips' memory is in exactly one strip or free piece;
+ *   - no call changes a byte of a block or strip that is in a user's hands;
+ *   - the unit of a finished allocation of 1 to 256 bytes is the first of the smallest block that holds the size (see
  *     pool_begin_allocate), at a multiple of 16 bytes of the area where that block has 16 bytes or more;
+ *   - a finished strip is at least as large as asked for and less than twice it, or 512 bytes;
+ *   - POOL_NO_STRIP comes exactly where no aligned stretch of the rounded size is free, slot of 512 bytes by slot;
  *   - POOL_DAMAGED does not occur.
  *
  * The premises, which the firmware has to see to:
  *
- *   1. The two memories do not overlap, and each really has the length that is lent with it. A pointer may be null
+ *   1. The three memories do not overlap, and each really has the length that is lent with it. A pointer may be null
  *      where its length is 0.
  *   2. Calls do not overlap in time: mask interrupts or lock around each single call. The longest is a step of at most
- *      172 instructions. A start, which comes before the others, also fills 8,192 bytes by your memset.
- *   3. Each call but a start lends the control memory and the area of the last accepted start. If it lends another
- *      length, it is refused and does no harm.
- *   4. Users write only inside blocks that they hold. A block is held from the step that finishes with its unit to the
- *      accepted beginning of its free, or to the next accepted start.
+ *      383 instructions. A start, which comes before the others, also fills 8,192 bytes by your memset.
+ *   3. Each call but a start lends the control memory, the area and the strips' memory of the last accepted start. If
+ *      it lends another length, it is refused and does no harm.
+ *   4. Users write only inside blocks and strips that they hold. A block or strip is held from the step that finishes
+ *      with its unit to the accepted beginning of its free, or to the next accepted start.
  *   5. Only the calls write the control memory. The claims hold from an accepted start on, whatever it held before. If
  *      it was not started, as one of zeros, they hold also before that start.
  *   6. Fewer than 2^32 changes of a list come between a task's read of its head and the same task's exchange.
  *
- * Not proved: how many steps a request takes while other tasks step between, and how long a call takes.
+ * A write outside a held strip, but inside the strips' memory, harms no part of the pool: it harms other users.
+ *
+ * Not proved: how many steps a request for a block takes while other tasks step between, and how long a call takes.
  *
  * ---- What keeps regions: POOL_NO_REGION and POOL_NO_DESCRIPTOR ----
  *
- * A region serves blocks of one size, its class, while it is open. It stays open while any of its blocks is in a user's
- * hands, in a task's cache or under way in a request. A task's cache of a class keeps freed blocks, up to as many as a
- * region has.
+ * Strips need no region. A region serves blocks of one size, its class, while it is open. It stays open while any of
+ * its blocks is in a user's hands, in a task's cache or under way in a request. A task's cache of a class keeps freed
+ * blocks, up to as many as a region has.
  *
  * So POOL_NO_REGION may come though nobody holds a block. An example, with one task and one region: allocate 8 bytes,
  * free them, then allocate 16. The region's blocks of 8 bytes are all in the task's cache.
@@ -89,13 +116,15 @@
  *
  *   - lend enough regions: docs/POOL.md, "How many regions do I need?";
  *   - let the same task free and allocate blocks of a class: it reuses its cache;
- *   - start again: that gives everything back, and all blocks are void.
+ *   - start again: that gives everything back, and all blocks and strips are void.
  *
  * ---- What the code needs ----
  *
- * The beginnings and the step have no loop; the start loops over the control memory alone. No call makes a system call,
- * allocates memory or keeps anything outside the two memories. The library is target/staticlib/libpool.a, made by
- * 'rt staticlib pool'. A start needs memset from the firmware's C library, and SSE2 registers. The code is for x86-64.
+ * The beginnings and the steps for blocks have no loop. A step for a strip halves or joins at most seven times, and the
+ * start loops over the control memory alone. No call makes a system call, allocates memory or keeps anything outside
+ * the memories that it is lent. The library is target/staticlib/libpool.a,
+ * made by 'rt staticlib pool'. A start needs memset from the firmware's C library, and SSE2 registers. The code is for
+ * x86-64.
  */
 #ifndef POOL_H
 #define POOL_H
@@ -113,14 +142,17 @@ extern "C" {
 #define POOL_REGION_BYTES 4096  /* of one region of the area */
 #define POOL_REGIONS_MOST 16    /* in an area; the least is 1 */
 #define POOL_TASKS_MOST 8       /* of a pool, numbered from 0; the least is 1 */
-#define POOL_BLOCK_MOST 256     /* bytes of the largest block */
+#define POOL_BLOCK_MOST 256     /* bytes of the largest block of the area; larger requests get strips */
+#define POOL_STRIPS_BYTES 65536 /* of the strips' memory, always, and the largest request */
+#define POOL_STRIP_LEAST 512    /* bytes of the smallest strip */
+#define POOL_STRIP_FIRST 8192   /* the unit at the start of the strips' memory */
 #define POOL_UNIT_BYTES 8       /* of one unit */
 #define POOL_ALIGNMENT 16       /* of every block of 16 bytes or more, if the area has it */
 
 /* ---- answers ---- */
 
 /* Every call answers one number: its code plus 256 times its value. The value is the unit of a finished allocation,
-   else 0. */
+   from POOL_STRIP_FIRST up for a strip, else 0. */
 #define POOL_CODE(answer) ((unsigned)((answer) % 256))
 #define POOL_VALUE(answer) ((answer) / 256)
 
@@ -129,15 +161,20 @@ extern "C" {
 #define POOL_BLOCK(area, unit) ((void *)((uint8_t *)(area) + POOL_UNIT_BYTES * (size_t)(unit)))
 #define POOL_UNIT(area, block) ((uint64_t)((const uint8_t *)(block) - (const uint8_t *)(area)) / POOL_UNIT_BYTES)
 
-/* The codes. POOL_UNDER_WAY and POOL_FINISHED accept a call. POOL_NO_DESCRIPTOR and POOL_NO_REGION end a request: the
-   task is idle afterwards and holds nothing new. Every other code refuses the call: it changed no byte. */
+/* The same for strips and their units, from POOL_STRIP_FIRST up. */
+#define POOL_STRIP(strips, unit) POOL_BLOCK(strips, (unit) - POOL_STRIP_FIRST)
+#define POOL_STRIP_UNIT(strips, strip) (POOL_UNIT(strips, strip) + POOL_STRIP_FIRST)
+
+/* The codes. POOL_UNDER_WAY and POOL_FINISHED accept a call. POOL_NO_DESCRIPTOR, POOL_NO_REGION and POOL_NO_STRIP end a
+   request: the task is idle afterwards and holds nothing new. Every other code refuses the call: it changed no byte. */
 enum pool_code {
     POOL_UNDER_WAY = 0, /* accepted; of a step: made, and the request goes on */
     POOL_FINISHED = 20, /* the step finished the request; the value of an allocation is its unit */
 
     /* Caused by whoever builds the pool into the firmware. */
     POOL_BAD_CONTROL = 1, /* the control memory is not 8,192 bytes */
-    POOL_BAD_AREA = 2,    /* the area's length is 0, no multiple of 4,096 or above 65,536, or not the started one */
+    POOL_BAD_AREA = 2,    /* the area's length is 0, no multiple of 4,096 or above 65,536, or not the started one; or
+                             the strips' memory is not 65,536 bytes */
     POOL_BAD_TASKS = 3,   /* a start with a number of tasks that is not 1 to 8 */
 
     /* Caused by a task's author. */
@@ -146,13 +183,17 @@ enum pool_code {
     POOL_REQUEST_IN_HAND = 6, /* the task has begun a request that is not over */
     POOL_NO_REQUEST = 7,      /* a step of a task that has begun none */
     POOL_SIZE_ZERO = 8,       /* an allocation of 0 bytes */
-    POOL_SIZE_TOO_LARGE = 9,  /* an allocation of more than 256 bytes */
-    POOL_NOT_A_BLOCK = 10,    /* a free of what is not the first unit of a block of an open region */
-    POOL_NOT_IN_USE = 11,     /* a free of such a unit that is in nobody's hands, as after a first free */
+    POOL_SIZE_TOO_LARGE = 9,  /* an allocation of more than 65,536 bytes */
+    POOL_NOT_A_BLOCK = 10,    /* a free of what is not the first unit of a block of an open region or of a strip */
+    POOL_NOT_IN_USE = 11,     /* a free of such a unit that is in nobody's hands, as after a first free; of a strip only
+                                 until the step of its free, after which no strip begins there */
 
     /* The end of an allocation, caused by blocks in hands, in caches and under way: see "What keeps regions" above. */
     POOL_NO_DESCRIPTOR = 12, /* the list of spare descriptors was empty when read */
     POOL_NO_REGION = 13,     /* the list of spare regions was empty when read; the descriptor is back on its list */
+
+    /* The end of an allocation of 257 bytes or more, caused by strips in hands and strips whose free has begun. */
+    POOL_NO_STRIP = 16, /* no free piece of the strips' memory is large enough */
 
     /* Caused by whoever writes outside their own blocks. The task keeps its request; only a start mends the pool. */
     POOL_DAMAGED = 14 /* this call read a value that the pool cannot have left there */
@@ -161,48 +202,54 @@ enum pool_code {
 /* ---- the calls ---- */
 
 /*
- * Starts a pool of so many tasks on the area, at any time and whatever the control memory holds. It fills the whole
- * control memory, and neither reads nor writes the area. All units of an earlier run are void. A refused start leaves
- * the pool as it was.
+ * Starts a pool of so many tasks on the area and the strips' memory, at any time and whatever the control memory holds.
+ * It fills the whole control memory, and neither reads nor writes the other two. All units of an earlier run are void.
+ * A refused start leaves the pool as it was.
  *
- * Answers, by the first test that fails: POOL_BAD_CONTROL, POOL_BAD_AREA, POOL_BAD_TASKS; else POOL_UNDER_WAY.
+ * Answers, by the first test that fails: POOL_BAD_CONTROL, POOL_BAD_AREA (of the area, then of the strips' memory),
+ * POOL_BAD_TASKS; else POOL_UNDER_WAY.
  */
-uint64_t pool_start(uint8_t *control, size_t control_length, const uint8_t *area, size_t area_length, uint64_t tasks);
+uint64_t pool_start(uint8_t *control, uint64_t control_length, const uint8_t *area, uint64_t area_length,
+                    const uint8_t *strips, uint64_t strips_length, uint64_t tasks);
 
 /*
- * Begins an allocation of 1 to 256 bytes for a task that is idle. It makes no step and neither reads nor writes the
- * area. The block comes with the step that answers POOL_FINISHED. A size gets the smallest block that holds it, of 8,
- * 16, 32, 48, 64, 80, 96, 112, 128, 160, 192, 224 or 256 bytes. All bytes of the block are the user's, also those
- * behind the size. Do not rely on what it holds then.
+ * Begins an allocation of 1 to 65,536 bytes for a task that is idle. It makes no step and neither reads nor writes the
+ * area. The block or strip comes with the step that answers POOL_FINISHED. A size up to 256 gets the smallest block
+ * that holds it, of 8, 16, 32, 48, 64, 80, 96, 112, 128, 160, 192, 224 or 256 bytes; a larger one gets a strip, which
+ * takes one step. All bytes of the block or strip are the user's, also those behind the size. Do not rely on what it
+ * holds then.
  *
  * Answers, by the first test that fails: POOL_BAD_CONTROL, POOL_NOT_STARTED, POOL_BAD_AREA, POOL_NO_SUCH_TASK,
  * POOL_REQUEST_IN_HAND, POOL_SIZE_ZERO, POOL_SIZE_TOO_LARGE; else POOL_UNDER_WAY. POOL_DAMAGED comes where a bad value
  * is read.
  */
-uint64_t pool_begin_allocate(uint8_t *control, size_t control_length, const uint8_t *area, size_t area_length,
-                             uint64_t task, uint64_t size);
+uint64_t pool_begin_allocate(uint8_t *control, uint64_t control_length, const uint8_t *area, uint64_t area_length,
+                             const uint8_t *strips, uint64_t strips_length, uint64_t task, uint64_t size);
 
 /*
- * Begins the free of the block that starts at this unit, by a task that is idle, whichever task allocated it. It makes
- * no step and neither reads nor writes the area. Once it is accepted, the block is out of its user's hands: nobody may
- * read or write it any more. The request still has to be stepped to its end.
+ * Begins the free of the block or strip that starts at this unit, by a task that is idle, whichever task allocated it.
+ * It makes no step and neither reads nor writes the area. Once it is accepted, the block or strip is out of its user's
+ * hands: nobody may read or write it any more. The request still has to be stepped to its end, which for a strip is one
+ * step.
  *
  * Answers, by the first test that fails: POOL_BAD_CONTROL, POOL_NOT_STARTED, POOL_BAD_AREA, POOL_NO_SUCH_TASK,
  * POOL_REQUEST_IN_HAND, POOL_NOT_A_BLOCK, POOL_NOT_IN_USE; else POOL_UNDER_WAY. POOL_DAMAGED comes where a bad value is
  * read.
  */
-uint64_t pool_begin_free(uint8_t *control, size_t control_length, const uint8_t *area, size_t area_length,
-                         uint64_t task, uint64_t unit);
+uint64_t pool_begin_free(uint8_t *control, uint64_t control_length, const uint8_t *area, uint64_t area_length,
+                         const uint8_t *strips, uint64_t strips_length, uint64_t task, uint64_t unit);
 
 /*
  * Makes one step of the request that a task has in hand. In the area it writes at most the first four bytes of one
- * block, and under the premises never of a block in a user's hands.
+ * block, and under the premises never of a block in a user's hands; a step for a strip writes none.
  *
  * Answers, by the first test that fails: POOL_BAD_CONTROL, POOL_NOT_STARTED, POOL_BAD_AREA, POOL_NO_SUCH_TASK,
  * POOL_NO_REQUEST. Else POOL_UNDER_WAY while the request goes on, and POOL_FINISHED at its end. An allocation that
- * cannot be had now ends with POOL_NO_DESCRIPTOR or POOL_NO_REGION. POOL_DAMAGED comes where a bad value is read.
+ * cannot be had now ends with POOL_NO_DESCRIPTOR, POOL_NO_REGION or POOL_NO_STRIP. POOL_DAMAGED comes where a bad value
+ * is read.
  */
-uint64_t pool_step(uint8_t *control, size_t control_length, uint8_t *area, size_t area_length, uint64_t task);
+uint64_t pool_step(uint8_t *control, uint64_t control_length, uint8_t *area, uint64_t area_length,
+                   const uint8_t *strips, uint64_t strips_length, uint64_t task);
 
 #ifdef __cplusplus
 }

@@ -11,6 +11,7 @@ NAMES = [('rax', 'eax', 'ax', 'al'), ('rbx', 'ebx', 'bx', 'bl'), ('rcx', 'ecx', 
 NAMES += [(f'r{n}', f'r{n}d', f'r{n}w', f'r{n}b') for n in range(8, 16)]
 WHOLE = {name: names[0] for names in NAMES for name in names}
 NARROW = {name for names in NAMES for name in names[2:]}
+LOWEST = {names[3] for names in NAMES}
 
 
 class NotKnown(Exception):

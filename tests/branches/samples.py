@@ -1,4 +1,4 @@
-"""Pieces of code that find something by the size in %r9 in ways that are not allowed, each by its name."""
+"""Pieces of code that find something by the size, in %r9 or on the stack, in ways that are not allowed; by name."""
 
 SAMPLES = {
     'a comparison of the size': '''
@@ -53,5 +53,50 @@ SAMPLES = {
    5: test   %r9,%r9
    8: jne    a <twice+0xa>
    a: ret
+''',
+    'a comparison of the size where it stands': '''
+   0: cmpq   $0x80,0x10(%rsp)
+   9: ja     c <in_place+0xc>
+   b: ret
+   c: ret
+''',
+    'a comparison of the size that was read from the stack': '''
+   0: mov    0x10(%rsp),%rsi
+   5: cmp    $0x80,%rsi
+   c: ja     f <from_stack+0xf>
+   e: ret
+   f: ret
+''',
+    'a comparison behind that with 256': '''
+   0: mov    0x10(%rsp),%rsi
+   5: cmp    $0x101,%rsi
+   c: jae    16 <behind+0x16>
+   e: cmp    $0x80,%rsi
+  15: ja     17 <behind+0x17>
+  16: ret
+  17: ret
+''',
+    'a test of a byte that need not be 0': '''
+   0: mov    0x10(%rsp),%rsi
+   5: shl    $0x4,%esi
+   8: test   %sil,%sil
+   b: je     e <by_byte+0xe>
+   d: ret
+   e: ret
+''',
+    'a test of a byte that was 0 before a sum': '''
+   0: mov    0x10(%rsp),%rsi
+   5: mov    %esi,%eax
+   7: shl    $0x8,%eax
+   a: add    %esi,%eax
+   c: test   %al,%al
+   e: je     11 <by_sum+0x11>
+  10: ret
+  11: ret
+''',
+    'a stack pointer that moves': '''
+   0: sub    $0x8,%rsp
+   4: mov    0x10(%rsp),%rsi
+   9: ret
 ''',
 }

@@ -13,13 +13,16 @@ enum {
     ANCHOR = 256,
     TOP = 4992,
     COUNT = 5248,
+    TASK_UNIT = 5504,
     TASK_PLACE = 5632,
     TASK_CLASS = 5640,
     DESCRIPTOR_REGION = 5776,
     DESCRIPTOR_CLASS = 5840,
     MAP = 5904,
     TASKS = 5944,
-    REGIONS = 5945
+    REGIONS = 5945,
+    FREE_NODES = 6016,
+    SLOTS = 6048
 };
 
 /* Of the two columns of caches, TOP and COUNT: the bytes of an entry, and the entries of a task, of which those from
@@ -40,8 +43,10 @@ static const struct damage WHILE_IDLE[] = {
     {"9 tasks", TASKS, POOL_TASKS_MOST + 1, ALLOCATE, 8},
     {"0 regions", REGIONS, 0, ALLOCATE, 8},
     {"17 regions", REGIONS, POOL_REGIONS_MOST + 1, STEP, 0},
-    {"place 34", TASK_PLACE, 34, ALLOCATE, 8},
-    {"place 34", TASK_PLACE, 34, FREE, 480},
+    {"place 36", TASK_PLACE, 36, ALLOCATE, 8},
+    {"place 36", TASK_PLACE, 36, ALLOCATE, 1000},
+    {"place 36", TASK_PLACE, 36, FREE, 480},
+    {"place 36", TASK_PLACE, 36, FREE, 8192},
     {"place 255", TASK_PLACE, 255, STEP, 0},
     {"a map entry of 65", MAP, 65, FREE, 480},
     {"a descriptor's region past the area", DESCRIPTOR_REGION, 1, FREE, 480},
@@ -63,7 +68,43 @@ static const struct damage WHILE_ALLOCATING[] = {
     {"a cache top past the area", TOP + ENTRY * LARGEST + 1, 2, STEP, 0},
 };
 
-enum { IDLE = sizeof WHILE_IDLE / sizeof *WHILE_IDLE, ALLOCATING = sizeof WHILE_ALLOCATING / sizeof *WHILE_ALLOCATING };
+/* Damage to a pool with strips in hand at slot 0, of 512 bytes, and at slot 1, of 512, and the task idle. */
+static const struct damage WITH_STRIPS[] = {
+    {"a slot of 17", SLOTS + 1, 17, FREE, 8256},
+    {"a slot of 255", SLOTS, 255, FREE, 8192},
+    {"a strip of 1,024 bytes at slot 1", SLOTS + 1, 2, FREE, 8256},
+    {"a strip of 1,024 bytes at slot 1, being freed", SLOTS + 1, 10, FREE, 8256},
+    {"a strip of 65,536 bytes at slot 1", SLOTS + 1, 8, FREE, 8256},
+};
+
+/* Damage to the same pool with a request for a strip of 512 bytes begun. */
+static const struct damage WHILE_TAKING[] = {
+    {"an order past the last", TASK_CLASS, 8, STEP, 0},
+    {"an order that is the last class", TASK_CLASS, CLASSES - 1, STEP, 0},
+    {"an order that is no class", TASK_CLASS, CLASSES, STEP, 0},
+};
+
+/* Damage to the same pool with the free of the strip at slot 1, unit 8,256 = 20 40, begun. */
+static const struct damage WHILE_GIVING[] = {
+    {"a class past the last, while a strip is given back", TASK_CLASS, CLASSES, STEP, 0},
+    {"a unit of the area", TASK_UNIT + 1, 0, STEP, 0},
+    {"a unit past the strips", TASK_UNIT + 1, 0x40, STEP, 0},
+    {"a unit inside a slot", TASK_UNIT, 0x41, STEP, 0},
+    {"a strip whose free has not begun", TASK_UNIT, 0, STEP, 0},
+    {"no strip", TASK_UNIT, 0x80, STEP, 0},
+    {"a slot of 0", SLOTS + 1, 0, STEP, 0},
+    {"a slot of a strip in hand", SLOTS + 1, 1, STEP, 0},
+    {"a slot of 17", SLOTS + 1, 17, STEP, 0},
+    {"a strip of 1,024 bytes at slot 1", SLOTS + 1, 10, STEP, 0},
+};
+
+enum {
+    IDLE = sizeof WHILE_IDLE / sizeof *WHILE_IDLE,
+    ALLOCATING = sizeof WHILE_ALLOCATING / sizeof *WHILE_ALLOCATING,
+    HOLDING = sizeof WITH_STRIPS / sizeof *WITH_STRIPS,
+    TAKING = sizeof WHILE_TAKING / sizeof *WHILE_TAKING,
+    GIVING = sizeof WHILE_GIVING / sizeof *WHILE_GIVING
+};
 
 static struct lent one_block_in_hand(void)
 {
@@ -87,6 +128,43 @@ static void fields(void)
         lent.control[damage->byte] = damage->value;
         check_refused(damage->name, &lent, damage->kind, 0, damage->number, POOL_DAMAGED);
     }
+}
+
+static struct lent two_strips_in_hand(void)
+{
+    struct lent lent = started(1, 1);
+    (void)allocate(&lent, 0, 512);
+    (void)allocate(&lent, 0, 512);
+    return lent;
+}
+
+static void strips(void)
+{
+    for (unsigned i = 0; i < HOLDING + TAKING + GIVING; i++) {
+        const struct damage *damage = i < HOLDING ? &WITH_STRIPS[i]
+            : i < HOLDING + TAKING                ? &WHILE_TAKING[i - HOLDING]
+                                                  : &WHILE_GIVING[i - HOLDING - TAKING];
+        struct lent lent = two_strips_in_hand();
+        if (i >= HOLDING + TAKING)
+            (void)begin_free(&lent, 0, 8256);
+        else if (i >= HOLDING)
+            (void)begin_allocate(&lent, 0, 512);
+        lent.control[damage->byte] = damage->value;
+        check_refused(damage->name, &lent, damage->kind, 0, damage->number, POOL_DAMAGED);
+    }
+}
+
+/* Every value of the tree's words is in range: with all nodes free the lowest slot is taken, with none there is no
+   strip. */
+static void nodes(void)
+{
+    struct lent lent = two_strips_in_hand();
+    memset(lent.control + FREE_NODES, 0xFF, SLOTS - FREE_NODES);
+    check_answer("all nodes free: the lowest slot", allocate(&lent, 0, 512), POOL_FINISHED, 8192);
+    memset(lent.control + FREE_NODES, 0, SLOTS - FREE_NODES);
+    check_answer("no node free: no strip", allocate(&lent, 0, 512), POOL_NO_STRIP, 0);
+    check_answer("the other strip is still to be freed", release(&lent, 0, 8256), POOL_FINISHED, 0);
+    check_answer("its slot is taken again", allocate(&lent, 0, 512), POOL_FINISHED, 8256);
 }
 
 /* A write into a free block changes its link; the step that would take the block finds it. */
@@ -151,7 +229,8 @@ static void any_bytes(void)
         keep();
         for (unsigned task = 0; task < 2; task++)
             answered = answered && POOL_CODE(begin_allocate(&lent, task, 8)) <= POOL_DAMAGED
-                && POOL_CODE(begin_free(&lent, task, 0)) <= POOL_DAMAGED && guards_whole(&lent)
+                && POOL_CODE(begin_free(&lent, task, 0)) <= POOL_DAMAGED
+                && POOL_CODE(begin_free(&lent, task, 8192)) <= POOL_DAMAGED && guards_whole(&lent)
                 && POOL_CODE(step(&lent, task)) <= POOL_DAMAGED && guards_whole(&lent);
     }
     check("control memory of any one byte is answered, within the memories", answered);
@@ -160,6 +239,8 @@ static void any_bytes(void)
 void check_damaged(void)
 {
     fields();
+    strips();
+    nodes();
     links();
     lists();
     entries_of_no_class();

@@ -10,6 +10,7 @@ static_assert(POOL_VALUE(UINT64_C(20) + 256 * 480) == 480, "the value of an answ
 static_assert(POOL_ALIGNMENT % alignof(std::max_align_t) == 0, "what malloc's blocks may hold");
 
 alignas(POOL_ALIGNMENT) uint8_t area[POOL_REGIONS_MOST * POOL_REGION_BYTES];
+alignas(POOL_ALIGNMENT) uint8_t strips[POOL_STRIPS_BYTES];
 
 void *block_of(uint64_t answer)
 {
@@ -21,7 +22,17 @@ uint64_t unit_of(const void *block)
     return POOL_UNIT(area, block);
 }
 
+void *strip_of(uint64_t answer)
+{
+    return POOL_STRIP(strips, POOL_VALUE(answer));
+}
+
+uint64_t unit_of_strip(const void *strip)
+{
+    return POOL_STRIP_UNIT(strips, strip);
+}
+
 uint64_t first_call(uint8_t *control)
 {
-    return pool_start(control, POOL_CONTROL_BYTES, area, sizeof area, POOL_TASKS_MOST);
+    return pool_start(control, POOL_CONTROL_BYTES, area, sizeof area, strips, sizeof strips, POOL_TASKS_MOST);
 }

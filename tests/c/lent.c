@@ -7,14 +7,18 @@
 enum {
     GUARD = 8192,
     AREA_MOST = POOL_REGIONS_MOST * POOL_REGION_BYTES,
-    ALL = GUARD + POOL_CONTROL_BYTES + GUARD + AREA_MOST + GUARD,
+    BEFORE_AREA = GUARD + POOL_CONTROL_BYTES + GUARD,
+    BEFORE_STRIPS = BEFORE_AREA + AREA_MOST + GUARD,
+    ALL = BEFORE_STRIPS + POOL_STRIPS_BYTES + GUARD,
     GUARD_BYTE = 0xA5,
     STEPS_MOST = 100000 /* more than any request here takes; a request that never ends is a failure, not a hang */
 };
 
-/* What lies before the area is a multiple of the alignment, so that the area is aligned as the memory is. */
+/* What lies before the area and before the strips is a multiple of the alignment, so that they are aligned as the
+   memory is. */
 static uint8_t memory[ALL] __attribute__((aligned(POOL_ALIGNMENT)));
 static uint8_t kept[ALL];
+static uint8_t kept_strips[POOL_STRIPS_BYTES];
 
 struct lent lend(unsigned regions, unsigned shift)
 {
@@ -23,10 +27,14 @@ struct lent lend(unsigned regions, unsigned shift)
     lent.control = memory + GUARD + shift;
     lent.control_length = POOL_CONTROL_BYTES;
     memset(lent.control, 0, lent.control_length);
-    lent.area = memory + GUARD + POOL_CONTROL_BYTES + GUARD + shift;
-    lent.area_length = (size_t)regions * POOL_REGION_BYTES;
+    lent.area = memory + BEFORE_AREA + shift;
+    lent.area_length = (uint64_t)regions * POOL_REGION_BYTES;
     for (size_t i = 0; i < lent.area_length; i++)
         lent.area[i] = (uint8_t)(i * 7 + 3);
+    lent.strips = memory + BEFORE_STRIPS + shift;
+    lent.strips_length = POOL_STRIPS_BYTES;
+    for (size_t i = 0; i < lent.strips_length; i++)
+        lent.strips[i] = (uint8_t)(i * 5 + i / 512);
     return lent;
 }
 
@@ -58,27 +66,42 @@ static int all_guard(const uint8_t *from, const uint8_t *to)
 int guards_whole(const struct lent *lent)
 {
     return all_guard(memory, lent->control) && all_guard(lent->control + lent->control_length, lent->area)
-        && all_guard(lent->area + lent->area_length, memory + sizeof memory);
+        && all_guard(lent->area + lent->area_length, lent->strips)
+        && all_guard(lent->strips + lent->strips_length, memory + sizeof memory);
 }
+
+void keep_strips(const struct lent *lent)
+{
+    memcpy(kept_strips, lent->strips, sizeof kept_strips);
+}
+
+int strips_as_kept(const struct lent *lent)
+{
+    return memcmp(kept_strips, lent->strips, sizeof kept_strips) == 0;
+}
+
+/* The three memories and their lengths, as every call is lent them. */
+#define LENT(lent)                                                                                                     \
+    (lent)->control, (lent)->control_length, (lent)->area, (lent)->area_length, (lent)->strips, (lent)->strips_length
 
 uint64_t start(const struct lent *lent, uint64_t tasks)
 {
-    return pool_start(lent->control, lent->control_length, lent->area, lent->area_length, tasks);
+    return pool_start(LENT(lent), tasks);
 }
 
 uint64_t begin_allocate(const struct lent *lent, uint64_t task, uint64_t size)
 {
-    return pool_begin_allocate(lent->control, lent->control_length, lent->area, lent->area_length, task, size);
+    return pool_begin_allocate(LENT(lent), task, size);
 }
 
 uint64_t begin_free(const struct lent *lent, uint64_t task, uint64_t unit)
 {
-    return pool_begin_free(lent->control, lent->control_length, lent->area, lent->area_length, task, unit);
+    return pool_begin_free(LENT(lent), task, unit);
 }
 
 uint64_t step(const struct lent *lent, uint64_t task)
 {
-    return pool_step(lent->control, lent->control_length, lent->area, lent->area_length, task);
+    return pool_step(LENT(lent), task);
 }
 
 uint64_t finish(const struct lent *lent, uint64_t task, unsigned *steps)

@@ -1,5 +1,5 @@
 /*
- * The two memories as a test lends them. Both lie in one larger memory, with guard bytes before, between and behind
+ * The three memories as a test lends them. All lie in one larger memory, with guard bytes before, between and behind
  * them, so that a write outside them shows. The guards are long enough that a test may lend more than 8,192 or 65,536
  * bytes and still speak the truth about the length.
  */
@@ -11,13 +11,15 @@
 
 struct lent {
     uint8_t *control;
-    size_t control_length;
+    uint64_t control_length;
     uint8_t *area;
-    size_t area_length;
+    uint64_t area_length;
+    uint8_t *strips;
+    uint64_t strips_length;
 };
 
 /* Fresh memories: a control memory of zeros that lies `shift` bytes past an address aligned to POOL_ALIGNMENT, and an
-   area of so many regions, filled with a pattern, that lies `shift` bytes past another. */
+   area of so many regions and the strips, filled with patterns, that lie `shift` bytes past others. */
 struct lent lend(unsigned regions, unsigned shift);
 
 /* Fresh memories, aligned, with an accepted start. */
@@ -27,6 +29,10 @@ struct lent started(unsigned regions, unsigned tasks);
 void keep(void);
 int as_kept(void);
 int guards_whole(const struct lent *lent);
+
+/* Keeps a copy of the strips' memory; whether it is still as it was kept. */
+void keep_strips(const struct lent *lent);
+int strips_as_kept(const struct lent *lent);
 
 /* The calls on these memories. */
 uint64_t start(const struct lent *lent, uint64_t tasks);

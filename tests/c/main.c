@@ -6,6 +6,7 @@ int main(void)
     check_examples();
     check_sizes();
     check_blocks();
+    check_strips();
     check_ends();
     check_regions();
     check_refusals();

@@ -1,4 +1,4 @@
-/* The two memories: written only inside, at any alignment; what a start does to them. */
+/* The memories: written only inside, at any alignment; what a start does to them. */
 #include <stdio.h>
 #include <string.h>
 
@@ -6,8 +6,8 @@
 #include "lent.h"
 #include "pool.h"
 
-/* Three tasks allocate and free in turn, one step each, in a fixed order that fills and empties regions. A sum of all
-   answers stands for the run. */
+/* Three tasks allocate and free in turn, one step each, in a fixed order that fills and empties regions, with a strip
+   now and then. A sum of all answers stands for the run. */
 static uint64_t exercise(const struct lent *lent)
 {
     static uint64_t held[4096];
@@ -24,7 +24,7 @@ static uint64_t exercise(const struct lent *lent)
             continue;
         allocating[task] = count == 0 || (turn / 6000 % 2 == 0 && count < 4000);
         if (allocating[task])
-            sum += begin_allocate(lent, task, turn % 5 == 0 ? 32 : 200);
+            sum += begin_allocate(lent, task, turn % 7 == 0 ? 300 + turn % 4000 : turn % 5 == 0 ? 32 : 200);
         else
             sum += begin_free(lent, task, held[--count]);
     }
@@ -36,6 +36,7 @@ static void alignments(void)
     uint64_t first = 0;
     for (unsigned shift = 0; shift < POOL_ALIGNMENT; shift++) {
         struct lent lent = lend(3, shift);
+        keep_strips(&lent);
         uint64_t sum = exercise(&lent);
         char name[80];
         if (shift == 0)
@@ -44,6 +45,8 @@ static void alignments(void)
         check(name, sum == first);
         sprintf(name, "memories %u bytes past an aligned address: no write outside", shift);
         check(name, guards_whole(&lent));
+        sprintf(name, "memories %u bytes past an aligned address: no write in the strips", shift);
+        check(name, strips_as_kept(&lent));
     }
 }
 
@@ -64,10 +67,14 @@ static void starts(void)
     struct lent lent = started(1, 1);
     static uint8_t area[POOL_REGION_BYTES];
     uint64_t unit = POOL_VALUE(allocate(&lent, 0, 64));
+    uint64_t strip = POOL_VALUE(allocate(&lent, 0, 6400));
+    keep_strips(&lent);
     memcpy(area, lent.area, sizeof area);
     check_answer("a start may come at any time", start(&lent, 8), POOL_UNDER_WAY, 0);
     check("a start leaves the area as it is", memcmp(area, lent.area, sizeof area) == 0);
     check_answer("after it the blocks of the earlier run are void", begin_free(&lent, 0, unit), POOL_NOT_A_BLOCK, 0);
+    check("a start leaves the strips' memory as it is", strips_as_kept(&lent));
+    check_answer("after it the strips are void, too", begin_free(&lent, 0, strip), POOL_NOT_A_BLOCK, 0);
     check_answer("after it all tasks are idle", step(&lent, 7), POOL_NO_REQUEST, 0);
     check("a start writes only the control memory", guards_whole(&lent));
     check("no byte of an earlier control memory stays", same_image(0xFF) && same_image(0x5A));

@@ -5,10 +5,16 @@
 #include "pool.h"
 #include "refused.h"
 
-static struct lent with_lengths(struct lent lent, size_t control_length, size_t area_length)
+static struct lent with_lengths(struct lent lent, uint64_t control_length, uint64_t area_length)
 {
     lent.control_length = control_length;
     lent.area_length = area_length;
+    return lent;
+}
+
+static struct lent with_strips(struct lent lent, uint64_t strips_length)
+{
+    lent.strips_length = strips_length;
     return lent;
 }
 
@@ -19,6 +25,10 @@ static void starts(void)
     check_refused("bad control, bad area, bad tasks", &other, START, 0, 0, POOL_BAD_CONTROL);
     other = with_lengths(lent, 8192, 4097);
     check_refused("bad area, bad tasks", &other, START, 0, 0, POOL_BAD_AREA);
+    other = with_strips(lent, 65535);
+    check_refused("bad strips, bad tasks", &other, START, 0, 0, POOL_BAD_AREA);
+    other = with_strips(with_lengths(lent, 8191, 4096), 0);
+    check_refused("bad control, bad strips", &other, START, 0, 1, POOL_BAD_CONTROL);
     check_refused("no tasks", &lent, START, 0, 0, POOL_BAD_TASKS);
     check_refused("9 tasks", &lent, START, 0, 9, POOL_BAD_TASKS);
     check_refused("the greatest number of tasks", &lent, START, 0, UINT64_MAX, POOL_BAD_TASKS);
@@ -33,15 +43,19 @@ static void starts(void)
 /* Tests 1, 4, 2 and 5 of a call that is no start. The number is bad, too, for every kind of call. */
 static void common_tests(enum kind kind)
 {
-    uint64_t bad = kind == FREE ? 8192 : 0;
+    uint64_t bad = kind == FREE ? 16384 : 0;
     struct lent lent = lend(2, 0);
     struct lent other = with_lengths(lent, 8193, 4096);
     check_refused("bad control, not started, bad area, no such task", &other, kind, 9, bad, POOL_BAD_CONTROL);
     other = with_lengths(lent, 8192, 4095);
     check_refused("not started, bad area, no such task", &other, kind, 9, bad, POOL_NOT_STARTED);
+    other = with_strips(lent, 0);
+    check_refused("not started, bad strips, no such task", &other, kind, 9, bad, POOL_NOT_STARTED);
     lent = started(2, 3);
     other = with_lengths(lent, 8192, 4096);
     check_refused("not the started area, no such task", &other, kind, 9, bad, POOL_BAD_AREA);
+    other = with_strips(lent, 65537);
+    check_refused("bad strips, no such task", &other, kind, 9, bad, POOL_BAD_AREA);
     check_refused("no such task, bad number", &lent, kind, 3, bad, POOL_NO_SUCH_TASK);
     check_refused("the greatest task", &lent, kind, UINT64_MAX, bad, POOL_NO_SUCH_TASK);
     check_refused("a task that is 0 in its low byte", &lent, kind, 256, bad, POOL_NO_SUCH_TASK);
@@ -55,7 +69,9 @@ static void in_hand_or_not(void)
     (void)begin_allocate(&lent, 1, 16);
     check_refused("a request in hand, size 0", &lent, ALLOCATE, 1, 0, POOL_REQUEST_IN_HAND);
     check_refused("a request in hand, size 257", &lent, ALLOCATE, 1, 257, POOL_REQUEST_IN_HAND);
-    check_refused("a request in hand, no block", &lent, FREE, 1, 8192, POOL_REQUEST_IN_HAND);
+    check_refused("a request in hand, size 65,537", &lent, ALLOCATE, 1, 65537, POOL_REQUEST_IN_HAND);
+    check_refused("a request in hand, no block", &lent, FREE, 1, 512, POOL_REQUEST_IN_HAND);
+    check_refused("a request in hand, no strip", &lent, FREE, 1, 8192, POOL_REQUEST_IN_HAND);
     check_refused("no request, while another task has one", &lent, STEP, 0, 0, POOL_NO_REQUEST);
 }
 
@@ -63,9 +79,11 @@ static void sizes(void)
 {
     struct lent lent = started(1, 1);
     check_refused("size 0", &lent, ALLOCATE, 0, 0, POOL_SIZE_ZERO);
-    check_refused("size 257", &lent, ALLOCATE, 0, 257, POOL_SIZE_TOO_LARGE);
+    check_refused("size 65,537", &lent, ALLOCATE, 0, 65537, POOL_SIZE_TOO_LARGE);
+    check_refused("size 131,072", &lent, ALLOCATE, 0, 131072, POOL_SIZE_TOO_LARGE);
     check_refused("the greatest size", &lent, ALLOCATE, 0, UINT64_MAX, POOL_SIZE_TOO_LARGE);
     check_refused("a size that is 8 in its low half", &lent, ALLOCATE, 0, 4294967304, POOL_SIZE_TOO_LARGE);
+    check_refused("a size that is 512 in its low two bytes", &lent, ALLOCATE, 0, 66048, POOL_SIZE_TOO_LARGE);
 }
 
 static void units(void)
@@ -76,7 +94,10 @@ static void units(void)
     check_refused("a unit inside a block", &lent, FREE, 0, 481, POOL_NOT_A_BLOCK);
     check_refused("a unit of the other region", &lent, FREE, 0, 992, POOL_NOT_A_BLOCK);
     check_refused("the first unit past the area", &lent, FREE, 0, 1024, POOL_NOT_A_BLOCK);
-    check_refused("the first unit past any area", &lent, FREE, 0, 8192, POOL_NOT_A_BLOCK);
+    check_refused("the last unit of any area", &lent, FREE, 0, 8191, POOL_NOT_A_BLOCK);
+    check_refused("the first unit of the strips, all free", &lent, FREE, 0, 8192, POOL_NOT_A_BLOCK);
+    check_refused("the last unit of the strips", &lent, FREE, 0, 16383, POOL_NOT_A_BLOCK);
+    check_refused("the first unit past the strips", &lent, FREE, 0, 16384, POOL_NOT_A_BLOCK);
     check_refused("the greatest unit", &lent, FREE, 0, UINT64_MAX, POOL_NOT_A_BLOCK);
     check_refused("a unit that is 480 in its low half", &lent, FREE, 0, 4294967776, POOL_NOT_A_BLOCK);
     check_refused("a unit that is 480 in its low two bytes", &lent, FREE, 0, 66016, POOL_NOT_A_BLOCK);

@@ -24,7 +24,9 @@ static void bench_rows(void)
     check("bench: size 65 gets 80", block_of(65) == 80);
     check("bench: size 256 gets 256", block_of(256) == 256);
     lent = started(1, 1);
-    check_answer("bench: size 257 is refused", begin_allocate(&lent, 0, 257), POOL_SIZE_TOO_LARGE, 0);
+    check_answer("bench: size 257 gets the first strip", allocate(&lent, 0, 257), POOL_FINISHED, 8192);
+    check_answer("bench: it has 512 bytes: the next one begins behind them", allocate(&lent, 0, 257), POOL_FINISHED,
+                 8192 + 512 / POOL_UNIT_BYTES);
 }
 
 static void smallest_that_holds(void)

@@ -3,30 +3,37 @@
 
 use crate::checks::{Checks, Parted};
 use crate::classes::CLASSES;
-use crate::coverage::PerPlace;
+use crate::coverage::{kind, PerPlace};
 use crate::damage::{self, Bytes};
 use crate::expected;
+use crate::fitting;
 use crate::frames;
 use crate::layout::{self, View};
-use crate::library;
+use crate::library::{self, Lent};
 use crate::memory::{Memory, Side};
-use crate::pool::{Answer, Request};
+use crate::pool::{Answer, Request, PLACES};
 use crate::random::Random;
+use crate::strip_steps;
+use crate::strips::{unit_of, FIRST_UNIT, LAST_UNIT, SLOTS, STRIPS};
 use std::collections::BTreeMap;
 
 const CODE: &str = "arbitrary: the answer is one of the paper's codes for the call";
 const DUE: &str = "arbitrary: the tests are made in the paper's order on the values stored";
-const OWN: &str = "arbitrary: a beginning changes its own task's fields and the mark alone";
+const OWN: &str = "arbitrary: a beginning changes its own task's fields and the mark or slot alone";
 const STEP_OWN: &str = "arbitrary: a step changes its own task's fields and what its place writes alone";
-const VALUE: &str = "arbitrary: a value comes only with 20 and is below 8,192";
+const VALUE: &str = "arbitrary: a value comes only with 20 and is below 8,192, that of a strip a slot's first unit";
 const UNCHANGED: &str = "arbitrary: a refused call changes no byte";
 const AREA_KEPT: &str = "arbitrary: a start and a beginning leave the area as it is";
 const ONE_LINK: &str = "arbitrary: a step writes at most one link of the area";
 const SAME: &str = "arbitrary: the same call on the same bytes elsewhere does the same";
-const OUTSIDE: &str = "arbitrary: bytes outside the two memories are as they were";
+const OUTSIDE: &str = "arbitrary: bytes outside the three memories are as they were";
+const STRIPS_KEPT: &str = "arbitrary: no call changes a byte of the strips' memory";
+const STRIP_STEPS: &str = "arbitrary: a strip's step does with any tree and slots what is defined";
 const IMAGE: &str = "arbitrary: a start leaves the same control memory whatever it was";
 
 const TRIALS: u64 = 1500;
+/// What the strips' memory is filled with.
+const CANARY: u8 = 0x3C;
 const LENGTHS: [usize; 16] =
     [0, 1, 7, 8, 4095, 4096, 4097, 8191, 8192, 8193, 16384, 65535, 65536, 65537, 69632, 1 << 20];
 
@@ -49,8 +56,8 @@ impl Counts {
                 .collect();
             println!("arbitrary memories, codes of {name}: {}", codes.join(", "));
         }
-        println!("arbitrary memories, 14 at places 0 to 33: {:?}", self.fourteen_at.0);
-        println!("arbitrary memories, steps done at places 0 to 33: {:?}", self.went_on_at.0);
+        println!("arbitrary memories, 14 at places 0 to 35: {:?}", self.fourteen_at.0);
+        println!("arbitrary memories, steps done at places 0 to 35: {:?}", self.went_on_at.0);
     }
 
     /// Every code that the paper gives to a kind of call, 14 with them, has to occur.
@@ -59,7 +66,7 @@ impl Counts {
             &[0, 1, 2, 3],
             &[0, 1, 2, 4, 5, 6, 8, 9, 14],
             &[0, 1, 2, 4, 5, 6, 10, 11, 14],
-            &[0, 20, 1, 2, 4, 5, 7, 12, 13, 14],
+            &[0, 20, 1, 2, 4, 5, 7, 12, 13, 14, 16],
         ];
         let all = (0..4).all(|kind| due[kind].iter().all(|&code| self.codes[kind][code] > 0));
         let _ = checks.hold("arbitrary: each code of each kind of call occurs", all, || "see the counts".to_string());
@@ -67,7 +74,7 @@ impl Counts {
         let edges = [last, last + 1, last + 2, last + 3, 255].iter().all(|class| self.classes.contains_key(class));
         let _ = checks
             .hold("arbitrary: steps of the last class and of some past it", edges, || format!("{:?}", self.classes));
-        let deep = (1..=33).all(|place| self.went_on_at.0[place] > 0);
+        let deep = (1..PLACES).all(|place| self.went_on_at.0[place] > 0);
         let _ = checks.hold("arbitrary: steps are done at each place", deep, || "see the counts".to_string());
     }
 }
@@ -82,7 +89,7 @@ pub fn round(seed: u64, checks: &mut Checks, counts: &mut Counts) {
         }
         let mut bytes = match random.below(6) {
             0 => damage::any(&mut random),
-            1 | 2 => damage::fitting(&mut random),
+            1 | 2 => fitting::fitting(&mut random),
             _ => valid.clone(),
         };
         if random.percent(85) {
@@ -101,12 +108,16 @@ fn odd_lengths(bytes: &mut Bytes, random: &mut Random) {
     if random.one_in(12) {
         bytes.area.resize(random.pick(&LENGTHS), random.next() as u8);
     }
+    if random.one_in(12) {
+        bytes.strips = random.pick(&LENGTHS);
+    }
 }
 
-/// The same bytes at two places: one pair of memories ends at a guard page, the other starts at one.
+/// The same bytes at two places: some memories end at a guard page, the others start at one. Of the strips' memories
+/// the one is filled with a canary, the other may be neither read nor written.
 struct Trial<'a> {
-    ending: (Memory, Memory),
-    starting: (Memory, Memory),
+    ending: Lent,
+    starting: Lent,
     before: Bytes,
     checks: &'a mut Checks,
     counts: &'a mut Counts,
@@ -114,8 +125,10 @@ struct Trial<'a> {
 
 impl<'a> Trial<'a> {
     fn new(bytes: &Bytes, checks: &'a mut Checks, counts: &'a mut Counts) -> Self {
-        let place = |side| (Memory::with(&bytes.control, side), Memory::with(&bytes.area, side));
-        let (ending, starting) = (place(Side::EndsAtGuard), place(Side::StartsAtGuard));
+        let place = |side| Lent::closed(&bytes.control, &bytes.area, bytes.strips, side);
+        let (mut ending, starting) = (place(Side::EndsAtGuard), place(Side::StartsAtGuard));
+        ending.strips = Memory::new(bytes.strips, Side::EndsAtGuard);
+        ending.strips.bytes_mut().fill(CANARY);
         Trial { ending, starting, before: bytes.clone(), checks, counts }
     }
 
@@ -124,9 +137,10 @@ impl<'a> Trial<'a> {
             let request = self.request(random);
             self.call(request)?;
         }
-        let kept =
-            [&self.ending, &self.starting].iter().all(|pair| pair.0.slack_untouched() && pair.1.slack_untouched());
-        self.checks.hold(OUTSIDE, kept, || "a byte beside a memory changed".to_string())
+        let kept = self.ending.slack_untouched() && self.starting.slack_untouched();
+        self.checks.hold(OUTSIDE, kept, || "a byte beside a memory changed".to_string())?;
+        let strips = self.ending.strips.bytes().iter().all(|&byte| byte == CANARY);
+        self.checks.hold(STRIPS_KEPT, strips, || "a byte of the strips' memory changed".to_string())
     }
 
     /// Mostly steps of tasks that have a request; any numbers now and then.
@@ -134,7 +148,9 @@ impl<'a> Trial<'a> {
         let task = if random.one_in(8) { random.number() } else { random.below(8) };
         match random.below(12) {
             0 => Request::Start { tasks: if random.one_in(4) { random.below(10) } else { random.number() } },
+            1 if random.one_in(2) => Request::Allocate { task, size: random.below(STRIPS + 2) },
             1 => Request::Allocate { task, size: random.number() },
+            2 if random.one_in(2) => Request::Free { task, unit: self.strip_unit(random) },
             2 => Request::Free { task, unit: random.number() },
             3 => Request::Free { task, unit: self.marked_unit(random) },
             _ => Request::Step { task },
@@ -149,22 +165,30 @@ impl<'a> Trial<'a> {
         (first..8192).find(marked).unwrap_or(first / 32 * 32)
     }
 
+    /// Mostly the first unit of a slot that has a byte.
+    fn strip_unit(&self, random: &mut Random) -> u64 {
+        let slot = random.below(SLOTS as u64 + 2) as usize;
+        let control = &self.before.control;
+        let begins = |slot: &usize| control.len() == 8192 && layout::get(control, layout::SLOT_BYTES, *slot) != 0;
+        unit_of((slot..SLOTS).find(begins).unwrap_or(slot)) + random.pick(&[0, 0, 0, 0, 1, 32])
+    }
+
     fn call(&mut self, request: Request) -> Result<(), Parted> {
         let place = self.place(request);
-        let answer = library::call(&mut self.ending.0, &mut self.ending.1, request);
+        let answer = library::call(&mut self.ending, request);
         let step = matches!(request, Request::Step { .. });
-        self.starting.1.writable(step);
-        let again = library::call(&mut self.starting.0, &mut self.starting.1, request);
-        self.starting.1.writable(true);
+        self.starting.area.writable(step);
+        let again = library::call(&mut self.starting, request);
+        self.starting.area.writable(true);
         let same = answer == again
-            && self.ending.0.bytes() == self.starting.0.bytes()
-            && self.ending.1.bytes() == self.starting.1.bytes();
+            && self.ending.control.bytes() == self.starting.control.bytes()
+            && self.ending.area.bytes() == self.starting.area.bytes();
         self.checks.hold(SAME, same, || format!("{request:?}: {answer:?} and {again:?}"))?;
         self.check_answer(request, answer)?;
         self.count(request, answer, place);
         self.check_bytes(request, answer)?;
-        self.before.control.copy_from_slice(self.ending.0.bytes());
-        self.before.area.copy_from_slice(self.ending.1.bytes());
+        self.before.control.copy_from_slice(self.ending.control.bytes());
+        self.before.area.copy_from_slice(self.ending.area.bytes());
         Ok(())
     }
 
@@ -172,7 +196,7 @@ impl<'a> Trial<'a> {
     fn place(&self, request: Request) -> usize {
         match request {
             Request::Step { task } if task < 8 && self.before.control.len() == 8192 => {
-                layout::get(&self.before.control, layout::TASK_PLACE, task as usize).min(33) as usize
+                layout::get(&self.before.control, layout::TASK_PLACE, task as usize).min(PLACES as u64 - 1) as usize
             }
             _ => 0,
         }
@@ -183,7 +207,7 @@ impl<'a> Trial<'a> {
             Request::Start { .. } => &[0, 1, 2, 3],
             Request::Allocate { .. } => &[0, 1, 2, 4, 5, 6, 8, 9, 14],
             Request::Free { .. } => &[0, 1, 2, 4, 5, 6, 10, 11, 14],
-            Request::Step { .. } => &[0, 20, 1, 2, 4, 5, 7, 12, 13, 14],
+            Request::Step { .. } => &[0, 20, 1, 2, 4, 5, 7, 12, 13, 14, 16],
         };
         self.checks.hold(CODE, codes.contains(&answer.0), || format!("{request:?}: {answer:?}"))?;
         let due = expected::code(&self.before, request);
@@ -192,18 +216,13 @@ impl<'a> Trial<'a> {
             None => !matches!(answer.0, 1..=11),
         };
         self.checks.hold(DUE, as_due, || format!("{request:?}: {answer:?} where {due:?} is due"))?;
-        let value = if answer.0 == 20 { answer.1 < 8192 } else { answer.1 == 0 };
+        let strip = (FIRST_UNIT..=LAST_UNIT).contains(&answer.1) && strip_steps::slot_of(answer.1).is_some();
+        let value = if answer.0 == 20 { answer.1 < FIRST_UNIT || strip } else { answer.1 == 0 };
         self.checks.hold(VALUE, value, || format!("{request:?}: {answer:?}"))
     }
 
     fn count(&mut self, request: Request, answer: Answer, place: usize) {
-        let kind = match request {
-            Request::Start { .. } => 0,
-            Request::Allocate { .. } => 1,
-            Request::Free { .. } => 2,
-            Request::Step { .. } => 3,
-        };
-        self.counts.codes[kind][answer.0 as usize] += 1;
+        self.counts.codes[kind(request)][answer.0 as usize] += 1;
         if let Request::Step { task } = request {
             if place != 0 && !(1..=11).contains(&answer.0) {
                 let class = layout::get(&self.before.control, layout::TASK_CLASS, task as usize);
@@ -211,14 +230,14 @@ impl<'a> Trial<'a> {
             }
             match answer.0 {
                 14 => self.counts.fourteen_at.0[place] += 1,
-                0 | 12 | 13 | 20 => self.counts.went_on_at.0[place] += 1,
+                0 | 12 | 13 | 16 | 20 => self.counts.went_on_at.0[place] += 1,
                 _ => (),
             }
         }
     }
 
     fn check_bytes(&mut self, request: Request, answer: Answer) -> Result<(), Parted> {
-        let (control, area) = (self.ending.0.bytes(), self.ending.1.bytes());
+        let (control, area) = (self.ending.control.bytes(), self.ending.area.bytes());
         let area_same = area == self.before.area;
         if matches!(answer.0, 1..=11 | 14) {
             let same = area_same && control == self.before.control;
@@ -226,9 +245,9 @@ impl<'a> Trial<'a> {
         }
         match request {
             Request::Start { tasks } => {
-                let mut fresh = Memory::with(&[0; 8192], Side::EndsAtGuard);
-                library::call(&mut fresh, &mut self.starting.1, Request::Start { tasks });
-                let same = fresh.bytes() == control;
+                let mut fresh = Lent::closed(&[0; 8192], &self.before.area, self.before.strips, Side::EndsAtGuard);
+                library::call(&mut fresh, Request::Start { tasks });
+                let same = fresh.control.bytes() == control;
                 self.checks.hold(IMAGE, same, || format!("{request:?}"))?;
                 self.checks.hold(AREA_KEPT, area_same, || format!("{request:?}"))
             }
@@ -236,6 +255,10 @@ impl<'a> Trial<'a> {
                 let place = layout::get(&self.before.control, layout::TASK_PLACE, task as usize) as usize;
                 let own = frames::step_changed_its_own(&self.before.control, control, task as usize, place);
                 self.checks.hold(STEP_OWN, own, || format!("{request:?} at place {place}: {answer:?}"))?;
+                if let Some((due, after)) = strip_steps::due(&self.before.control, task as usize, place) {
+                    let same = due == answer && area_same && strip_steps::same_pieces(&after, control);
+                    self.checks.hold(STRIP_STEPS, same, || format!("{request:?} at place {place}: {answer:?}"))?;
+                }
                 let one = area_same || one_link(&self.before.area, area);
                 self.checks.hold(ONE_LINK, one, || format!("{request:?}: {answer:?}"))
             }

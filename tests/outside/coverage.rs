@@ -2,14 +2,15 @@
 
 use crate::checks::Checks;
 use crate::classes::CLASSES;
-use crate::pool::{Answer, Event, Place, Request, State, REGIONS, TASKS};
+use crate::pool::{Answer, Event, Place, Request, State, PLACES, REGIONS, TASKS};
+use crate::strip_coverage::StripCoverage;
 use std::collections::BTreeMap;
 
-const KINDS: [&str; 4] = ["start", "begin allocate", "begin free", "step"];
+pub const KINDS: [&str; 4] = ["start", "begin allocate", "begin free", "step"];
 
 /// The codes that each kind of call can answer in a run of the paper, in the order of its tests.
 const CODES: [&[u64]; 4] =
-    [&[0, 1, 2, 3], &[0, 1, 2, 4, 5, 6, 8, 9], &[0, 1, 2, 4, 5, 6, 10, 11], &[0, 20, 1, 2, 4, 5, 7, 12, 13]];
+    [&[0, 1, 2, 3], &[0, 1, 2, 4, 5, 6, 8, 9], &[0, 1, 2, 4, 5, 6, 10, 11], &[0, 20, 1, 2, 4, 5, 7, 12, 13, 16]];
 
 /// The exchanges, by place, with what each is for.
 const EXCHANGES: [(usize, &str); 9] = [
@@ -25,11 +26,11 @@ const EXCHANGES: [(usize, &str); 9] = [
 ];
 
 /// A count for each place, idle first.
-pub struct PerPlace(pub [u64; 34]);
+pub struct PerPlace(pub [u64; PLACES]);
 
 impl Default for PerPlace {
     fn default() -> Self {
-        PerPlace([0; 34])
+        PerPlace([0; PLACES])
     }
 }
 
@@ -59,18 +60,14 @@ pub struct Coverage {
     pub restarts_under_way: u64,
     pub other_length_starts: u64,
     pub freed_by_another: u64,
+    pub strips: StripCoverage,
 }
 
 impl Coverage {
     /// Counts one call: the place before it, what it decided and what it answered.
     pub fn count(&mut self, request: Request, place: Place, event: Event, answer: Answer) {
         self.calls += 1;
-        let kind = match request {
-            Request::Start { .. } => 0,
-            Request::Allocate { .. } => 1,
-            Request::Free { .. } => 2,
-            Request::Step { .. } => 3,
-        };
+        let kind = kind(request);
         *self.codes.entry((kind, answer.0)).or_default() += 1;
         let refused = (1..=11).contains(&answer.0);
         if kind == 3 && !refused {
@@ -105,6 +102,7 @@ impl Coverage {
             }
             Event::FoundEmpty => self.found_empty.0[place] += 1,
             Event::AnchorEmpty => self.anchor_empty += 1,
+            Event::StripTaken { .. } | Event::NoStrip { .. } | Event::StripGiven { .. } => (),
             Event::Returned(was, now, came_back) => {
                 self.came_back += u64::from(came_back);
                 self.won.0[place] += 1;
@@ -115,7 +113,7 @@ impl Coverage {
 
     /// Prints the counts and fails for each thing that was never reached.
     pub fn report(&self, checks: &mut Checks) {
-        for place in 1..=33 {
+        for place in 1..PLACES {
             reached(checks, &format!("place {place} reached"), self.places.0[place]);
         }
         for (place, what) in EXCHANGES {
@@ -152,12 +150,13 @@ impl Coverage {
         reached(checks, "starts while requests are under way", self.restarts_under_way);
         reached(checks, "starts on an area of another length", self.other_length_starts);
         reached(checks, "frees by a task that did not allocate the block", self.freed_by_another);
+        self.strips.report(checks);
     }
 
     /// A short form: one line for each group of counts.
     pub fn print(&self) {
         println!("calls compared: {}; comparisons of structure: {}", self.calls, self.comparisons);
-        println!("steps by place 1 to 33: {:?}", &self.places.0[1..]);
+        println!("steps by place 1 to 35: {:?}", &self.places.0[1..]);
         for (place, what) in EXCHANGES {
             let (won, lost, same) = (self.won.0[place], self.lost.0[place], self.lost_same_top.0[place]);
             let again = format!("{same} of them with the same one first again");
@@ -168,6 +167,7 @@ impl Coverage {
         println!("starts by tasks: {:?}; by regions: {:?}", &self.tasks[1..], &self.regions[1..]);
         println!("by class, allocations finished: {:?}; regions opened: {:?}", self.allocated, self.opened);
         println!("by class, chains taken: {:?}; groups returned: {:?}", self.taken, self.returned);
+        self.strips.print();
         for (kind, name) in KINDS.iter().enumerate() {
             let codes: Vec<String> = self
                 .codes
@@ -180,7 +180,17 @@ impl Coverage {
     }
 }
 
-fn reached(checks: &mut Checks, name: &str, times: u64) {
+/// The kind of a call, by its name's place in the list.
+pub fn kind(request: Request) -> usize {
+    match request {
+        Request::Start { .. } => 0,
+        Request::Allocate { .. } => 1,
+        Request::Free { .. } => 2,
+        Request::Step { .. } => 3,
+    }
+}
+
+pub fn reached(checks: &mut Checks, name: &str, times: u64) {
     let name = format!("covered: {name}");
     for _ in 0..times.min(1) {
         let _ = checks.hold(&name, true, String::new);

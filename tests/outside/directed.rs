@@ -6,6 +6,7 @@ use crate::driver::Driver;
 use crate::lists::{LISTS, MOVES, SPARE_DESCRIPTORS, SPARE_REGIONS};
 use crate::pool::{Answer, Call, Request, REGIONS};
 use crate::schedules::Schedule;
+use crate::strips::STRIPS;
 use crate::styles;
 
 /// Steps a task until its request finishes or ends; answers how many steps that took and the last answer.
@@ -21,7 +22,7 @@ pub fn steps_to_the_end(driver: &mut Driver, task: u64) -> Result<(u64, Answer),
 }
 
 pub fn start(driver: &mut Driver, tasks: u64, regions: u64) -> Result<(), Parted> {
-    let call = Call { control: 8192, area: regions * 4096, request: Request::Start { tasks } };
+    let call = Call { control: 8192, area: regions * 4096, strips: STRIPS, request: Request::Start { tasks } };
     driver.call(call).map(|_| ())
 }
 
@@ -69,7 +70,8 @@ pub fn bench_refusals(driver: &mut Driver) -> Result<(), Parted> {
     Ok(())
 }
 
-/// Every size from 0 to 300: the class is seen by the units that two allocations in a fresh pool answer.
+/// Every size from 0 to 300: the class is seen by the units that two allocations in a fresh pool answer; above 256 they
+/// are strips.
 pub fn every_size(driver: &mut Driver) -> Result<(), Parted> {
     for size in 0..=300 {
         start(driver, 1, 1)?;

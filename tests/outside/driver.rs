@@ -2,46 +2,44 @@
 //! a caller see is compared after it.
 
 use crate::checks::{Checks, Parted};
-use crate::classes::{block, class_of, is_aligned, is_first, UNIT};
+use crate::classes::{class_of, is_aligned, is_first, UNIT};
 use crate::coverage::Coverage;
 use crate::faults::Fault;
-use crate::layout::View;
-use crate::library;
+use crate::layout::{self, View};
+use crate::library::{self, Lent};
 use crate::lists::LISTS;
 use crate::memory::{Memory, Side};
+use crate::pieces;
 use crate::pool::{Answer, Call, Place, Pool, Request, ALL_UNITS, CONTROL, TASKS};
 use crate::random::Random;
+use crate::slots::Slots;
+use crate::strip_checks::STRIPS_KEPT;
+use crate::strips::{LEAST_SIZE, STRIPS};
 use crate::structure;
+use crate::users::Held;
 
 pub const ALIGNED: &str = "a block of 16 bytes or more starts at a multiple of 16 bytes of the area";
 pub const OF_CLASS: &str = "a finished allocation's unit is the first of a block of the size's class";
 pub const ANSWERS: &str = "answers of library and plain pool agree";
 pub const NO_14: &str = "14 does not occur in a run";
-pub const UNCHANGED: &str = "a refused call changes no byte of either memory";
+pub const UNCHANGED: &str = "a refused call changes no byte of any memory";
 pub const HELD: &str = "a block in a user's hands is touched by no call";
 pub const ONE_LINK: &str = "a step writes at most one link of the area, a start or a beginning none";
-pub const OUTSIDE: &str = "bytes outside the two memories are as they were";
-
-/// A block in a user's hands.
-#[derive(Clone, Copy, Debug)]
-pub struct Held {
-    pub unit: u64,
-    pub class: usize,
-    /// The task that allocated it.
-    pub task: u64,
-}
+pub const OUTSIDE: &str = "bytes outside the three memories are as they were";
 
 pub struct Driver<'a> {
     pub pool: Pool,
-    pub control: Memory,
-    pub area: Memory,
-    control_before: Vec<u8>,
-    area_before: Vec<u8>,
-    /// The size that each task's allocation under way has asked for.
-    asked: [Option<u64>; TASKS],
+    pub lent: Lent,
+    pub control_before: Vec<u8>,
+    pub area_before: Vec<u8>,
+    pub strips_before: Vec<u8>,
+    /// The size that each task's allocation under way has asked for, and the strip that each task's free gives back.
+    pub asked: [Option<u64>; TASKS],
+    pub freeing: [Option<Held>; TASKS],
     pub held: Vec<Held>,
     /// For each unit of the area, whether it lies in a held block.
-    covered: Vec<bool>,
+    pub covered: Vec<bool>,
+    pub slots: Slots,
     pub tags_at_start: [u32; LISTS],
     pub checks: &'a mut Checks,
     pub coverage: &'a mut Coverage,
@@ -51,21 +49,25 @@ pub struct Driver<'a> {
 }
 
 impl<'a> Driver<'a> {
-    /// A control memory of zeros, "such a pool" that is not started, and an area of random bytes.
+    /// A control memory of zeros, "such a pool" that is not started, and an area and strips of random bytes.
     pub fn new(regions: u64, seed: u64, fault: Fault, checks: &'a mut Checks, coverage: &'a mut Coverage) -> Self {
         let mut random = Random::new(seed);
         let control = Memory::with(&[0; CONTROL as usize], Side::EndsAtGuard);
         let mut area = Memory::new(regions as usize * 4096, Side::EndsAtGuard);
+        let mut strips = Memory::new(STRIPS as usize, Side::EndsAtGuard);
         random.fill(area.bytes_mut());
+        random.fill(strips.bytes_mut());
         Driver {
             pool: Pool::new(fault),
             control_before: control.bytes().to_vec(),
             area_before: area.bytes().to_vec(),
-            control,
-            area,
+            strips_before: strips.bytes().to_vec(),
+            lent: Lent { control, area, strips },
             asked: [None; TASKS],
+            freeing: [None; TASKS],
             held: Vec::new(),
             covered: vec![false; ALL_UNITS],
+            slots: Slots::new(),
             tags_at_start: [0; LISTS],
             checks,
             coverage,
@@ -76,7 +78,7 @@ impl<'a> Driver<'a> {
 
     /// A call with the true lengths.
     pub fn ask(&mut self, request: Request) -> Result<Answer, Parted> {
-        self.call(Call { control: CONTROL, area: self.area.len() as u64, request })
+        self.call(Call { control: CONTROL, area: self.lent.area.len() as u64, strips: STRIPS, request })
     }
 
     /// One call of both, compared.
@@ -85,15 +87,17 @@ impl<'a> Driver<'a> {
         let place = self.place_of(call.request);
         let busy = self.pool.tasks.iter().any(|task| task.place != Place::Idle);
         let expected = self.pool.call(&call);
-        if call.control != CONTROL || call.area != self.area.len() as u64 {
+        if call.control != CONTROL || call.area != self.lent.area.len() as u64 || call.strips != STRIPS {
             self.call_with_other_lengths(call, expected)?;
         } else {
-            let answer = library::call(&mut self.control, &mut self.area, call.request);
+            let answer = library::call(&mut self.lent, call.request);
             self.check_allocation(call.request, answer)?;
             self.compare_answers(call, answer, expected)?;
+            self.compare_strips(call, place, expected)?;
             self.compare_memories(call, expected)?;
         }
         self.coverage.count(call.request, place, self.pool.event, expected);
+        self.coverage.strips.count(&call, &self.pool, expected);
         self.count_more(call, place, busy, expected);
         self.follow(call.request, place, expected);
         Ok(expected)
@@ -103,6 +107,8 @@ impl<'a> Driver<'a> {
         match (call.request, answer.0) {
             (Request::Start { tasks }, 0) => {
                 self.coverage.restarts_under_way += u64::from(busy);
+                self.coverage.strips.restarts_held += u64::from(self.held.iter().any(Held::is_strip));
+                self.coverage.strips.restarts_begun += u64::from(self.freeing.iter().any(Option::is_some));
                 self.coverage.count_start(tasks, call.area / 4096);
             }
             (Request::Step { task }, 0) => {
@@ -127,18 +133,21 @@ impl<'a> Driver<'a> {
         }
     }
 
-    /// Holds the unit by which the library finishes an allocation against the table of classes, without the plain pool.
+    /// Holds the unit by which the library finishes an allocation against the table of classes, or that of a strip
+    /// against the slots, without the plain pool.
     fn check_allocation(&mut self, request: Request, (code, unit): Answer) -> Result<(), Parted> {
-        let asked = match request {
-            Request::Step { task } if code == 20 => self.asked.get_mut(task as usize).and_then(Option::take),
-            _ => None,
-        };
-        let Some(size) = asked else { return Ok(()) };
-        let class = class_of(size);
-        self.checks.hold(ALIGNED, is_aligned(class, unit), || format!("{size} bytes at unit {unit}"))?;
-        self.checks.hold(OF_CLASS, is_first(class, unit), || format!("{size} bytes at unit {unit}"))?;
-        self.coverage.allocated[class] += 1;
-        Ok(())
+        let Request::Step { task } = request else { return Ok(()) };
+        match self.asked.get(task as usize).copied().flatten() {
+            Some(size) if size >= LEAST_SIZE => self.check_strip(size, (code, unit)),
+            Some(size) if code == 20 => {
+                let class = class_of(size);
+                self.checks.hold(ALIGNED, is_aligned(class, unit), || format!("{size} bytes at unit {unit}"))?;
+                self.checks.hold(OF_CLASS, is_first(class, unit), || format!("{size} bytes at unit {unit}"))?;
+                self.coverage.allocated[class] += 1;
+                Ok(())
+            }
+            _ => Ok(()),
+        }
     }
 
     fn compare_answers(&mut self, call: Call, answer: Answer, expected: Answer) -> Result<(), Parted> {
@@ -149,11 +158,11 @@ impl<'a> Driver<'a> {
         self.checks.hold(NO_14, answer.0 != 14, || format!("{call:?}"))
     }
 
-    /// Compares both memories with what they were before the call, then keeps them as they are now.
+    /// Compares control and area with what they were before the call, then keeps them as they are now.
     fn compare_memories(&mut self, call: Call, expected: Answer) -> Result<(), Parted> {
-        let changed = changed_bytes(&self.area_before, self.area.bytes());
+        let changed = changed_bytes(&self.area_before, self.lent.area.bytes());
         if (1..=11).contains(&expected.0) {
-            let same = changed.is_empty() && self.control_before == self.control.bytes();
+            let same = changed.is_empty() && self.control_before == self.lent.control.bytes();
             return self.checks.hold(UNCHANGED, same, || format!("{call:?}"));
         }
         let covered = &self.covered;
@@ -162,9 +171,9 @@ impl<'a> Driver<'a> {
         let step = matches!(call.request, Request::Step { .. });
         let one = changed.iter().all(|&byte| step && byte % 8 < 4 && byte / 8 == changed[0] / 8);
         self.checks.hold(ONE_LINK, one, || format!("{call:?} changes bytes {changed:?}"))?;
-        self.control_before.copy_from_slice(self.control.bytes());
+        self.control_before.copy_from_slice(self.lent.control.bytes());
         for byte in changed {
-            self.area_before[byte] = self.area.bytes()[byte];
+            self.area_before[byte] = self.lent.area.bytes()[byte];
         }
         Ok(())
     }
@@ -173,79 +182,39 @@ impl<'a> Driver<'a> {
     /// the only such call that may change anything.
     fn call_with_other_lengths(&mut self, call: Call, expected: Answer) -> Result<(), Parted> {
         let side = if self.random.one_in(2) { Side::EndsAtGuard } else { Side::StartsAtGuard };
-        let control_bytes = stretched(self.control.bytes(), call.control as usize, &mut self.random);
-        let area_bytes = stretched(self.area.bytes(), call.area as usize, &mut self.random);
-        let mut control = Memory::with(&control_bytes, side);
-        let mut area = Memory::with(&area_bytes, side);
-        let answer = library::call(&mut control, &mut area, call.request);
+        let control_bytes = stretched(self.lent.control.bytes(), call.control as usize, &mut self.random);
+        let area_bytes = stretched(self.lent.area.bytes(), call.area as usize, &mut self.random);
+        let mut lent = Lent::closed(&control_bytes, &area_bytes, call.strips as usize, side);
+        let own_strips = call.strips == STRIPS;
+        if own_strips {
+            std::mem::swap(&mut lent.strips, &mut self.lent.strips);
+        }
+        let answer = library::call(&mut lent, call.request);
+        if own_strips {
+            std::mem::swap(&mut lent.strips, &mut self.lent.strips);
+        }
         self.compare_answers(call, answer, expected)?;
-        let kept = control.slack_untouched() && area.slack_untouched();
-        self.checks.hold(OUTSIDE, kept, || format!("{call:?}"))?;
-        self.checks.hold(ONE_LINK, area.bytes() == area_bytes, || format!("{call:?}"))?;
+        self.checks.hold(OUTSIDE, lent.slack_untouched(), || format!("{call:?}"))?;
+        self.checks.hold(STRIPS_KEPT, self.lent.strips.bytes() == self.strips_before, || format!("{call:?}"))?;
+        self.checks.hold(ONE_LINK, lent.area.bytes() == area_bytes, || format!("{call:?}"))?;
         if expected.0 != 0 {
-            return self.checks.hold(UNCHANGED, control.bytes() == control_bytes, || format!("{call:?}"));
+            return self.checks.hold(UNCHANGED, lent.control.bytes() == control_bytes, || format!("{call:?}"));
         }
         self.coverage.other_length_starts += 1;
-        self.control_before = control.bytes().to_vec();
+        self.control_before = lent.control.bytes().to_vec();
         self.area_before = area_bytes;
-        self.control = control;
-        self.area = area;
-        Ok(())
-    }
-
-    /// What the users do after an answer: they take note of what they hold and fill each new block.
-    fn follow(&mut self, request: Request, place: Place, answer: Answer) {
-        match (request, answer.0) {
-            (Request::Start { .. }, 0) => {
-                self.asked = [None; TASKS];
-                self.held.clear();
-                self.covered.fill(false);
-                self.tags_at_start = [0; LISTS];
-            }
-            (Request::Allocate { task, size }, 0) => self.asked[task as usize] = Some(size),
-            (Request::Free { task, unit }, 0) => self.give_back(task, unit),
-            (Request::Step { task }, 12 | 13) => self.asked[task as usize] = None,
-            (Request::Step { task }, 20) if place == Place::AllocateCache => self.receive(task, answer.1),
-            _ => (),
-        }
-    }
-
-    fn give_back(&mut self, task: u64, unit: u64) {
-        let Some(index) = self.held.iter().position(|held| held.unit == unit) else { return };
-        let held = self.held.swap_remove(index);
-        self.coverage.freed_by_another += u64::from(held.task != task);
-        self.cover(held, false);
-    }
-
-    fn receive(&mut self, task: u64, unit: u64) {
-        let held = Held { unit, class: self.pool.tasks[task as usize].class, task };
-        self.held.push(held);
-        self.cover(held, true);
-        self.user_fills(self.held.len() - 1);
-    }
-
-    fn cover(&mut self, held: Held, covered: bool) {
-        let first = held.unit as usize;
-        self.covered[first..first + (block(held.class) / UNIT) as usize].fill(covered);
-    }
-
-    /// A user writes arbitrary bytes into the whole of a block that it holds.
-    pub fn user_fills(&mut self, index: usize) {
-        let held = self.held[index];
-        let first = (held.unit * UNIT) as usize;
-        let bytes = first..first + block(held.class) as usize;
-        self.random.fill(&mut self.area_before[bytes.clone()]);
-        self.area.bytes_mut()[bytes.clone()].copy_from_slice(&self.area_before[bytes]);
-        self.coverage.writes += 1;
+        self.lent.control = lent.control;
+        self.lent.area = lent.area;
+        self.compare_pieces()
     }
 
     /// Sets the tags of all lists just after a start, as if the lists had seen that many won exchanges.
     pub fn set_tags(&mut self, tags: [u32; LISTS]) {
         for (list, tag) in tags.iter().enumerate() {
-            let word = crate::layout::get(self.control.bytes(), crate::layout::HEAD, list) & 0xFFFF_FFFF;
-            crate::layout::set(self.control.bytes_mut(), crate::layout::HEAD, list, word | u64::from(*tag) << 32);
+            let word = layout::get(self.lent.control.bytes(), layout::HEAD, list) & 0xFFFF_FFFF;
+            layout::set(self.lent.control.bytes_mut(), layout::HEAD, list, word | u64::from(*tag) << 32);
         }
-        self.control_before.copy_from_slice(self.control.bytes());
+        self.control_before.copy_from_slice(self.lent.control.bytes());
         self.tags_at_start = tags;
     }
 
@@ -255,9 +224,11 @@ impl<'a> Driver<'a> {
             return Ok(());
         }
         self.coverage.comparisons += 1;
-        let view = View { control: self.control.bytes(), area: self.area.bytes() };
+        self.compare_pieces()?;
+        let view = View { control: self.lent.control.bytes(), area: self.lent.area.bytes() };
         let pool = &self.pool;
         self.checks.agree("structure: each task's place", structure::places(pool, &view))?;
+        self.checks.agree("structure: what each task asks of the strips", pieces::requests(pool, &view))?;
         self.checks.agree("structure: each list's items", structure::lists(pool, &view))?;
         self.checks.agree("structure: open regions and classes", structure::open_regions(pool, &view))?;
         self.checks.agree("structure: map entries", structure::map(pool, &view))?;

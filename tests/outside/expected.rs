@@ -1,14 +1,17 @@
 //! The tests of a call in any memory, in their order, read by the documents of the layout: "Start tests 1, 2, 3. Other
 //! calls test 1, 4, 2, 5, then 6 or 7, then 8, 9 or 10, 11. 14 comes where the bad value is read, before any write."
-//! A start and a beginning are determined by them; of a step only the refusals before its place is looked at, and the
-//! class, which every step reads.
+//! A start and a beginning are determined by them; of a step only the refusals before its place is looked at, the
+//! class, which every step reads, and the steps of strips.
 
 use crate::classes::{is_first, CLASSES, UNITS_PER_REGION};
 use crate::damage::Bytes;
 use crate::layout::*;
-use crate::pool::{self, Request};
+use crate::pieces::{BEGUN, HELD, LAST};
+use crate::pool::{self, Request, PLACES};
+use crate::strip_steps::{self, order_at, slot_of};
+use crate::strips::{FIRST_UNIT, STRIPS};
 
-/// The code that is due, or none for a step that passes the tests.
+/// The code that is due, or none for a step on the area that passes the tests.
 pub fn code(bytes: &Bytes, request: Request) -> Option<u64> {
     let task = match request {
         Request::Start { tasks } => return Some(start(bytes, tasks)),
@@ -20,12 +23,14 @@ pub fn code(bytes: &Bytes, request: Request) -> Option<u64> {
     }
     let place = get(&bytes.control, TASK_PLACE, task as usize);
     match request {
-        _ if place > 33 => Some(14),
+        _ if place >= PLACES as u64 => Some(14),
         Request::Step { .. } if place == 0 => Some(7),
-        Request::Step { .. } => (get(&bytes.control, TASK_CLASS, task as usize) >= CLASSES as u64).then_some(14),
+        Request::Step { .. } if get(&bytes.control, TASK_CLASS, task as usize) >= CLASSES as u64 => Some(14),
+        Request::Step { .. } => strip_steps::due(&bytes.control, task as usize, place as usize).map(|due| due.0 .0),
         _ if place != 0 => Some(6),
         Request::Allocate { size: 0, .. } => Some(8),
-        Request::Allocate { size, .. } => Some(if size > 256 { 9 } else { 0 }),
+        Request::Allocate { size, .. } => Some(if size > STRIPS { 9 } else { 0 }),
+        Request::Free { unit, .. } if unit >= FIRST_UNIT => Some(free_of_strip(bytes, unit)),
         Request::Free { unit, .. } => Some(free(bytes, unit)),
         Request::Start { .. } => None,
     }
@@ -35,7 +40,7 @@ fn start(bytes: &Bytes, tasks: u64) -> u64 {
     let area = bytes.area.len();
     if bytes.control.len() != 8192 {
         1
-    } else if area == 0 || area % 4096 != 0 || area > 65_536 {
+    } else if area == 0 || area % 4096 != 0 || area > 65_536 || bytes.strips != STRIPS as usize {
         2
     } else if tasks == 0 || tasks > 8 {
         3
@@ -55,7 +60,7 @@ fn common(bytes: &Bytes, task: u64) -> u64 {
         (0, _) => 4,
         (_, 0) => 14,
         _ if regions > pool::REGIONS as u64 => 14,
-        _ if bytes.area.len() as u64 != regions * 4096 => 2,
+        _ if bytes.area.len() as u64 != regions * 4096 || bytes.strips != STRIPS as usize => 2,
         _ if task >= tasks => 5,
         _ => 0,
     }
@@ -90,6 +95,17 @@ fn free(bytes: &Bytes, unit: u64) -> u64 {
     }
 }
 
+/// Tests 10 and 11 of a unit from 8,192 up, by the slot's byte.
+fn free_of_strip(bytes: &Bytes, unit: u64) -> u64 {
+    let Some(slot) = slot_of(unit) else { return 10 };
+    match get(&bytes.control, SLOT_BYTES, slot) {
+        0 => 10,
+        _ if order_at(&bytes.control, slot).is_none() => 14,
+        BEGUN..=LAST => 11,
+        _ => 0,
+    }
+}
+
 fn block_and_mark(view: &View, unit: u64, class: usize) -> u64 {
     if !is_first(class, unit) {
         return 10;
@@ -102,7 +118,7 @@ fn block_and_mark(view: &View, unit: u64, class: usize) -> u64 {
 }
 
 /// Whether an accepted beginning changed nothing of control but the task's own fields and, for a free, cleared the
-/// block's mark.
+/// block's mark or noted in the slot's byte that the strip's free has begun.
 pub fn beginning_changed_its_own(before: &[u8], after: &[u8], request: Request) -> bool {
     let (task, unit) = match request {
         Request::Allocate { task, .. } => (task as usize, None),
@@ -113,7 +129,10 @@ pub fn beginning_changed_its_own(before: &[u8], after: &[u8], request: Request) 
     for column in OF_A_TASK {
         set(&mut due, column, task, get(after, column, task));
     }
-    if let Some(unit) = unit {
+    if let Some(slot) = unit.and_then(|unit| slot_of(unit as u64)) {
+        let held = get(before, SLOT_BYTES, slot);
+        set(&mut due, SLOT_BYTES, slot, held + BEGUN - HELD);
+    } else if let Some(unit) = unit {
         let word = get(before, MARKS, unit / 64);
         set(&mut due, MARKS, unit / 64, word & !(1 << (unit % 64)));
     }

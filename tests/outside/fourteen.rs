@@ -11,9 +11,10 @@ use crate::coverage::Coverage;
 use crate::damage::Bytes;
 use crate::driver::Driver;
 use crate::faults::Fault;
-use crate::fourteen_cases::{held, Case, CASES};
-use crate::library;
-use crate::memory::{Memory, Side};
+use crate::fourteen_cases::{Case, CASES};
+use crate::fourteen_strips::STRIP_CASES;
+use crate::library::{self, Lent};
+use crate::memory::Side;
 use crate::pool::Request;
 use crate::schedules::Schedule;
 use crate::styles;
@@ -22,13 +23,19 @@ use std::collections::BTreeMap;
 /// How often each case was tried at each place.
 pub type Tried = BTreeMap<(&'static str, usize), u64>;
 const AT_MOST: u64 = 12;
-const STYLES: [&str; 5] = [
+const STYLES: [&str; 6] = [
     "few regions, large blocks",
     "few blocks, quick changes",
     "fill, empty, other class",
     "one region, many tasks",
     "small blocks, long chains",
+    "strips of every order",
 ];
+
+/// All cases: those of blocks, then those of strips.
+fn cases() -> impl Iterator<Item = &'static Case> {
+    CASES.iter().chain(STRIP_CASES)
+}
 
 /// Runs schedules and tries each case in states where it applies.
 pub fn round(seed: u64, checks: &mut Checks, tried: &mut Tried) {
@@ -49,10 +56,10 @@ pub fn round(seed: u64, checks: &mut Checks, tried: &mut Tried) {
 
 /// Tries the cases that belong to the place of each task.
 fn try_all(driver: &Driver, checks: &mut Checks, tried: &mut Tried) {
-    let bytes = Bytes { control: driver.control.bytes().to_vec(), area: driver.area.bytes().to_vec() };
+    let bytes = Bytes::of(driver);
     for task in 0..driver.pool.started_tasks as usize {
         let place = driver.pool.tasks[task].place.number();
-        for case in CASES.iter().filter(|case| case.places.contains(&place)) {
+        for case in cases().filter(|case| case.places.contains(&place)) {
             let times = tried.entry((case.name, place)).or_default();
             if *times < AT_MOST {
                 *times += u64::from(try_one(case, bytes.clone(), task, place, checks));
@@ -63,30 +70,28 @@ fn try_all(driver: &Driver, checks: &mut Checks, tried: &mut Tried) {
 
 /// Whether the state has the value of the case. Then it is changed, and the call is made.
 fn try_one(case: &Case, mut bytes: Bytes, task: usize, place: usize, checks: &mut Checks) -> bool {
+    let unit = if place == 0 { (case.freed)(&bytes) } else { None };
     if !(case.change)(&mut bytes, task, place) {
         return false;
     }
     let task = task as u64;
-    let unit = if place == 0 { held(&bytes) } else { None };
     let request = unit.map_or(Request::Step { task }, |unit| Request::Free { task, unit });
-    let mut control = Memory::with(&bytes.control, Side::EndsAtGuard);
-    let mut area = Memory::with(&bytes.area, Side::EndsAtGuard);
-    let answer = library::call(&mut control, &mut area, request);
+    let mut lent = Lent::closed(&bytes.control, &bytes.area, bytes.strips, Side::EndsAtGuard);
+    let answer = library::call(&mut lent, request);
     let name = format!("{}: {}", if case.bad { "14" } else { "not 14" }, case.name);
     let _ = checks.hold(&name, (answer == (14, 0)) == case.bad, || format!("at place {place}: {answer:?}"));
-    let same = control.bytes() == bytes.control && area.bytes() == bytes.area;
+    let same = lent.control.bytes() == bytes.control && lent.area.bytes() == bytes.area;
     let _ = checks.hold("14: no byte changes", same || answer.0 != 14, || format!("{} at place {place}", case.name));
     true
 }
 
 /// Each case has to have been tried at each of its places.
 pub fn report(tried: &Tried, checks: &mut Checks) {
-    let missing: Vec<String> = CASES
-        .iter()
+    let missing: Vec<String> = cases()
         .flat_map(|case| case.places.iter().map(move |place| (case.name, *place)))
         .filter(|key| tried.get(key).copied().unwrap_or(0) == 0)
         .map(|(name, place)| format!("{name} at {place}"))
         .collect();
     let _ = checks.hold("covered: 14 for each clause at each of its places", missing.is_empty(), || missing.join("; "));
-    println!("14 by clause: {} clauses, {} states", CASES.len(), tried.values().sum::<u64>());
+    println!("14 by clause: {} clauses, {} states", cases().count(), tried.values().sum::<u64>());
 }

@@ -5,23 +5,29 @@ use crate::classes::{per_region, tail, units, CLASSES, UNIT, UNITS_PER_REGION};
 use crate::damage::Bytes;
 use crate::layout::*;
 use crate::lists::{SPARE_DESCRIPTORS, SPARE_REGIONS};
+use crate::pieces::{BEGUN, HELD};
 use crate::pool;
+use crate::strips::{unit_of, SLOTS};
 
 pub struct Case {
     pub name: &'static str,
     pub places: &'static [usize],
     /// Changes the value for this task at this place; false where the state has no such value.
-    pub change: fn(&mut Bytes, usize, usize) -> bool,
+    pub change: Change,
     /// Whether 14 is due; if not, any other code is.
     pub bad: bool,
+    /// What an idle task begins to free, found before the change.
+    pub freed: fn(&Bytes) -> Option<u64>,
 }
 
-const fn case(name: &'static str, places: &'static [usize], change: fn(&mut Bytes, usize, usize) -> bool) -> Case {
-    Case { name, places, change, bad: true }
+pub type Change = fn(&mut Bytes, usize, usize) -> bool;
+
+pub const fn case(name: &'static str, places: &'static [usize], change: Change) -> Case {
+    Case { name, places, change, bad: true, freed: held }
 }
 
-const fn in_range(name: &'static str, places: &'static [usize], change: fn(&mut Bytes, usize, usize) -> bool) -> Case {
-    Case { name, places, change, bad: false }
+pub const fn in_range(name: &'static str, places: &'static [usize], change: Change) -> Case {
+    Case { name, places, change, bad: false, freed: held }
 }
 
 const HEAD_READS: &[usize] = &[2, 5, 8, 11, 14, 17, 20];
@@ -30,7 +36,7 @@ const EXCHANGES: &[usize] = &[4, 7, 10, 13, 16, 19, 22];
 const FREE: &[usize] = &[0];
 const ALL: &[usize] = &[
     1, 2, 3, 4, 5, 6, 7, 8, 9, 10, 11, 12, 13, 14, 15, 16, 17, 18, 19, 20, 21, 22, 23, 24, 25, 26, 27, 28, 29, 30, 31,
-    32, 33,
+    32, 33, 34, 35,
 ];
 
 /// The first class past the table.
@@ -40,7 +46,13 @@ pub const CASES: &[Case] = &[
     case("the started number of tasks is 9", ALL, |bytes, _, _| put(bytes, TASKS, 0, 9)),
     case("the started number of regions is 0", ALL, |bytes, _, _| put(bytes, REGIONS, 0, 0)),
     case("the started number of regions is 17", ALL, |bytes, _, _| put(bytes, REGIONS, 0, pool::REGIONS as u64 + 1)),
-    case("a place past the step list", ALL, |bytes, task, _| put(bytes, TASK_PLACE, task, 34)),
+    case("a place past the step list", ALL, |bytes, task, _| put(bytes, TASK_PLACE, task, 36)),
+    in_range("the last place of the step list, as a free begins", FREE, |bytes, task, _| {
+        put(bytes, TASK_PLACE, task, 35) && held(bytes).is_some()
+    }),
+    case("a place past the step list, as a free begins", FREE, |bytes, task, _| {
+        put(bytes, TASK_PLACE, task, 36) && held(bytes).is_some()
+    }),
     in_range("the last class of the table", &[1, 2], task_class::<{ PAST - 1 }>),
     case("the first class past the table", ALL, task_class::<PAST>),
     case("the second class past the table", ALL, task_class::<{ PAST + 1 }>),
@@ -126,7 +138,7 @@ pub const CASES: &[Case] = &[
     case("a group's first block past n", &[32], |bytes, task, _| past_n(bytes, task, GROUP_FIRST)),
 ];
 
-fn put(bytes: &mut Bytes, column: Column, index: usize, value: u64) -> bool {
+pub fn put(bytes: &mut Bytes, column: Column, index: usize, value: u64) -> bool {
     set(&mut bytes.control, column, index, value);
     true
 }
@@ -146,6 +158,12 @@ fn descriptor_class<const CLASS: u64>(bytes: &mut Bytes, _: usize, _: usize) -> 
 pub fn held(bytes: &Bytes) -> Option<u64> {
     let view = View { control: &bytes.control, area: &bytes.area };
     (0..bytes.area.len() as u64 / UNIT).find(|&unit| view.mark(unit as usize))
+}
+
+/// The highest strip in a user's hands.
+pub fn held_strip(bytes: &Bytes) -> Option<u64> {
+    let in_hand = |slot: &usize| (HELD..BEGUN).contains(&get(&bytes.control, SLOT_BYTES, *slot));
+    (0..SLOTS).rev().find(in_hand).map(unit_of)
 }
 
 fn class(bytes: &Bytes, task: usize) -> usize {

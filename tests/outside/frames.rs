@@ -1,5 +1,5 @@
 //! What a step may change in control, by its place: its own task's fields, and of what the tasks share only what the
-//! step list has written at that place, one field of each.
+//! step list has written at that place, one field of each; of the tree of pieces any.
 
 use crate::layout::*;
 
@@ -14,6 +14,7 @@ fn written_at(place: usize) -> &'static [Column] {
         25 | 27 | 28 | 29 => &[TOP, COUNT],
         26 => &[ANCHOR, DESCRIPTOR_REGION, DESCRIPTOR_CLASS, MAP],
         33 => &[MAP],
+        34 | 35 => &[SLOT_BYTES],
         _ => &[],
     }
 }
@@ -23,6 +24,9 @@ pub fn step_changed_its_own(before: &[u8], after: &[u8], task: usize, place: usi
     let mut due = before.to_vec();
     for column in OF_A_TASK {
         set(&mut due, column, task, get(after, column, task));
+    }
+    for word in 0..if place >= 34 { FREE_NODES.fields } else { 0 } {
+        set(&mut due, FREE_NODES, word, get(after, FREE_NODES, word));
     }
     written_at(place).iter().all(|&column| carry_over(&mut due, before, after, column)) && due == after
 }

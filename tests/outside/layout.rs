@@ -1,9 +1,10 @@
-//! Reading the two memories by the documents of the layout. Used to compare structure, to damage states and to count
+//! Reading control and area by the documents of the layout. Used to compare structure, to damage states and to count
 //! places; the plain pool knows nothing of it.
 
 use crate::classes::{per_region, units, UNIT, UNITS_PER_REGION};
 use crate::lists::{LISTS, SPARE_REGIONS};
 use crate::pool;
+use crate::strips;
 
 /// A column of the control memory: its first byte, the width of a field and how many there are.
 #[derive(Clone, Copy, Debug)]
@@ -47,9 +48,12 @@ pub const DESCRIPTOR_CLASS: Column = column(5840, 1, 64);
 pub const MAP: Column = column(5904, 1, pool::REGIONS);
 pub const TASKS: Column = column(5944, 1, 1);
 pub const REGIONS: Column = column(5945, 1, 1);
+/// A bit for each node of the tree of pieces, and a byte for each slot.
+pub const FREE_NODES: Column = column(6016, 8, 4);
+pub const SLOT_BYTES: Column = column(6048, 1, strips::SLOTS);
 
 /// The columns that are not of one task alone.
-const SHARED: [Column; 12] = [
+const SHARED: [Column; 14] = [
     HEAD,
     ANCHOR,
     MARKS,
@@ -62,6 +66,8 @@ const SHARED: [Column; 12] = [
     MAP,
     TASKS,
     REGIONS,
+    FREE_NODES,
+    SLOT_BYTES,
 ];
 
 /// For each byte of control, whether it belongs to no field.

@@ -1,43 +1,85 @@
-//! The four functions of the library, called with numbers and the two memories as the firmware in C calls them.
+//! The four functions of the library, called with numbers and the three memories as the firmware in C calls them.
 
-use crate::memory::Memory;
+use crate::memory::{Memory, Side};
 use crate::pool::{Answer, Request};
 use crate::tamper;
 
 unsafe extern "C" {
-    fn pool_start(control: *mut u8, control_len: usize, area: *const u8, area_len: usize, tasks: u64) -> u64;
+    fn pool_start(
+        control: *mut u8,
+        control_length: u64,
+        area: *const u8,
+        area_length: u64,
+        strips: *const u8,
+        strips_length: u64,
+        tasks: u64,
+    ) -> u64;
     fn pool_begin_allocate(
         control: *mut u8,
-        control_len: usize,
+        control_length: u64,
         area: *const u8,
-        area_len: usize,
+        area_length: u64,
+        strips: *const u8,
+        strips_length: u64,
         task: u64,
         size: u64,
     ) -> u64;
     fn pool_begin_free(
         control: *mut u8,
-        control_len: usize,
+        control_length: u64,
         area: *const u8,
-        area_len: usize,
+        area_length: u64,
+        strips: *const u8,
+        strips_length: u64,
         task: u64,
         unit: u64,
     ) -> u64;
-    fn pool_step(control: *mut u8, control_len: usize, area: *mut u8, area_len: usize, task: u64) -> u64;
+    fn pool_step(
+        control: *mut u8,
+        control_length: u64,
+        area: *mut u8,
+        area_length: u64,
+        strips: *const u8,
+        strips_length: u64,
+        task: u64,
+    ) -> u64;
+}
+
+/// The three memories that a call is lent.
+pub struct Lent {
+    pub control: Memory,
+    pub area: Memory,
+    pub strips: Memory,
+}
+
+impl Lent {
+    /// Memories with these bytes, and one for the strips that may be neither read nor written: a call that does it ends
+    /// the program at once.
+    pub fn closed(control: &[u8], area: &[u8], strips_length: usize, side: Side) -> Lent {
+        let strips = Memory::closed(strips_length, side);
+        Lent { control: Memory::with(control, side), area: Memory::with(area, side), strips }
+    }
+
+    /// Whether what lies beside the memories on their pages is as it was.
+    pub fn slack_untouched(&self) -> bool {
+        self.control.slack_untouched() && self.area.slack_untouched() && self.strips.slack_untouched()
+    }
 }
 
 /// One call of the library. It answers one number: the code, and 256 times the value.
-pub fn call(control: &mut Memory, area: &mut Memory, request: Request) -> Answer {
-    let before = tamper::before(control, request);
-    let (bytes, length) = (control.pointer(), control.len());
-    let (blocks, blocks_length) = (area.pointer(), area.len());
-    // SAFETY: both memories are lent for the call with their true lengths.
+pub fn call(lent: &mut Lent, request: Request) -> Answer {
+    let before = tamper::before(lent, request);
+    let (c, c_length) = (lent.control.pointer(), lent.control.len() as u64);
+    let (a, a_length) = (lent.area.pointer(), lent.area.len() as u64);
+    let (s, s_length) = (lent.strips.pointer(), lent.strips.len() as u64);
+    // SAFETY: the three memories are lent for the call with their true lengths.
     let answer = unsafe {
         match request {
-            Request::Start { tasks } => pool_start(bytes, length, blocks, blocks_length, tasks),
-            Request::Allocate { task, size } => pool_begin_allocate(bytes, length, blocks, blocks_length, task, size),
-            Request::Free { task, unit } => pool_begin_free(bytes, length, blocks, blocks_length, task, unit),
-            Request::Step { task } => pool_step(bytes, length, blocks, blocks_length, task),
+            Request::Start { tasks } => pool_start(c, c_length, a, a_length, s, s_length, tasks),
+            Request::Allocate { task, size } => pool_begin_allocate(c, c_length, a, a_length, s, s_length, task, size),
+            Request::Free { task, unit } => pool_begin_free(c, c_length, a, a_length, s, s_length, task, unit),
+            Request::Step { task } => pool_step(c, c_length, a, a_length, s, s_length, task),
         }
     };
-    tamper::after(control, area, request, before, (answer % 256, answer / 256))
+    tamper::after(lent, request, before, (answer % 256, answer / 256))
 }

@@ -10,25 +10,38 @@ mod directed;
 mod driver;
 mod expected;
 mod faults;
+mod fitting;
 mod fourteen;
 mod fourteen_cases;
+mod fourteen_strips;
 mod frames;
 mod layout;
 mod library;
 mod lists;
 mod memory;
+mod odd_calls;
+mod pieces;
+mod places;
 mod pool;
 mod random;
 mod refusals;
 mod schedules;
+mod slots;
 mod stand;
 mod stand_test;
 mod steps;
+mod stored;
+mod strip_checks;
+mod strip_coverage;
+mod strip_steps;
+mod strips;
+mod strips_directed;
 mod structure;
 mod styles;
 mod table;
 mod tamper;
 mod unread;
+mod users;
 
 use checks::{Checks, Parted};
 use coverage::Coverage;
@@ -44,13 +57,14 @@ struct Options {
     seconds: Option<u64>,
     fault: Fault,
     fault_name: String,
-    /// The stand program, where it has been built.
+    /// The stand program, where it has been built, and the folder of its stored schedules.
     stand: Option<String>,
+    stored: Option<String>,
 }
 
 const FIXED_ROUNDS: u64 = 16;
 type Directed = fn(&mut Driver) -> Result<(), Parted>;
-const DIRECTED: [Directed; 11] = [
+const DIRECTED: [Directed; 16] = [
     directed::first_allocations,
     directed::bench_refusals,
     directed::every_size,
@@ -62,15 +76,31 @@ const DIRECTED: [Directed; 11] = [
     collisions::same_region_again,
     collisions::descriptor_moves_on,
     collisions::same_first_block_again,
+    strips_directed::first_strips,
+    strips_directed::every_order,
+    strips_directed::all_slots,
+    strips_directed::units_of_strips,
+    strips_directed::lengths,
 ];
 
 fn usage() -> ! {
-    eprintln!("usage: outside [--seed N] [--seconds N] [--stand PROGRAM] [--fault NAME] [--list-faults]");
+    eprintln!("usage: outside [--seed N] [--seconds N] [--stand PROGRAM] [--stored FOLDER]");
+    eprintln!("       outside --fault NAME | --list-faults | --table SCHEDULE");
     std::process::exit(2)
 }
 
+/// Prints the plain pool's table of a schedule, with no call of the library.
+fn table_of(path: &str) -> ! {
+    match stored::schedule(path.as_ref()) {
+        Ok(bytes) => print!("{}", stand::output(&bytes)),
+        Err(message) => eprintln!("{message}"),
+    }
+    std::process::exit(0)
+}
+
 fn options() -> Options {
-    let mut options = Options { seed: 1, seconds: None, fault: Fault::None, fault_name: String::new(), stand: None };
+    let mut options =
+        Options { seed: 1, seconds: None, fault: Fault::None, fault_name: String::new(), stand: None, stored: None };
     let mut words = std::env::args().skip(1);
     while let Some(word) = words.next() {
         if word == "--list-faults" {
@@ -82,6 +112,8 @@ fn options() -> Options {
             "--seed" => options.seed = value.parse().unwrap_or_else(|_| usage()),
             "--seconds" => options.seconds = Some(value.parse().unwrap_or_else(|_| usage())),
             "--stand" => options.stand = Some(value),
+            "--stored" => options.stored = Some(value),
+            "--table" => table_of(&value),
             "--fault" => {
                 options.fault = faults::named(&value).unwrap_or_else(|| usage());
                 options.fault_name = value;
@@ -155,6 +187,9 @@ fn run_fault(options: &Options) -> bool {
 fn once(options: &Options, checks: &mut Checks) {
     let _ = checks.agree("table of classes is the paper's series", classes::agrees_with_the_paper());
     stand_test::by_itself(checks);
+    if let Some(folder) = &options.stored {
+        stored::compare(folder, checks);
+    }
     match &options.stand {
         Some(program) => stand_test::against_program(program, options.seed, checks),
         None => {

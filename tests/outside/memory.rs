@@ -30,10 +30,24 @@ pub struct Memory {
     pages: usize,
     offset: usize,
     length: usize,
+    /// Whether nobody may read or write it.
+    closed: bool,
 }
 
 impl Memory {
     pub fn new(length: usize, side: Side) -> Memory {
+        let mut memory = Memory::closed(length, side);
+        memory.closed = false;
+        memory.writable(true);
+        if memory.pages > 0 {
+            // SAFETY: the inner pages are mapped and writable.
+            unsafe { std::ptr::write_bytes(memory.base.add(PAGE), SLACK, memory.pages * PAGE) };
+        }
+        memory
+    }
+
+    /// A memory that may be neither read nor written.
+    pub fn closed(length: usize, side: Side) -> Memory {
         let pages = length.div_ceil(PAGE);
         let whole = (pages + 2) * PAGE;
         // SAFETY: a new mapping of this program's own; no other memory is touched.
@@ -43,13 +57,7 @@ impl Memory {
             Side::EndsAtGuard => PAGE + pages * PAGE - length,
             Side::StartsAtGuard => PAGE,
         };
-        let memory = Memory { base, pages, offset, length };
-        memory.writable(true);
-        if pages > 0 {
-            // SAFETY: the inner pages are mapped and writable.
-            unsafe { std::ptr::write_bytes(base.add(PAGE), SLACK, pages * PAGE) };
-        }
-        memory
+        Memory { base, pages, offset, length, closed: true }
     }
 
     pub fn with(bytes: &[u8], side: Side) -> Memory {
@@ -81,26 +89,36 @@ impl Memory {
         self.length
     }
 
+    /// The bytes; none of a memory that nobody may read.
     pub fn bytes(&self) -> &[u8] {
+        if self.closed {
+            return &[];
+        }
         // SAFETY: the bytes are mapped, and the library runs only inside calls.
         unsafe { std::slice::from_raw_parts(self.base.add(self.offset), self.length) }
     }
 
     pub fn bytes_mut(&mut self) -> &mut [u8] {
+        if self.closed {
+            return &mut [];
+        }
         // SAFETY: the bytes are mapped, the library runs only inside calls, and the memory is borrowed alone.
         unsafe { std::slice::from_raw_parts_mut(self.base.add(self.offset), self.length) }
     }
 
     /// Changes the byte behind the memory, where there is one on its last page. For a deliberate fault.
     pub fn flip_behind(&mut self) {
-        if self.offset + self.length < (self.pages + 1) * PAGE {
+        if !self.closed && self.offset + self.length < (self.pages + 1) * PAGE {
             // SAFETY: the byte is on the memory's last page, which is mapped.
             unsafe { *self.base.add(self.offset + self.length) ^= 1 };
         }
     }
 
-    /// Whether the rest of the memory's first and last page is as it was.
+    /// Whether the rest of the memory's first and last page is as it was. Nobody could touch that of a closed one.
     pub fn slack_untouched(&self) -> bool {
+        if self.closed {
+            return true;
+        }
         // SAFETY: the inner pages are mapped.
         let inner = unsafe { std::slice::from_raw_parts(self.base.add(PAGE), self.pages * PAGE) };
         let first = self.offset - PAGE;

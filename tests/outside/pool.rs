@@ -3,7 +3,9 @@
 
 use crate::classes::{CLASSES, REGION, UNITS_PER_REGION};
 use crate::faults::Fault;
-use crate::lists::{HeadNote, List, Move, Phase, LISTS, SPARE_DESCRIPTORS, SPARE_REGIONS};
+use crate::lists::{HeadNote, List, LISTS, SPARE_DESCRIPTORS, SPARE_REGIONS};
+pub use crate::places::{Place, PLACES};
+use crate::strips::{Strips, FIRST_UNIT, LEAST_SIZE};
 use std::collections::VecDeque;
 
 pub const CONTROL: u64 = 8192;
@@ -33,56 +35,6 @@ pub struct Descriptor {
     pub changes: u64,
 }
 
-/// A task's place in the step list: the next step that it does.
-#[derive(Clone, Copy, PartialEq, Eq, Debug)]
-pub enum Place {
-    Idle,
-    AllocateCache,
-    List(Move, Phase),
-    ReadAnchor,
-    TakeChain,
-    MoveChain,
-    WriteDescriptor,
-    Carve,
-    FreeCache,
-    Group,
-    ReadAnchorToReturn,
-    LastLink,
-    ReturnGroup,
-    ClearMap,
-}
-
-impl Place {
-    /// The places by number, 0 for idle and 1 to 33 in the step list, as the documents of the layout count them.
-    pub fn number(self) -> usize {
-        match self {
-            Place::Idle => 0,
-            Place::AllocateCache => 1,
-            Place::List(what, phase) => 2 + 3 * what as usize + phase as usize,
-            Place::ReadAnchor => 23,
-            Place::TakeChain => 24,
-            Place::MoveChain => 25,
-            Place::WriteDescriptor => 26,
-            Place::Carve => 27,
-            Place::FreeCache => 28,
-            Place::Group => 29,
-            Place::ReadAnchorToReturn => 30,
-            Place::LastLink => 31,
-            Place::ReturnGroup => 32,
-            Place::ClearMap => 33,
-        }
-    }
-
-    pub fn is_exchange(self) -> bool {
-        matches!(self, Place::List(_, Phase::Exchange) | Place::TakeChain | Place::ReturnGroup)
-    }
-
-    /// Where a task that stands still lets others change what it is about to write.
-    pub fn is_worth_a_stop(self) -> bool {
-        self.is_exchange() || matches!(self, Place::ClearMap | Place::WriteDescriptor)
-    }
-}
-
 /// "An anchor read notes the state and the chain's first block, if any, and length."
 #[derive(Clone, Copy, PartialEq, Eq, Debug)]
 pub struct AnchorNote {
@@ -105,7 +57,9 @@ pub enum Under {
 pub struct Task {
     pub place: Place,
     pub class: usize,
-    /// The block that a free gives back.
+    /// The order of the strip that is asked for.
+    pub order: usize,
+    /// The block or strip that a free gives back.
     pub unit: u64,
     pub head: HeadNote,
     pub anchor: AnchorNote,
@@ -129,6 +83,21 @@ pub enum Event {
     AnchorEmpty,
     /// The anchor's state before and after, and whether it had changed since it was read and come back.
     Returned(State, State, bool),
+    /// A strip of this order, how often a piece was halved for it, and whether the free of another had begun.
+    StripTaken {
+        order: usize,
+        halvings: usize,
+        meanwhile: bool,
+    },
+    NoStrip {
+        order: usize,
+        meanwhile: bool,
+    },
+    /// How often it was joined.
+    StripGiven {
+        order: usize,
+        joins: usize,
+    },
 }
 
 #[derive(Clone)]
@@ -143,6 +112,7 @@ pub struct Pool {
     pub caches: Vec<Vec<Vec<u64>>>,
     /// "the blocks in users' hands": by first unit.
     pub marks: Vec<bool>,
+    pub strips: Strips,
     pub tasks: Vec<Task>,
     pub event: Event,
     pub fault: Fault,
@@ -161,6 +131,7 @@ pub enum Request {
 pub struct Call {
     pub control: u64,
     pub area: u64,
+    pub strips: u64,
     pub request: Request,
 }
 
@@ -171,6 +142,7 @@ impl Pool {
         let task = Task {
             place: Place::Idle,
             class: 0,
+            order: 0,
             unit: 0,
             head: HeadNote::default(),
             anchor,
@@ -190,6 +162,7 @@ impl Pool {
             map: vec![None; REGIONS],
             caches: vec![vec![Vec::new(); CLASSES]; TASKS],
             marks: vec![false; ALL_UNITS],
+            strips: Strips::new(),
             tasks: vec![task; TASKS],
             event: Event::None,
             fault,
@@ -222,6 +195,7 @@ impl Pool {
         match self.fault {
             Fault::StartKeepsMarks => self.marks = earlier.marks,
             Fault::StartKeepsTasks => self.tasks = earlier.tasks,
+            Fault::StartKeepsStrips => self.strips = earlier.strips,
             _ => (),
         }
         (0, 0)
@@ -229,12 +203,18 @@ impl Pool {
 
     /// "Beginning a request does no step."
     fn begin_allocate(&mut self, task: usize, size: u64) -> Answer {
+        if size >= LEAST_SIZE {
+            return self.begin_take(task, size);
+        }
         self.tasks[task].class = self.class_of(size);
         self.go(task, Place::AllocateCache)
     }
 
     /// "Beginning a free clears the block's mark; any task may free."
     fn begin_free(&mut self, task: usize, unit: u64) -> Answer {
+        if unit >= FIRST_UNIT {
+            return self.begin_give(task, unit);
+        }
         let region = (unit / UNITS_PER_REGION) as usize;
         let descriptor = self.map[region].expect("the region is open");
         self.tasks[task].class = self.descriptors[descriptor].class;

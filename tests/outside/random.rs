@@ -51,12 +51,34 @@ impl Random {
 
     /// A number of any size: small ones, ones near the limits that the paper names, and any at all.
     pub fn number(&mut self) -> u64 {
-        const EDGES: [u64; 16] =
-            [0, 1, 7, 8, 16, 17, 255, 256, 257, 511, 8191, 8192, 65536, 1 << 32, u64::MAX - 1, u64::MAX];
+        const EDGES: [u64; 22] = [
+            0,
+            1,
+            7,
+            8,
+            16,
+            17,
+            255,
+            256,
+            257,
+            511,
+            512,
+            513,
+            8191,
+            8192,
+            8256,
+            16384,
+            65535,
+            65536,
+            65537,
+            1 << 32,
+            u64::MAX - 1,
+            u64::MAX,
+        ];
         match self.below(4) {
             0 => self.pick(&EDGES),
             1 => self.below(20),
-            2 => self.below(8200),
+            2 => self.below(16_400),
             _ => self.next() >> self.below(64),
         }
     }

@@ -1,18 +1,18 @@
 //! Random schedules: one style's choices, call by call.
 
 use crate::checks::Parted;
-use crate::classes::{block, class_of, per_region, tail, units, CLASSES, REGION, UNITS_PER_REGION};
-use crate::driver::{Driver, Held};
+use crate::classes::{block, class_of, CLASSES};
+use crate::driver::Driver;
 use crate::lists::{Move, Phase};
-use crate::pool::{Call, Place, Request, CONTROL, REGIONS};
+use crate::pool::{Call, Place, Request, CONTROL};
+use crate::strips::{LEAST_SIZE, SLOT, STRIPS};
 use crate::styles::{Order, Style, Turn};
-
-const LENGTHS: [u64; 14] = [0, 1, 4095, 4096, 4097, 8191, 8192, 8193, 16384, 65535, 65536, 65537, 69632, 131_072];
+use crate::users::Held;
 
 pub struct Schedule<'a, 'b> {
     pub driver: &'b mut Driver<'a>,
-    style: &'b Style,
-    in_use: Vec<usize>,
+    pub style: &'b Style,
+    pub in_use: Vec<usize>,
     filling: bool,
     turn: u64,
     turn_left: u64,
@@ -89,7 +89,7 @@ impl<'a, 'b> Schedule<'a, 'b> {
             _ => Request::Step { task },
         };
         let answer = self.driver.ask(request)?;
-        if answer.0 == 12 || answer.0 == 13 {
+        if matches!(answer.0, 12 | 13 | 16) {
             self.filling = self.filling && self.driver.random.one_in(4);
         }
         Ok(())
@@ -99,7 +99,7 @@ impl<'a, 'b> Schedule<'a, 'b> {
         let tasks = self.driver.random.from_to(self.style.tasks.0, self.style.tasks.1);
         let regions = self.driver.random.from_to(self.style.regions.0, self.style.regions.1);
         self.frozen = None;
-        let call = Call { control: CONTROL, area: regions * 4096, request: Request::Start { tasks } };
+        let call = Call { control: CONTROL, area: regions * 4096, strips: STRIPS, request: Request::Start { tasks } };
         self.driver.call(call)?;
         self.filling = true;
         self.driver.compare_structure()
@@ -123,7 +123,7 @@ impl<'a, 'b> Schedule<'a, 'b> {
         self.in_use = (0..wanted).map(|_| random.from_to(first as u64, last as u64) as usize).collect();
     }
 
-    fn tasks(&self) -> u64 {
+    pub fn tasks(&self) -> u64 {
         self.driver.pool.started_tasks
     }
 
@@ -183,14 +183,30 @@ impl<'a, 'b> Schedule<'a, 'b> {
         }
     }
 
-    /// A size of one of the classes in use.
+    /// A size of one of the classes in use, or that of a strip.
     fn size(&mut self) -> u64 {
+        if self.driver.random.percent(self.style.strips) {
+            return self.strip_size();
+        }
         let class = self.driver.random.pick(&self.in_use);
         let below = if class == 0 { 0 } else { block(class - 1) };
         self.driver.random.from_to(below + 1, block(class))
     }
 
-    fn block_to_free(&mut self) -> Option<Held> {
+    /// A size of one of the style's orders, often the smallest or the largest of the order.
+    fn strip_size(&mut self) -> u64 {
+        let (first, last) = self.style.orders;
+        let random = &mut self.driver.random;
+        let largest = SLOT << random.from_to(first as u64, last as u64);
+        let smallest = (largest / 2 + 1).max(LEAST_SIZE);
+        match random.below(4) {
+            0 => smallest,
+            1 => largest,
+            _ => random.from_to(smallest, largest),
+        }
+    }
+
+    pub fn block_to_free(&mut self) -> Option<Held> {
         let held = &self.driver.held;
         if held.is_empty() {
             return None;
@@ -199,63 +215,6 @@ impl<'a, 'b> Schedule<'a, 'b> {
             Order::Any => Some(held[self.driver.random.below(held.len() as u64) as usize]),
             Order::Rising => held.iter().min_by_key(|held| held.unit).copied(),
             Order::Newest => held.last().copied(),
-        }
-    }
-
-    /// A call of any numbers and lengths. A start among them is always one that is refused.
-    fn odd_call(&mut self) -> Call {
-        let random = &mut self.driver.random;
-        let control = if random.percent(15) { random.pick(&LENGTHS) } else { CONTROL };
-        let area = if random.percent(20) { random.pick(&LENGTHS) } else { self.driver.area.len() as u64 };
-        let request = match random.below(6) {
-            0 => return self.odd_start(control, area),
-            1 | 2 => Request::Allocate { task: self.odd_task(), size: self.odd_size() },
-            3 | 4 => Request::Free { task: self.odd_task(), unit: self.odd_unit() },
-            _ => Request::Step { task: self.odd_task() },
-        };
-        Call { control, area, request }
-    }
-
-    fn odd_start(&mut self, control: u64, area: u64) -> Call {
-        let random = &mut self.driver.random;
-        let tasks = if random.one_in(2) { random.number() } else { random.below(10) };
-        let valid = control == CONTROL && (1..=REGIONS as u64).contains(&(area / REGION)) && area % REGION == 0;
-        let tasks = if valid && (1..=8).contains(&tasks) { tasks + 8 } else { tasks };
-        Call { control, area, request: Request::Start { tasks } }
-    }
-
-    fn odd_task(&mut self) -> u64 {
-        let tasks = self.tasks();
-        let random = &mut self.driver.random;
-        if tasks == 0 || random.percent(15) {
-            random.number()
-        } else {
-            random.below(tasks)
-        }
-    }
-
-    fn odd_size(&mut self) -> u64 {
-        let random = &mut self.driver.random;
-        match random.below(3) {
-            0 => 0,
-            1 => 257 + (random.next() >> random.below(64)) % (u64::MAX - 256),
-            _ => random.number(),
-        }
-    }
-
-    /// A unit: any number, any unit of the area, one beside a held block, the first behind a region's last block, or
-    /// any block of a class in use.
-    fn odd_unit(&mut self) -> u64 {
-        let held = self.block_to_free();
-        let random = &mut self.driver.random;
-        let class = random.pick(&self.in_use);
-        let region = random.below(REGIONS as u64 + 1) * UNITS_PER_REGION;
-        match (random.below(5), held) {
-            (0, _) => random.number(),
-            (1, _) => random.below(self.driver.area.len() as u64 / 8),
-            (2, Some(held)) => held.unit.wrapping_add(random.below(3)).wrapping_sub(1),
-            (3, _) => region + tail(class),
-            _ => region + random.below(per_region(class)) * units(class),
         }
     }
 }

@@ -2,10 +2,11 @@
 
 use crate::faults::Fault;
 use crate::pool::{Answer, Call, Pool, Request, CONTROL};
+use crate::strips::STRIPS;
 
 /// "Input past 65,536 bytes is not read".
 pub const LIMIT: usize = 65_536;
-/// "The stand keeps an area of 16,384 bytes"; "more than 4 regions is 2".
+/// "The stand keeps an area of 16,384 bytes"; "more than 4 regions is 2". Its memory for strips has 65,536 bytes.
 const MOST_REGIONS: u64 = 4;
 
 pub struct Stand {
@@ -81,7 +82,8 @@ impl Stand {
             return (2, 0);
         }
         let area = regions * 4096;
-        let answer = self.pool.call(&Call { control: CONTROL, area, request: Request::Start { tasks } });
+        let answer =
+            self.pool.call(&Call { control: CONTROL, area, strips: STRIPS, request: Request::Start { tasks } });
         if answer.0 == 0 {
             self.lent = area;
         }
@@ -89,7 +91,7 @@ impl Stand {
     }
 
     fn ask(&mut self, request: Request) -> Answer {
-        self.pool.call(&Call { control: CONTROL, area: self.lent, request })
+        self.pool.call(&Call { control: CONTROL, area: self.lent, strips: STRIPS, request })
     }
 
     /// "which stops at a finish, an end or a refusal (most 0: code 0, no call made)". "A run shows its last call's

@@ -32,6 +32,16 @@ fn decided() -> Vec<(&'static str, Vec<u8>, String)> {
         ("run of 0 before a start", vec![5, 200, 0, 0], "0 5 0 0\ntotal 0 1 0\n".to_string()),
         ("run of 1 before a start", vec![5, 0, 1, 0], "0 5 4 0\ntotal 0 0 1\n".to_string()),
         ("run without a request", vec![1, 1, 1, 5, 0, 9, 0], "0 1 0 0\n1 5 7 0\ntotal 0 1 1\n".to_string()),
+        (
+            "257 bytes are a strip, given back in one step",
+            vec![1, 1, 1, 2, 0, 1, 1, 4, 0, 3, 0, 0, 32, 4, 0, 3, 0, 0, 32],
+            "0 1 0 0\n1 2 0 0\n2 4 20 8192\n3 3 0 0\n4 4 20 0\n5 3 10 0\ntotal 2 3 1\n".to_string(),
+        ),
+        (
+            "65,535 bytes are all of it, and then there is no strip",
+            vec![1, 1, 1, 2, 0, 255, 255, 5, 0, 9, 0, 2, 0, 1, 1, 5, 0, 9, 0, 4, 0],
+            "0 1 0 0\n1 2 0 0\n2 5 20 8192\n3 2 0 0\n4 5 16 0\n5 4 7 0\ntotal 1 3 2\n".to_string(),
+        ),
         ("more than 65,536 bytes", long, format!("{many}total 0 0 {}\n", LIMIT / 2)),
         ("cut by 65,536 bytes", over, format!("{almost}{last} 1 15 0\ntotal 0 0 {}\n", LIMIT / 2)),
     ]
@@ -92,12 +102,13 @@ fn schedule(random: &mut Random) -> Vec<u8> {
     let (mut stand, mut bytes, mut held) = (Stand::new(), Vec::new(), Vec::new());
     let records = random.pick(&[5, 50, 500, 4000, 20_000]);
     let large = random.one_in(2);
+    let strips = random.pick(&[0, 3, 20, 90]);
     let tasks = random.from_to(1, 8) as u8;
     for number in 0..records {
         let record = if number == 0 {
             vec![1, tasks, random.from_to(1, 4) as u8]
         } else {
-            record(random, tasks, large, &mut held)
+            record(random, tasks, (large, strips), &mut held)
         };
         let answer = stand.treat(record[0], &record[1..]);
         if answer.0 == 20 && answer.1 != 0 {
@@ -108,9 +119,15 @@ fn schedule(random: &mut Random) -> Vec<u8> {
     bytes
 }
 
-fn record(random: &mut Random, tasks: u8, large: bool, held: &mut Vec<u64>) -> Vec<u8> {
+/// A record: with large blocks or any, and in so many of a hundred cases about strips.
+fn record(random: &mut Random, tasks: u8, (large, strips): (bool, u64), held: &mut Vec<u64>) -> Vec<u8> {
     let task = if random.one_in(40) { random.next() as u8 } else { random.below(u64::from(tasks)) as u8 };
-    let size = if large { random.from_to(193, 257) } else { random.below(260) };
+    let strip = random.percent(strips);
+    let size = match strip {
+        true => (random.next() % 65_536 >> random.below(9)).max(257),
+        false if large => random.from_to(193, 257),
+        false => random.below(260),
+    };
     let words = |kind: u8, word: u64| vec![kind, task, word as u8, (word >> 8) as u8];
     match random.below(20) {
         0 if random.one_in(60) => vec![1, random.below(10) as u8, random.below(7) as u8],
@@ -120,6 +137,7 @@ fn record(random: &mut Random, tasks: u8, large: bool, held: &mut Vec<u64>) -> V
             let unit = if random.one_in(10) { held[index] } else { held.swap_remove(index) };
             words(3, unit)
         }
+        9 if strip => words(3, 8192 + random.below(8300) / 32 * 32),
         9 => words(3, random.below(2200)),
         10 | 11 => vec![4, task],
         12 => words(5, random.below(4)),

@@ -26,6 +26,8 @@ impl Pool {
             Place::LastLink => self.go(task, Place::ReturnGroup),
             Place::ReturnGroup => self.return_group(task),
             Place::ClearMap => self.clear_map(task),
+            Place::TakeStrip => self.take_strip(task),
+            Place::GiveStrip => self.give_strip(task),
         }
     }
 

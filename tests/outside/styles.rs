@@ -2,6 +2,7 @@
 
 use crate::classes::CLASSES;
 use crate::pool::REGIONS;
+use crate::strips::WHOLE;
 
 /// Which held block is freed next.
 #[derive(Clone, Copy, PartialEq, Eq, Debug)]
@@ -31,6 +32,9 @@ pub struct Style {
     /// The smallest and the largest block of the classes to choose from, and how many classes are in use at a time.
     pub blocks: (u64, u64),
     pub at_once: u64,
+    /// In how many of a hundred cases a strip is asked for, and the smallest and the largest of its orders.
+    pub strips: u64,
+    pub orders: (usize, usize),
     pub turn: Turn,
     pub order: Order,
     /// In how many of a hundred cases a task that stands before an exchange lets another go first.
@@ -51,6 +55,8 @@ const BASE: Style = Style {
     regions: (1, REGIONS as u64),
     blocks: (8, 256),
     at_once: 3,
+    strips: 0,
+    orders: (0, WHOLE),
     turn: Turn::Any,
     order: Order::Any,
     stall: 30,
@@ -62,7 +68,7 @@ const BASE: Style = Style {
 };
 
 pub const STYLES: &[Style] = &[
-    Style { name: "everything at random", at_once: CLASSES as u64, ..BASE },
+    Style { name: "everything at random", at_once: CLASSES as u64, strips: 12, ..BASE },
     Style { name: "few regions, large blocks", regions: (1, 3), blocks: (160, 256), at_once: 2, stall: 60, ..BASE },
     Style {
         name: "one region, many tasks",
@@ -157,7 +163,41 @@ pub const STYLES: &[Style] = &[
         ..BASE
     },
     Style { name: "newest freed first", blocks: (80, 256), at_once: 2, order: Order::Newest, swing: 700, ..BASE },
-    Style { name: "many starts", restart: 300, odd: 15, blocks: (112, 256), swing: 200, ..BASE },
+    Style { name: "many starts", restart: 300, odd: 15, blocks: (112, 256), strips: 40, swing: 200, ..BASE },
+    Style { name: "strips of every order", strips: 90, odd: 12, freeze: 60, swing: 150, ..BASE },
+    Style {
+        name: "small strips until none is left",
+        tasks: (2, 8),
+        strips: 100,
+        orders: (0, 1),
+        freeze: 200,
+        swing: 0,
+        restart: 9000,
+        ..BASE
+    },
+    Style {
+        name: "large strips, long stops",
+        tasks: (2, 8),
+        strips: 100,
+        orders: (2, WHOLE),
+        turn: Turn::Bursts(6),
+        freeze: 20,
+        swing: 60,
+        ..BASE
+    },
+    Style {
+        name: "strips beside blocks",
+        tasks: (2, 6),
+        regions: (1, 6),
+        blocks: (112, 256),
+        strips: 40,
+        orders: (0, 4),
+        order: Order::Newest,
+        stall: 40,
+        freeze: 100,
+        swing: 400,
+        ..BASE
+    },
 ];
 
 /// The same style without starts.

@@ -4,9 +4,13 @@
 
 use crate::classes::{CLASSES, UNIT};
 use crate::faults::Fault;
-use crate::layout::{self, cache_index, View, TASK_CLASS, TASK_PLACE, TOP};
+use crate::layout::{self, cache_index, View, SLOT_BYTES, TASK_CLASS, TASK_PLACE, TOP};
+use crate::library::Lent;
 use crate::memory::Memory;
+use crate::pieces::{BEGUN, HELD};
 use crate::pool::{Answer, Request, ALL_UNITS, TASKS};
+use crate::strip_steps::slot_of;
+use crate::strips::{SLOT, SLOTS, STRIPS};
 use std::sync::OnceLock;
 
 /// Set once, where the program is asked for a fault.
@@ -29,9 +33,11 @@ const ENTRY_OF_NO_CLASS: usize = LAST_CACHE + 1;
 const FIRST_CARVED: usize = cache_index(0, CLASSES - 1);
 
 /// The call's answer and memories as the broken library would leave them.
-pub fn after(control: &mut Memory, area: &mut Memory, request: Request, before: Before, answer: Answer) -> Answer {
-    let Before { place, class, byte } = before;
+pub fn after(lent: &mut Lent, request: Request, before: Before, answer: Answer) -> Answer {
     let Some(fault) = TAMPERING.get() else { return answer };
+    let answer = after_strip(lent, *fault, before.place, answer);
+    let Before { place, class, byte } = before;
+    let Lent { control, area, .. } = lent;
     let refused = matches!(answer.0, 1..=11 | 14);
     let start = matches!(request, Request::Start { .. });
     let step = matches!(request, Request::Step { .. });
@@ -63,7 +69,30 @@ pub fn after(control: &mut Memory, area: &mut Memory, request: Request, before: 
     answer
 }
 
-pub fn before(control: &Memory, request: Request) -> Before {
+/// The same for the faults that are about strips.
+fn after_strip(lent: &mut Lent, fault: Fault, place: u64, answer: Answer) -> Answer {
+    let Lent { control, strips, .. } = lent;
+    let refused = matches!(answer.0, 1..=11 | 14);
+    let slot = if place == 34 && answer.0 == 20 { slot_of(answer.1) } else { None };
+    match (fault, slot) {
+        (Fault::RefusedWritesStrips, _) if refused => flip(strips, 700),
+        (Fault::TakeWritesStrip, Some(slot)) => flip(strips, slot * SLOT as usize),
+        (Fault::StepTouchesStrip, _) if place == 2 && !refused => flip_held_strip(control, strips),
+        (Fault::StripUnitOff, Some(_)) => return (20, answer.1 + 1),
+        (Fault::StripOrderOff, Some(slot)) => {
+            let byte = layout::get(control.bytes(), SLOT_BYTES, slot);
+            layout::set(control.bytes_mut(), SLOT_BYTES, slot, byte.max(HELD + 1) - 1);
+        }
+        (Fault::SixteenEarly, Some(_)) => return (16, 0),
+        (Fault::SlotPassed, _) if place == 35 && answer.0 == 14 => return (20, 0),
+        (Fault::StripsLengthPassed, _) if answer.0 == 2 && strips.len() as u64 != STRIPS => return (0, 0),
+        _ => (),
+    }
+    answer
+}
+
+pub fn before(lent: &Lent, request: Request) -> Before {
+    let control = &lent.control;
     let (place, class) = match request {
         Request::Step { task } if task < TASKS as u64 && control.len() == 8192 => {
             let field = |column| layout::get(control.bytes(), column, task as usize);
@@ -94,6 +123,14 @@ fn flip_held(control: &Memory, area: &mut Memory) {
     let marked = (0..area.len() / 8).find(|&unit| view.mark(unit));
     if let Some(unit) = marked {
         flip(area, unit * 8 + 1);
+    }
+}
+
+/// Changes a byte of a strip in a user's hands.
+fn flip_held_strip(control: &Memory, strips: &mut Memory) {
+    let in_hand = |slot: &usize| (HELD..BEGUN).contains(&layout::get(control.bytes(), SLOT_BYTES, *slot));
+    if let Some(slot) = (0..SLOTS).find(in_hand) {
+        flip(strips, slot * SLOT as usize + 9);
     }
 }
 

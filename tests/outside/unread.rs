@@ -4,12 +4,13 @@
 use crate::checks::{Checks, Parted};
 use crate::classes::CLASSES;
 use crate::damage::{self, Bytes};
-use crate::fourteen_cases::held;
+use crate::fourteen_cases::{held, held_strip};
 use crate::layout::*;
-use crate::library;
-use crate::memory::{Memory, Side};
+use crate::library::{self, Lent};
+use crate::memory::Side;
 use crate::pool::{self, Request};
 use crate::random::Random;
+use crate::strips::STRIPS;
 use std::sync::LazyLock;
 
 const UNREAD: &str = "unread: other bytes where no field of a class is change no call";
@@ -40,15 +41,15 @@ pub fn round(seed: u64, checks: &mut Checks) {
 fn go_on(bytes: &Bytes, random: &mut Random, checks: &mut Checks) -> Result<(), Parted> {
     let mut noise = vec![0; bytes.control.len()];
     random.fill(&mut noise);
-    let pair =
-        |control: &[u8]| (Memory::with(control, Side::EndsAtGuard), Memory::with(&bytes.area, Side::EndsAtGuard));
-    let (mut one, mut other) = (pair(&bytes.control), pair(&with_noise(&bytes.control, &noise)));
+    let lent = |control: &[u8]| Lent::closed(control, &bytes.area, bytes.strips, Side::EndsAtGuard);
+    let (mut one, mut other) = (lent(&bytes.control), lent(&with_noise(&bytes.control, &noise)));
     for _ in 0..CALLS {
-        let request = request(one.0.bytes(), one.1.bytes(), random);
-        let answer = library::call(&mut one.0, &mut one.1, request);
-        let again = library::call(&mut other.0, &mut other.1, request);
-        let same =
-            answer == again && with_noise(one.0.bytes(), &noise) == other.0.bytes() && one.1.bytes() == other.1.bytes();
+        let request = request(one.control.bytes(), one.area.bytes(), random);
+        let answer = library::call(&mut one, request);
+        let again = library::call(&mut other, request);
+        let same = answer == again
+            && with_noise(one.control.bytes(), &noise) == other.control.bytes()
+            && one.area.bytes() == other.area.bytes();
         checks.hold(UNREAD, same, || format!("{request:?}: {answer:?} and {again:?}"))?;
     }
     Ok(())
@@ -63,10 +64,12 @@ fn with_noise(control: &[u8], noise: &[u8]) -> Vec<u8> {
 /// A step of a task that has a request; else the beginning of one.
 fn request(control: &[u8], area: &[u8], random: &mut Random) -> Request {
     let task = random.below(get(control, TASKS, 0));
-    let bytes = Bytes { control: control.to_vec(), area: area.to_vec() };
-    match held(&bytes) {
+    let bytes = Bytes { control: control.to_vec(), area: area.to_vec(), strips: STRIPS as usize };
+    let unit = if random.one_in(4) { held_strip(&bytes) } else { held(&bytes) };
+    match unit {
         _ if get(control, TASK_PLACE, task as usize) != 0 => Request::Step { task },
         Some(unit) if random.one_in(2) => Request::Free { task, unit },
+        _ if random.one_in(4) => Request::Allocate { task, size: random.next() % STRIPS >> random.below(9) | 257 },
         _ => Request::Allocate { task, size: random.from_to(1, 256) },
     }
 }

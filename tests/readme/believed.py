@@ -8,7 +8,8 @@ import re
 
 from documents import README, read, squeezed, tables_by
 
-STATEMENTS = ('crates/demands/proofs/Demands.antt', 'crates/demands/proofs/HandedOut.antt')
+STATEMENTS = ('crates/demands/proofs/Demands.antt', 'crates/demands/proofs/EndingSteps.antt',
+              'crates/demands/proofs/HandedOut.antt')
 IMPORT = re.compile(r'^use Rattle·(\w+)(?:·specs)?\.specs\.(\w+)', re.M)
 
 

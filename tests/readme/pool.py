@@ -7,16 +7,19 @@ from tables import HEADER, LIMITS, named, value
 CLASSES = 'crates/classes/specs/Classes.antt'
 SIZES = 'crates/classes/proofs/Sizes.antt'
 SIZE_CODE = 'crates/classes/src/size.rt'
-BENCH_SIZES = 'crates/classes/proofs/BenchSizes.antt'
+BENCH_SIZES = 'crates/agreement/proofs/BenchSizes.antt'
 TESTS = 'crates/demands/specs/Tests.antt'
 PICTURE = 'docs/pictures/memories.svg'
 # The rows of the table of numbers, and the constants of the header, by the names of the definitions.
 ROWS = {'tasks': 'TASKS', 'bytes of the control memory': 'CONTROL-BYTES', 'regions of the area': 'REGIONS',
         'bytes of a region': 'REGION-BYTES', 'bytes of a unit': 'UNIT-BYTES', 'units of a region': 'REGION-UNITS',
+        "bytes of the strips' memory": 'STRIPS-BYTES', 'bytes of a slot': 'SLOT-BYTES',
+        "slots of the strips' memory": 'SLOTS', 'units of a slot': 'SLOT-UNITS', 'orders of strips': 'ORDERS',
         'classes of blocks': 'CLASSES', 'descriptors': 'DESCRIPTORS', 'lists': 'LISTS', 'tags of a head word': 'TAGS'}
 CONSTANTS = {'POOL_CONTROL_BYTES': 'CONTROL-BYTES', 'POOL_REGION_BYTES': 'REGION-BYTES', 'POOL_REGIONS_MOST': 'REGIONS',
              'POOL_TASKS_MOST': 'TASKS', 'POOL_BLOCK_MOST': 'LARGEST-SIZE', 'POOL_UNIT_BYTES': 'UNIT-BYTES',
-             'POOL_ALIGNMENT': 'ALIGNMENT'}
+             'POOL_ALIGNMENT': 'ALIGNMENT', 'POOL_STRIPS_BYTES': 'STRIPS-BYTES', 'POOL_STRIP_LEAST': 'SLOT-BYTES',
+             'POOL_STRIP_FIRST': 'UNITS'}
 # The sentences on the order of the tests, and the lists of tests that make them up. 14 comes between, where it is read.
 ORDERS = {'a start': ['startTests'], 'the beginning of an allocation': ['callTests', 'idleTests', 'sizeTests'],
           'the beginning of a free': ['callTests', 'idleTests', 'unitTests'], 'a step': ['callTests', 'requestTests']}
@@ -95,10 +98,12 @@ def bits():
 
 def bench():
     """The bench table's rows about sizes are those of the statement."""
-    rows = re.findall(r'\((\d+), (bytes|number) (\d+)\)', read(BENCH_SIZES))
+    rows = re.findall(r'\((\d+), (bytes|strip|number) (\d+)\)', read(BENCH_SIZES))
     served, blocks = zip(*((size, due) for size, kind, due in rows if kind == 'bytes'))
+    rounded, strips = zip(*((size, due) for size, kind, due in rows if kind == 'strip'))
     refused, numbers = zip(*((size, due) for size, kind, due in rows if kind == 'number'))
     return unsaid(f'| sizes {", ".join(served)} | blocks of {", ".join(blocks)} bytes |',
+                  f'| size {"; size ".join(rounded)} | a strip of {"; of ".join(strips)} bytes |',
                   f'| size {"; size ".join(refused)} | refused by {"; by ".join(numbers)} |')
 
 

@@ -63,10 +63,10 @@ def named(*paths):
 
 
 def value(expression, known):
-    """A number, a name, or two of them with an operation between."""
+    """A number, a name, or several of them with operations between, taken from the left."""
     words = expression.split()
-    if len(words) == 3:
-        return OPERATIONS[words[1]](value(words[0], known), value(words[2], known))
+    if len(words) >= 3:
+        return OPERATIONS[words[-2]](value(' '.join(words[:-2]), known), value(words[-1], known))
     return int(expression) if expression.isdigit() else value(known[expression], known)
 
 

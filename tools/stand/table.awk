@@ -11,13 +11,14 @@ BEGIN {
     meaning[6] = "request in hand"
     meaning[7] = "no request in hand"
     meaning[8] = "size 0"
-    meaning[9] = "size above 256"
-    meaning[10] = "no block of an open region"
+    meaning[9] = "size above 65,536"
+    meaning[10] = "no block or strip there"
     meaning[11] = "not in a user's hands"
     meaning[12] = "no descriptor"
     meaning[13] = "no region"
     meaning[14] = "damaged memory"
     meaning[15] = "unknown kind or cut record"
+    meaning[16] = "no strip"
     meaning[20] = "finished"
 }
 

@@ -21,10 +21,16 @@ use Rattle.plain.proofs.CallAnswers.{most}
 use Rattle.stepped.specs.Outcome.{Memories}
 use Rattle.agreement.specs.Events.{Event, write, stepped, whole, Recent, Near, classThere}
 use Rattle.agreement.specs.Events.{Premises, Unstarted, call, CallPremise}
-use Rattle.stepped.specs.Calls.{lengths}
+use Rattle.stepped.specs.Calls.{Lent, lengths}
 use Rattle.agreement.specs.Reached.{starting}
 use Rattle.agreement.specs.Agreement.{Agree}
 use Rattle.agreement.proofs.Theorem.{agreement, agreement-from-start}
+use Rattle.limits.specs.Limits.{STRIPS-BYTES, SLOT-BYTES}
+use Rattle.pieces.specs.Pieces.{free as free-piece, held as held-piece, begun}
+use Rattle.pieces.specs.StripSlots.{SlotHolds, vacant, within, slotHolds}
+use Rattle.pieces.proofs.SlotStrips.{strip-of}
+use Rattle.agreement.specs.Events.{write-strip, InStrip}
+use Prim.Native.Nat.{_-_}
 
 -- ---- the answers
 
@@ -50,12 +56,11 @@ pub answered : (es : List Event) (s₁ : Memories) → Unstarted s₁ → Premis
 answered es s₁ U p = same-answers es s₁ unstarted (agreement es s₁ U p)
 
 -- from an accepted start on any memories, under the premises, the stepped run answers what the whole run does
-pub answered-from-start : (es : List Event) (s₁ : Memories) (s : Pool) (b : Start) (area : List ℕ)
-    → Plain.StartArea (length area)
-    → Plain.StartTasks (b .tasks) → Premises es (whole (starting b area) s .0)
-    → steppedAnswers (starting b area ∷ es) s₁ ≡ wholeAnswers (starting b area ∷ es) s
-answered-from-start es s₁ s b area a t p =
-    same-answers (starting b area ∷ es) s₁ s (agreement-from-start es s₁ s b area a t p)
+pub answered-from-start : (es : List Event) (s₁ : Memories) (s : Pool) (b : Start) (lent : Lent)
+    → Plain.StartTested b (lengths lent) → Premises es (whole (starting b lent) s .0)
+    → steppedAnswers (starting b lent ∷ es) s₁ ≡ wholeAnswers (starting b lent ∷ es) s
+answered-from-start es s₁ s b lent T p =
+    same-answers (starting b lent ∷ es) s₁ s (agreement-from-start es s₁ s b lent T p)
 
 -- the plain pool after a list of events
 abbrev pub after : List Event → Pool → Pool
@@ -98,13 +103,49 @@ ByteHeld at s =
     let u = blockAt at s in
     (1 ≤ s .tasks) × ((1 ≤ s .mem .hands u) × ((UNIT-BYTES * u ≤ at) × (at < UNIT-BYTES * u + block (classThere u s))))
 
--- every write of the list is into a block in a user's hands
+-- the strip that the byte of the strips' memory lies in, by what its slot is in, is in a user's hands
+abbrev pub InHeld : SlotHolds → Type 0
+InHeld vacant = ⊥
+InHeld (within a k free-piece) = ⊥
+InHeld (within a k held-piece) = Unit {0}
+InHeld (within a k (begun t)) = ⊥
+
+abbrev pub StripByteHeld : ℕ → Pool → Type 0
+StripByteHeld at s = (1 ≤ s .tasks) × ((at < STRIPS-BYTES) × InHeld (slotHolds 0 (s .mem .strips) (at / SLOT-BYTES)))
+
+-- every write of the list is into a block or a strip in a user's hands
 abbrev pub WritesHeld : List Event → Pool → Type 0
 WritesHeld [] s = Unit {0}
 WritesHeld (call k lent ∷ es) s = WritesHeld es (whole (call k lent) s .0)
 WritesHeld (write at b ∷ es) s = ByteHeld at s × WritesHeld es s
+WritesHeld (write-strip at b ∷ es) s = StripByteHeld at s × WritesHeld es s
 
--- whether every write of the list is into a block in a user's hands is found by running the plain pool
+abbrev pub inHeld? : (x : SlotHolds) → Dec (InHeld x)
+inHeld? vacant = no (λ h. h)
+inHeld? (within a k free-piece) = no (λ h. h)
+inHeld? (within a k held-piece) = yes tt
+inHeld? (within a k (begun t)) = no (λ h. h)
+
+-- such a byte is in a strip in a user's hands
+strip-held : (at : ℕ) (s : Pool) → StripByteHeld at s → InStrip at s
+strip-held at s h = by (slotHolds 0 (s .mem .strips) (at / SLOT-BYTES)) refl (h .1 .1)
+  where
+    by : (x : SlotHolds) → slotHolds 0 (s .mem .strips) (at / SLOT-BYTES) ≡ x → InHeld x → InStrip at s
+    by vacant e k = absurd k
+    by (within a o free-piece) e k = absurd k
+    by (within a o held-piece) e k =
+        let S = strip-of 0 (s .mem .strips) (at / SLOT-BYTES) a o held-piece (omega (arith, h .1 .0)) e in
+        record {
+          started = h .0;
+          slot = a - 0;
+          order = o;
+          held = S .starts;
+          from = omega (arith, S .from);
+          to = omega (arith, S .to);
+        }
+    by (within a o (begun t)) e k = absurd k
+
+-- whether every write of the list is into a block or a strip in a user's hands is found by running the plain pool
 unfoldable pub writesHeld? : (es : List Event) (s : Pool) → Dec (WritesHeld es s)
 writesHeld? [] s = yes tt
 writesHeld? (call k lent ∷ es) s = writesHeld? es (whole (call k lent) s .0)
@@ -114,6 +155,11 @@ writesHeld? (write at b ∷ es) s =
     (both (decLe 1 (s .tasks))
     (both (decLe 1 (s .mem .hands u))
     (both (decLe (UNIT-BYTES * u) at) (decLt at (UNIT-BYTES * u + block (classThere u s))))))
+    (writesHeld? es s)
+writesHeld? (write-strip at b ∷ es) s =
+    both
+    (both (decLe 1 (s .tasks))
+    (both (decLt at STRIPS-BYTES) (inHeld? (slotHolds 0 (s .mem .strips) (at / SLOT-BYTES)))))
     (writesHeld? es s)
 
 -- the answer of a test is yes
@@ -145,3 +191,5 @@ short n (write at b ∷ es) s a l w = (
   },
   short (suc n) es s (λ h ℓ. omega (arith, a h ℓ)) (omega arith) (w .1),
 )
+short n (write-strip at b ∷ es) s a l w =
+    (strip-held at s (w .0), short (suc n) es s (λ h ℓ. omega (arith, a h ℓ)) (omega arith) (w .1))

@@ -18,7 +18,7 @@ use Rattle.plain.specs.Moves.{Answer, refused}
 use Rattle.plain.specs.Steps.{Result, stepOf, stepAt, whenWorking}
 use Rattle.plain.specs.Requests.{requestAt, StillAt}
 use Rattle.plain.specs.Calls.{Pool, Start, Lengths, Call, start, allocate, free, step, startMem, opens?, first?}
-use Rattle.plain.specs.Calls.{freeEntry, whenIdle, tested, unstarted, plainCall, StartArea, StartTasks}
+use Rattle.plain.specs.Calls.{freeEntry, whenIdle, tested, unstarted, plainCall, StartTested}
 use Rattle.plain.proofs.CallTests.{either, by-tests, start-numbers, start-passed, by-start-tests}
 use Rattle.plain.proofs.Requests.{own-request}
 use Rattle.stepped.specs.Calls.{Lent, lengths}
@@ -26,6 +26,13 @@ use Rattle.agreement.specs.Events.{Event, call, write, whole}
 use Rattle.agreement.specs.Reached.{History, starting}
 use Rattle.agreement.specs.Asked.{Asked, nothing-yet, for-bytes, for-free, askedBy, askedIn, asked}
 use Rattle.agreement.specs.AtWhatAsked.{AsAsked, AtWhatAsked, AllAtWhatAsked}
+use Rattle.limits.specs.Limits.{UNITS, LARGEST-STRIP}
+use Rattle.pieces.specs.Pieces.{free as free-piece, held, begun}
+use Rattle.pieces.specs.Strips.{StripStart, nowhere, here, stripStarts}
+use Rattle.pieces.specs.StripUnits.{slotOfUnit}
+use Rattle.plain.specs.Calls.{StripUnit, stripUnit?, freeStripAt}
+use Rattle.agreement.specs.Events.{write-strip}
+use Prim.Native.Nat.{_<_}
 
 -- a refused call asks for nothing
 refused-asks : (k : Call) (t n : ℕ) (a : Asked) → 1 ≤ n → askedBy t k n a ≡ a
@@ -85,17 +92,26 @@ module _ (k : Call) (s : Pool) (a : ℕ → Asked) (A : AllAtWhatAsked a (s .mem
   when-idle (working w) x h = refuses 6 (omega arith)
 
 -- the beginning of a free, by the map's entry of the unit's region
-free-asked : (s : Pool) (a : ℕ → Asked) (A : AllAtWhatAsked a (s .mem)) (u unit z : ℕ)
+free-asked : (s : Pool) (a : ℕ → Asked) (A : AllAtWhatAsked a (s .mem)) (u unit : ℕ) → unit < UNITS → (z : ℕ)
     → Shown (free u unit) s a A (freeEntry z u unit (s .mem))
-free-asked s a A u unit zero = refuses (free u unit) s a A 10 (omega arith)
-free-asked s a A u unit (suc d) =
+free-asked s a A u unit l zero = refuses (free u unit) s a A 10 (omega arith)
+free-asked s a A u unit l (suc d) =
     let k = free u unit in
     let D = s .mem .descriptor d in
     let Q = Shown k s a A in
     either Q (both (opens? D (regionOf unit)) (first? (D .class) unit)) _ _
     (λ e. either Q (ℕ-discrete (s .mem .hands unit) 0) _ _ (λ f. refuses k s a A 11 (omega arith))
-    (λ f. begins a (s .mem) A u (for-free unit) _ refl))
+    (λ f. begins a (s .mem) A u (for-free unit) _ (refl, l)))
     (λ e. refuses k s a A 10 (omega arith))
+
+-- the beginning of a strip's free, by what starts at the slot
+strip-asked : (s : Pool) (a : ℕ → Asked) (A : AllAtWhatAsked a (s .mem)) (u unit : ℕ) (x : StripStart) → StripUnit unit
+    → Shown (free u unit) s a A (freeStripAt x u (slotOfUnit unit) (s .mem))
+strip-asked s a A u unit nowhere l = refuses (free u unit) s a A 10 (omega arith)
+strip-asked s a A u unit (here j free-piece) l = refuses (free u unit) s a A 10 (omega arith)
+strip-asked s a A u unit (here j held) l =
+    begins a (s .mem) A u (for-free unit) _ (omega (arith, l .0, l .1 .1))
+strip-asked s a A u unit (here j (begun t)) l = refuses (free u unit) s a A 11 (omega arith)
 
 -- one call of the plain pool
 call-asked : (k : Call) (lent : Lengths) (s : Pool) (a : ℕ → Asked) (A : AllAtWhatAsked a (s .mem))
@@ -109,13 +125,19 @@ call-asked (allocate u size) lent s a A =
     let Q = Shown k s a A in
     when-tested k s a A u lent _ (when-idle k s a A (s .mem .task u .place) _
     (either Q (ℕ-discrete size 0) _ _ (λ e. refuses k s a A 8 (omega arith))
-    (λ e. either Q (decLt LARGEST-SIZE size) _ _ (λ f. refuses k s a A 9 (omega arith))
-    (λ f. begins a (s .mem) A u (for-bytes size) _ (omega arith, omega arith, refl)))))
+    (λ e. either Q (decLt LARGEST-STRIP size) _ _ (λ f. refuses k s a A 9 (omega arith))
+    (λ f. begins a (s .mem) A u (for-bytes size) _
+    (either (λ w. AsAsked (for-bytes size) (requestAt w)) (decLt LARGEST-SIZE size) _ _
+    (λ g. (g, omega arith, refl)) (λ g. (omega arith, omega arith, refl)))))))
 call-asked (free u unit) lent s a A =
     let k = free u unit in
     when-tested k s a A u lent _ (when-idle k s a A (s .mem .task u .place) _
-    (either (Shown k s a A) (decLt (regionOf unit) (s .regions)) _ _
-    (λ e. free-asked s a A u unit (s .mem .map (regionOf unit))) (λ e. refuses k s a A 10 (omega arith))))
+    (either (Shown k s a A) (decLt unit UNITS) _ _
+    (λ e. either (Shown k s a A) (decLt (regionOf unit) (s .regions)) _ _
+    (λ f. free-asked s a A u unit e (s .mem .map (regionOf unit))) (λ f. refuses k s a A 10 (omega arith)))
+    (λ e. either (Shown k s a A) (stripUnit? unit) _ _
+    (λ f. strip-asked s a A u unit (stripStarts (s .mem .strips) (slotOfUnit unit)) f)
+    (λ f. refuses k s a A 10 (omega arith)))))
 call-asked (step u) lent s a A = when-tested (step u) s a A u lent (stepOf u (s .mem)) (step-asked a (s .mem) A u)
 
 -- one event of the whole run
@@ -123,6 +145,7 @@ pub event-asked : (e : Event) (s : Pool) (a : ℕ → Asked) → AllAtWhatAsked 
     → AllAtWhatAsked (λ t. askedIn t e (whole e s .1 .code) (a t)) (whole e s .0 .mem)
 event-asked (call k lent) s a A = call-asked k (lengths lent) s a A
 event-asked (write at b) s a A = A
+event-asked (write-strip at b) s a A = A
 
 -- nothing is asked for at first
 pub unstarted-asked : (a : ℕ → Asked) → AllAtWhatAsked a (unstarted .mem)
@@ -130,12 +153,12 @@ unfolding unstarted startMem
 unstarted-asked a t = tt
 
 -- nothing is under way after an accepted start
-pub started-asked : (b : Start) (area : List ℕ) (s : Pool) (a : ℕ → Asked) → StartArea (length area)
-    → StartTasks (b .tasks) → AllAtWhatAsked a (whole (starting b area) s .0 .mem)
+pub started-asked : (b : Start) (lent : Lent) (s : Pool) (a : ℕ → Asked) → StartTested b (lengths lent)
+    → AllAtWhatAsked a (whole (starting b lent) s .0 .mem)
 unfolding plainCall startMem
-started-asked b area s a x y t =
+started-asked b lent s a T t =
     subst⁻¹ (λ (z : Pool × Answer). AtWhatAsked (a t) (z .0 .mem .task t .place))
-    (start-passed s (record { control-is = refl; area = x; tasks = y })) tt
+    (start-passed s T) tt
 
 -- "A start may come at any time and begins a new run": nothing is asked for behind one that is accepted
 pub start-forgets : (t : ℕ) (b : Start) (lent : Lent) (s : Pool) (x : Answer) (h : History) → x .code ≡ 0

@@ -22,6 +22,9 @@ use Rattle.agreement.proofs.Sets.{onLists, onDescriptors, onEntries, wi
 use Rattle.agreement.proofs.Sets.{withRegionNexts, withAnchors, withMap, withMarks, setSlot, setHead}
 use Rattle.agreement.proofs.Sets.{setDescriptorNext}
 use Rattle.agreement.proofs.Sets.{setRegionNext, setAnchor, setOwner, setMap, setMark}
+use Rattle.strip_tree.specs.declared.tree.Tree.{Tree}
+use Rattle.stepped.specs.StripSteps.{treeOf, treeWrites}
+use Rattle.agreement.proofs.Sets.{withStrips}
 
 -- ---- one column
 
@@ -170,3 +173,15 @@ module _ (v : View) (S : ℕ → Slot) (area : List ℕ) where
       ≡ withSlots S (setMark u b (contentsOf v area))
   mark-written u b made here others =
       ap (λ (f : ℕ → ℕ). onEntries (withMarks f) before) (marks-update v u b made here others)
+
+  -- the byte of the slot q
+  pub slot-written : (q x : ℕ)
+      → withSlots S (contentsOf (assigned (Layout.SlotByte q := x ∷ []) v) area)
+      ≡ withSlots S (withStrips (treeOf v) (update (λ j. v (Layout.SlotByte j)) q x) (contentsOf v area))
+  slot-written = column-written (withStrips (treeOf v)) (λ y. y) (λ j. v (Layout.SlotByte j))
+
+  -- the byte of the slot q, and the tree
+  pub strip-written : (q x : ℕ) (tree : Tree)
+      → withSlots S (contentsOf (assigned (Layout.SlotByte q := x ∷ treeWrites tree) v) area)
+      ≡ withSlots S (withStrips tree (update (λ j. v (Layout.SlotByte j)) q x) (contentsOf v area))
+  strip-written q x tree = column-written (withStrips tree) (λ y. y) (λ j. v (Layout.SlotByte j)) q x

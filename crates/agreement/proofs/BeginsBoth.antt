@@ -1,6 +1,6 @@
 -- The beginnings of requests, in both pools.
 use mathlib.Core.Path.{_≡_, refl, sym, ap, subst, _∙_}
-use mathlib.Core.Bool.{true, cond}
+use mathlib.Core.Bool.{Bool, true, false, cond, false≢true}
 use mathlib.Core.List.{List, [], _∷_}
 use Prim.Native.Nat.{ℕ, zero, suc, _/_, _%_, _≤_, _<_}
 use native.Mathlib.Omega.{arith}
@@ -8,7 +8,7 @@ use native.Mathlib.Numerals.{sub-one}
 use native.Mathlib.Decide.{ℕ-discrete, decLt}
 use borrow.Author.Tests.{eq-eqb, ne-eqb, le-leb, lt-ltb, eqb-true, eqb-false, ltb-true}
 use lib.Dec.{eqb, ltb}
-use Rattle.limits.specs.Limits.{REGION-UNITS, CLASSES, DESCRIPTORS, LARGEST-SIZE, WORD-MARKS}
+use Rattle.limits.specs.Limits.{REGION-UNITS, CLASSES, DESCRIPTORS, LARGEST-SIZE, LARGEST-STRIP, WORD-MARKS}
 use Rattle.rows.specs.Branch.{if, both}
 use Rattle.fields.specs.Columns.{View, Write, _:=_, assigned}
 use Rattle.links.specs.Link.{link}
@@ -20,9 +20,11 @@ use Rattle.classes.specs.Classes.{units, perRegion}
 use Rattle.classes.specs.Sizes.{classOf}
 use Rattle.classes.specs.Geometry.{regionOf, indexOf, isFirst}
 use Rattle.classes.proofs.Sizes.{is-class}
+use Rattle.pieces.specs.StripSizes.{orderOf}
+use Rattle.pieces.proofs.StripSizes.{rounds}
 use Rattle.plain.specs.State.{stateNumber, Place, idle, a1, f1, Mem, Task, setTask}
 use Rattle.plain.specs.State.{setHands}
-use Rattle.plain.specs.State.{working}
+use Rattle.plain.specs.State.{strip-take, Work, working}
 use Rattle.plain.specs.Moves.{going, nothing, refused}
 use Rattle.plain.specs.Steps.{Result}
 use Rattle.plain.specs.Calls as Plain
@@ -31,14 +33,14 @@ use Rattle.plain.proofs.Homes.{inside-open}
 use Rattle.plain.proofs.PlaceAlone.{taskOf}
 use Rattle.plain.proofs.ByState.{not-empty, larger-is}
 use Rattle.control.specs.Layout.{Anchor, Marks, TaskUnit, TaskPlace, TaskClass, DescriptorRegion, DescriptorClass}
-use Rattle.control.specs.Places.{IDLE, A1, F1, PLACES}
-use Rattle.stepped.specs.Outcome.{Outcome, refuse}
+use Rattle.control.specs.Places.{IDLE, A1, F1, STRIP-TAKE, PLACES}
+use Rattle.stepped.specs.Outcome.{Outcome, refuse, accept}
 use Rattle.stepped.specs.Ranges.{isAnchor}
 use Rattle.stepped.specs.Calls as Stepped
 use Rattle.agreement.specs.Contents.{TaskCaches, Slot, Contents, slotOf, contentsOf}
 use Rattle.agreement.specs.Relation
 use Rattle.agreement.specs.Relation.{CachesRelated, PlaceRelated, r-idle, r-a1, r-f1, SlotRelated, Related}
-use Rattle.agreement.specs.Relation.{r-working}
+use Rattle.agreement.specs.Relation.{r-working, r-strip-take, WorkRelated}
 use Rattle.agreement.proofs.BothPass.{both-true}
 use Rattle.agreement.proofs.Slots.{toRequest}
 use Rattle.agreement.proofs.Sets.{setSlot, setMark}
@@ -86,36 +88,63 @@ module _ {regions : ℕ} {v : View} {area : List ℕ} {m : Mem} {t : ℕ} {k : �
         (subst (λ (z : TaskCaches). CachesRelated (link area) z k) (sym g) (mine (w .pair) .caches));
   }
 
-  -- allocate: "8 size 0; 9 size above 256"
-  pub allocate-both : (size : ℕ) → Both regions v area m (Stepped.beginAllocate t size) (Plain.beginAllocate t size m)
-  unfolding Stepped.beginAllocate
-  allocate-both size =
-      decide (eqb size 0) (ℕ-discrete size 0) (eqb-true size 0) (eq-eqb size 0) (λ e f. refusal R 8)
-      (λ e f. decide (ltb LARGEST-SIZE size) (decLt LARGEST-SIZE size) (ltb-true LARGEST-SIZE size)
-      (lt-ltb LARGEST-SIZE size)
-      (λ g h. refusal R 9)
-      (λ g h.
-      let l : classOf size < CLASSES = is-class size (omega arith) in
-      let s = toRequest A1 (classOf size) (v (TaskUnit t)) (slotOf v t) in
-      let ws = TaskPlace t := A1 ∷ TaskClass t := classOf size ∷ [] in
+  -- the beginning of an allocation writes the task's place and its class, or its order
+  begins : (place c : ℕ) (p : Work) → c < CLASSES → place < PLACES
+      → WorkRelated regions (setSlot t (toRequest place c (v (TaskUnit t)) (slotOf v t)) (contentsOf v area))
+      (setTask t (taskOf (working p) k) m) (toRequest place c (v (TaskUnit t)) (slotOf v t)) p
+      → Both regions v area m (accept nothing (TaskPlace t := place ∷ TaskClass t := c ∷ []) [])
+      (setTask t (record { place = working p; cache = m .task t .cache }) m, going nothing)
+  begins place c p l n r =
+      let s = toRequest place c (v (TaskUnit t)) (slotOf v t) in
+      let ws = TaskPlace t := place ∷ TaskClass t := c ∷ [] in
       record {
         says = refl;
         rel =
             subst (λ (z : Contents). Related regions z
-            (setTask t (record { place = working (a1 (classOf size)); cache = m .task t .cache }) m))
+            (setTask t (record { place = working p; cache = m .task t .cache }) m))
             (sym (becomes v (assigned ws v) area t s (contentsOf v area) refl refl (rw (eq-eqb t t refl))
             (λ j n. rw (ne-eqb t j n))))
             (subst (λ (q : ℕ → List ℕ). Related regions (setSlot t s (contentsOf v area))
-            (setTask t (record { place = working (a1 (classOf size)); cache = q }) m)) (sym cache-is)
-            (quiet (w .pair) s (taskOf (working (a1 (classOf size))) k)
-            (begun _ _ s (working (a1 (classOf size))) refl l refl (r-working (r-a1 refl)))));
+            (setTask t (record { place = working p; cache = q }) m)) (sym cache-is)
+            (quiet (w .pair) s (taskOf (working p) k) (begun _ _ s (working p) refl l refl (r-working r))));
         keeps = (refl, refl);
         sound = omega (arith, w .pair .turn .fits);
         apart = tt;
-      }))
+      }
     where
       cache-is : m .task t .cache ≡ k
       cache-is = ap (λ (T : Task). T .cache) (w .pair .turn .is)
+
+  -- allocate: "8 size 0"; "9 now means above 65,536"; up to 256 a small block, else a strip
+  pub allocate-both : (size : ℕ) → Both regions v area m (Stepped.beginAllocate t size) (Plain.beginAllocate t size m)
+  unfolding Stepped.beginAllocate
+  allocate-both size =
+      decide (eqb size 0) (ℕ-discrete size 0) (eqb-true size 0) (eq-eqb size 0) (λ e f. refusal R 8)
+      (λ e f. decide (ltb LARGEST-STRIP size) (decLt LARGEST-STRIP size) (ltb-true LARGEST-STRIP size)
+      (lt-ltb LARGEST-STRIP size)
+      (λ g h. refusal R 9)
+      (λ g h. sized (ltb LARGEST-SIZE size) (decLt LARGEST-SIZE size) (ltb-true LARGEST-SIZE size)
+      (lt-ltb LARGEST-SIZE size) (omega arith)))
+    where
+      -- the place and the class, or the order, that the test of the size leads to
+      sized : (b : Bool) (d : Dec (LARGEST-SIZE < size)) → (b ≡ true → LARGEST-SIZE < size)
+          → (LARGEST-SIZE < size → b ≡ true) → size ≤ LARGEST-STRIP
+          → Both regions v area m
+          (cond b (accept nothing (TaskPlace t := STRIP-TAKE ∷ TaskClass t := orderOf size ∷ []) [])
+          (accept nothing (TaskPlace t := A1 ∷ TaskClass t := classOf size ∷ []) [])) (
+            setTask t (record {
+              place = working (if d (strip-take (orderOf size)) (a1 (classOf size)));
+              cache = m .task t .cache;
+            }) m,
+            going nothing,
+          )
+      sized true (yes q) f g few =
+          let l = rounds size few .within in
+          begins STRIP-TAKE (orderOf size) (strip-take (orderOf size)) (omega arith) (omega arith) (r-strip-take refl)
+      sized true (no n) f g few = absurd (n (f refl))
+      sized false (yes q) f g few = absurd (false≢true (g q))
+      sized false (no n) f g few =
+          begins A1 (classOf size) (a1 (classOf size)) (is-class size (omega arith)) (omega arith) (r-a1 refl)
 
 -- ---- free
 
@@ -255,11 +284,11 @@ module _ {regions : ℕ} {v : View} {area : List ℕ} {m : Mem} {t : ℕ} {k : �
       (opened d l)
 
 -- "10 not the first unit of a block of an open region"
-pub free-both : {regions : ℕ} {v : View} {area : List ℕ} {m : Mem} {t : ℕ} {k : ℕ → List ℕ}
+pub small-both : {regions : ℕ} {v : View} {area : List ℕ} {m : Mem} {t : ℕ} {k : ℕ → List ℕ}
     (w : At regions v area m t idle k) (u : ℕ)
-    → Both regions v area m (Stepped.beginFree v regions t u) (Plain.beginFree t u regions m)
-unfolding Stepped.beginFree
-free-both {regions} {v} {area} {m} {t} w u =
+    → Both regions v area m (Stepped.beginFreeSmall v regions t u) (Plain.beginFreeSmall t u regions m)
+unfolding Stepped.beginFreeSmall
+small-both {regions} {v} {area} {m} {t} w u =
     decide (ltb (regionOf u) regions) (decLt (regionOf u) regions) (ltb-true (regionOf u) regions)
     (lt-ltb (regionOf u) regions)
     (λ e l. subst

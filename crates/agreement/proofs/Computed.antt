@@ -11,6 +11,9 @@ use Rattle.links.specs.Link.{LinkWrite, _⇒_}
 use Rattle.classes.specs.Classes.{units, perRegion}
 use Rattle.classes.specs.Sizes.{classOf}
 use Rattle.classes.specs.Geometry.{isFirst}
+use Rattle.pieces.specs.StripSizes.{orderFrom}
+use Rattle.strip_tree.specs.Trees.{isFreeNode, withFree, withoutFree}
+use Rattle.strip_tree.specs.TreeMoves.{lowest, findFrom, halving, joining}
 use Rattle.plain.specs.Moves.{Answer, nothing}
 use Rattle.plain.specs.Calls.{Call, start, allocate, free, step}
 use Rattle.control.specs.Answers.{codeOf, valueOf}
@@ -18,12 +21,13 @@ use Rattle.stepped.specs.Outcome.{Outcome, refuse, accept}
 use Rattle.stepped.specs.Lists
 use Rattle.stepped.specs.Allocate
 use Rattle.stepped.specs.Free
+use Rattle.stepped.specs.StripSteps
 use Rattle.stepped.specs.Steps
 use Rattle.stepped.specs.Start.{startWrites}
 use Rattle.stepped.specs.Calls
 use Rattle.stepped.specs.Calls.{Lent, lengths}
-use Rattle.agreement.specs.Events.{Event, call, write}
-use Rattle.agreement.proofs.ExampleRun.{three, schedule, events, answers, told}
+use Rattle.agreement.specs.Events.{Event, call, write, write-strip}
+use Rattle.agreement.proofs.ExampleLines.{three, schedule, events, answers, told}
 
 -- what stands in the fields, and each block's link
 pub record FieldsAndLinks : Type 0 where
@@ -51,6 +55,7 @@ callOutcome (step t) lent s = Calls.stepOutcome (lengths lent) (s .view) (s .lin
 abbrev pub outcome : Event → FieldsAndLinks → Outcome
 outcome (call k lent) s = callOutcome k lent s
 outcome (write at b) s = accept nothing [] []
+outcome (write-strip at b) s = accept nothing [] []
 
 abbrev pub run : List Event → FieldsAndLinks → List Answer
 run [] s = []
@@ -61,10 +66,12 @@ fresh = record { view = assigned (startWrites three 2) (λ f. 0); link = λ u. 0
 
 pub computed : told (run (events schedule) fresh) ≡ answers schedule
 unfolding startWrites units perRegion classOf isFirst Calls.tested Calls.whenIdle Calls.beginAllocate Calls.freeMarked
-    Calls.freeOpen Calls.freeBy Calls.freeEntry Calls.beginFree Calls.allocateOutcome Calls.freeOutcome
-    Calls.stepOutcome Steps.stepAt Steps.stepOf Lists.f6 Lists.f5 Lists.popRead Lists.popNextOf Lists.popNext
-    Lists.popExchange Lists.pushRead Lists.pushNext Lists.pushExchange Allocate.a1Take Allocate.a1 Allocate.a3ReadOf
-    Allocate.a3Read Allocate.a3ExchangeOf Allocate.a3Exchange Allocate.a4Move Allocate.a4 Allocate.a7 Allocate.a8Put
-    Allocate.a8 Free.f1Put Free.f1 Free.f2First Free.f2More Free.f2Top Free.f2 Free.f3ReadOf Free.f3ReadBy Free.f3Read
-    Free.f3Link Free.f3Won Free.f3ExchangeOf Free.f3Exchange Free.f4Clear
+    Calls.freeOpen Calls.freeBy Calls.freeEntry Calls.beginFreeSmall Calls.beginFree Calls.allocateOutcome
+    Calls.freeOutcome Calls.stepOutcome Steps.stepAt Steps.stepOf Lists.f6 Lists.f5 Lists.popRead Lists.popNextOf
+    Lists.popNext Lists.popExchange Lists.pushRead Lists.pushNext Lists.pushExchange Allocate.a1Take Allocate.a1
+    Allocate.a3ReadOf Allocate.a3Read Allocate.a3ExchangeOf Allocate.a3Exchange Allocate.a4Move Allocate.a4 Allocate.a7
+    Allocate.a8Put Allocate.a8 Free.f1Put Free.f1 Free.f2First Free.f2More Free.f2Top Free.f2 Free.f3ReadOf
+    Free.f3ReadBy Free.f3Read Free.f3Link Free.f3Won Free.f3ExchangeOf Free.f3Exchange Free.f4Clear orderFrom lowest
+    findFrom halving joining isFreeNode withFree withoutFree StripSteps.stripTakeAt StripSteps.stripTake StripSteps.stripGiveAt
+    StripSteps.stripGive StripSteps.beginFreeAt StripSteps.beginFreeStrip
 computed = refl

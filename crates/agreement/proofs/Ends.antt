@@ -1,26 +1,20 @@
 -- How a call ends, whatever the two memories hold.
-use Prim.Native.Nat.{ℕ, _+_, _-_, _/_, _%_, _≤_, _<_}
+use Prim.Native.Nat.{ℕ, _+_, _-_, _<_}
 use mathlib.Core.Path.{_≡_, refl, sym, ap, subst, _∙_}
 use mathlib.Core.Logic.{_≢_, _⊎_, ⊎-map, ⊎-elim, inr, _↔_}
-use mathlib.Core.Bool.{true}
-use mathlib.Core.List.{List, [], _∷_, _++_}
+use mathlib.Core.List.{List, [], _∷_}
 use native.Mathlib.Omega.{arith}
-use borrow.Author.Tests.{eq-eqb, le-leb, lt-ltb, eqb-false, ltb-true, ltb-false}
-use lib.Dec.{eqb, leb, ltb}
-use Rattle.limits.specs.Limits.{CLASSES, DESCRIPTORS, LARGEST-SIZE}
-use Rattle.limits.specs.Limits.{WORD-MARKS}
-use Rattle.fields.specs.Columns.{View, Write, _:=_}
-use Rattle.links.specs.Link.{LinkWrite, link, withLinks}
+use borrow.Author.Tests.{eq-eqb, le-leb, lt-ltb, ltb-true}
+use lib.Dec.{ltb}
+use Rattle.limits.specs.Limits.{CLASSES}
+use Rattle.fields.specs.Columns.{View, _:=_}
+use Rattle.links.specs.Link.{link}
 use Rattle.words.specs.Head.{itemOf, advancedWord}
-use Rattle.words.specs.Anchor.{EMPTY, anchorOf}
-use Rattle.words.specs.Mark.{isSet}
-use Rattle.classes.specs.Geometry.{regionOf, isFirst}
-use Rattle.classes.proofs.Sizes.{is-class, holds, smallest}
-use Rattle.plain.specs.Moves.{Decided, found-empty, pushed}
-use Rattle.control.specs.Layout.{Head, TaskHead, Anchor, Marks, TaskPlace, TaskClass, DescriptorRegion, DescriptorClass}
-use Rattle.control.specs.Layout.{Map, Regions, seen, changed}
-use Rattle.control.specs.Places.{IDLE, PLACES}
-use Rattle.plain.specs.Calls.{Call, start, allocate, free, step, Start, Lengths}
+use Rattle.plain.specs.Moves.{found-empty, pushed}
+use Rattle.control.specs.Layout.{Head, TaskHead, TaskPlace, TaskClass}
+use Rattle.control.specs.Layout.{Regions, seen}
+use Rattle.control.specs.Places.{IDLE}
+use Rattle.plain.specs.Calls.{Call, start, allocate, free, step, Lengths}
 use Rattle.control.specs.declared.answer.Answer.{Answer}
 use Rattle.control.specs.declared.answer.Answer.the-variants.{Accepted, Allocated, Freed, NoDescriptor, NoRegion}
 use Rattle.control.specs.declared.answer.Answer.the-variants.{Refused}
@@ -28,116 +22,30 @@ use Rattle.control.specs.declared.moves.Pop.{Pop}
 use Rattle.control.specs.declared.moves.Pop.the-variants.{Spare, Region}
 use Rattle.control.specs.declared.moves.Push.{Push}
 use Rattle.control.specs.declared.moves.Push.the-variants.{Back}
-use Rattle.stepped.specs.Outcome.{Outcome, refuse, accept, Memories, effect}
-use Rattle.stepped.specs.Ranges.{isAnchor}
+use Rattle.stepped.specs.Outcome.{Outcome, Memories}
 use Rattle.stepped.specs.Lists as Lists
 use Rattle.stepped.specs.Lists.{pushPlace}
 use Rattle.stepped.specs.Steps as Steps
 use Rattle.stepped.specs.Calls as Calls
-use Rattle.agreement.specs.Ends.{WritesNothing, Leaves, oneOf, testRefusals, allocateRefusals, freeRefusals}
-use Rattle.agreement.specs.Ends.{placeRefusals, stepRefusals, Begins, StepAnswers, StartEnds, BeginEnds, StepEnds}
-use Rattle.agreement.specs.Ends.{FindsEmpty, WinsPush, InPush, placeAfter, IsEnd, BegunOutcome}
+use Rattle.agreement.specs.Ends.{Leaves, testRefusals}
+use Rattle.agreement.specs.Ends.{placeRefusals, stepRefusals, StepAnswers, StepEnds}
+use Rattle.agreement.specs.Ends.{FindsNoPiece}
+use Rattle.agreement.specs.Ends.{FindsEmpty, WinsPush, InPush, placeAfter, IsEnd}
 use Rattle.stepped.specs.Calls.{Tested, Lent, lengths}
 use Rattle.stepped.proofs.CallTests.{passed}
 use Rattle.agreement.proofs.Ways.{branch, tests}
-use Rattle.agreement.proofs.Ways.{accepted-no, more, among-tests, among-start-tests, start-tests, Cause}
+use Rattle.agreement.proofs.Ways.{accepted-no, more, among-tests, Cause}
 use Rattle.agreement.proofs.Ways.{Ending, CallEnding, refused}
 use Rattle.agreement.proofs.Ways.{going, ended, at-call, sent}
 use Rattle.agreement.proofs.StepWays.{step-at}
-
--- no start and no beginning ends a request
-pub begins-no-end : (ns : List ℕ) (a : Answer) → Begins ns a → IsEnd a → ⊥
-begins-no-end ns Accepted b i = i
-begins-no-end ns (Allocated u) b i = b
-begins-no-end ns Freed b i = b
-begins-no-end ns NoDescriptor b i = b
-begins-no-end ns NoRegion b i = b
-begins-no-end ns (Refused n) b i = i
-
--- an outcome that writes nothing where it is refused leaves both memories as they were
-pub leaves : (o : Outcome) (s : Memories) → WritesNothing o → Leaves (effect o s) s
-leaves o s h n e = (
-  ap (λ (ws : List Write). changed ws (s .control)) (h n e .0),
-  ap (λ (ls : List LinkWrite). withLinks ls (s .area)) (h n e .1),
-)
-
--- ---- beginnings
-
--- a beginning is refused by one of the numbers ns, or accepted
-data Beginning (ns : List ℕ) : Outcome → Type 0 where
-  denied : {n : ℕ} → oneOf ns n ≡ true → Beginning ns (refuse n)
-  begun : {e : Decided} {ws : List Write} {ls : List LinkWrite} → Beginning ns (accept e ws ls)
-
-begin-ends : {ns : List ℕ} {o : Outcome} → Beginning ns o → BeginEnds ns o
-begin-ends (denied h) = record { nothing = λ n e. (refl, refl); answers = h }
-begin-ends begun = record { nothing = λ n e. absurd (accepted-no e); answers = tt }
-
--- the tests, and "6 the task has a request in hand"
-begin-tests : (lent : Lengths) (v : View) (t : ℕ) (P : Outcome → Type 0) (x : Outcome) (ms : List ℕ)
-    → ((n : ℕ) → oneOf (testRefusals ++ (6 ∷ ms)) n ≡ true → P (refuse n)) → P x
-    → P (Calls.tested lent v t (Calls.whenIdle v t x))
-unfolding Calls.whenIdle
-begin-tests lent v t P x ms r k =
-    tests lent v t P _ (λ n h. r n (more testRefusals (6 ∷ ms) n (among-tests h)))
-    (λ T. branch P (ltb (v (TaskPlace t)) PLACES) (λ e. branch P (eqb (v (TaskPlace t)) IDLE) (λ f. k) (λ f. r 6 refl))
-    (λ e. r 14 refl))
-
-module _ (lent : Lengths) (v : View) (t : ℕ) where
-  pub allocate-ends : (size : ℕ) → BeginEnds allocateRefusals (Calls.allocateOutcome lent v t size)
-  unfolding Calls.allocateOutcome Calls.beginAllocate
-  allocate-ends size =
-      let P = Beginning allocateRefusals in
-      begin-ends (begin-tests lent v t P _ (8 ∷ 9 ∷ []) (λ n h. denied h)
-      (branch P (eqb size 0) (λ e. denied refl) (λ e. branch P (ltb LARGEST-SIZE size) (λ f. denied refl)
-      (λ f. begun))))
-
-  pub free-ends : (u : ℕ) → BeginEnds freeRefusals (Calls.freeOutcome lent v t u)
-  unfolding Calls.freeOutcome Calls.beginFree Calls.freeEntry Calls.freeBy Calls.freeOpen Calls.freeMarked
-  free-ends u =
-      let P = Beginning freeRefusals in
-      let entry = v (Map (regionOf u)) in
-      let d = entry - 1 in
-      let a = v (Anchor d) in
-      let r = v (DescriptorRegion d) in
-      let c = v (DescriptorClass d) in
-      begin-ends (begin-tests lent v t P _ (10 ∷ 11 ∷ []) (λ n h. denied h)
-      (branch P (ltb (regionOf u) (v Regions)) (λ e.
-      branch P (eqb entry 0) (λ f. denied refl) (λ f. branch P (leb entry DESCRIPTORS) (λ f.
-      branch P (ltb r (v Regions)) (λ g. branch P (eqb r (regionOf u)) (λ h.
-      branch P (isAnchor a) (λ i. branch P (eqb (anchorOf a .state) EMPTY) (λ j. denied refl) (λ j.
-      branch P (ltb c CLASSES) (λ k. branch P (isFirst c u) (λ l.
-      branch P (isSet (v (Marks (u / WORD-MARKS))) (u % WORD-MARKS)) (λ m. begun) (λ m. denied refl))
-      (λ l. denied refl)) (λ k. denied refl))) (λ i. denied refl)) (λ h. denied refl)) (λ g. denied refl))
-      (λ f. denied refl)))
-      (λ e. denied refl)))
-
-  -- a size that is accepted has the smallest class that holds it, and that class is written
-  pub smallest-class : (size : ℕ) → Calls.allocateOutcome lent v t size .answer ≡ Accepted
-      → BegunOutcome t size (Calls.allocateOutcome lent v t size)
-  unfolding Calls.allocateOutcome Calls.beginAllocate
-  smallest-class size =
-      let P : Outcome → Type 0 = λ o. o .answer ≡ Accepted → BegunOutcome t size o in
-      begin-tests lent v t P _ [] (λ n h e. absurd (accepted-no (sym e)))
-      (branch P (eqb size 0) (λ e f. absurd (accepted-no (sym f))) (λ e.
-      branch P (ltb LARGEST-SIZE size) (λ f g. absurd (accepted-no (sym g))) (λ f g.
-      let z : size ≢ 0 = eqb-false size 0 e in
-      let l : size ≤ LARGEST-SIZE = ltb-false LARGEST-SIZE size f in
-      record {
-        from = omega arith;
-        to = l;
-        writes = refl;
-        class = is-class size l;
-        holds = holds size l;
-        smallest = smallest size;
-      })))
-
--- ---- start
-
-pub start-ends : (b : Start) (lent : Lent) (s : Memories) → StartEnds s (Calls.startIn b lent s)
-start-ends b lent s =
-    start-tests (StartEnds s) b lent s
-    (λ n F. record { leaves = λ m h. (refl, refl); answers = among-start-tests F })
-    (λ T. record { leaves = λ n h. absurd (accepted-no h); answers = tt })
+use Rattle.control.specs.declared.answer.Answer.the-variants.{NoStrip}
+use Rattle.limits.specs.Limits.{ORDERS}
+use Rattle.strip_tree.specs.declared.find.Found.{Found}
+use Rattle.strip_tree.specs.declared.find.Found.the-variants.{Nothing}
+use Rattle.strip_tree.specs.TreeMoves.{find}
+use Rattle.strip_tree.proofs.NoFreeNodes.{finds-none}
+use Rattle.stepped.specs.StripSteps.{treeOf, stripTake, stripTakeBy}
+use Rattle.agreement.proofs.BeginningEnds.{leaves, allocate-ends, free-ends, start-ends}
 
 -- ---- steps
 
@@ -148,6 +56,7 @@ cause-answers ns v t (Allocated u) k = tt
 cause-answers ns v t Freed k = tt
 cause-answers ns v t NoDescriptor k = tt
 cause-answers ns v t NoRegion k = tt
+cause-answers ns v t NoStrip k = tt
 cause-answers ns v t (Refused n) k = absurd k
 
 module _ {ns : List ℕ} {v : View} {t : ℕ} where
@@ -261,6 +170,24 @@ module _ (lent : Lengths) (v : View) (link : ℕ → ℕ) (t : ℕ) where
     ends-by NoRegion tt,
     λ h. ap (λ (x : Outcome). x .answer)
         (at-place (h .0) (h .1 .place) (omega arith) (h .1 .class) ∙ wins-push Back (h .1)),
+  )
+
+  -- a strip's request that finds no free piece
+  finds-no-piece : (F : FindsNoPiece v t)
+      → stripTake v t (v (TaskClass t)) .answer ≡ NoStrip
+  unfolding stripTake
+  finds-no-piece F =
+      let c = v (TaskClass t) in
+      let e : find (treeOf v) c ≡ Nothing = finds-none (treeOf v) c (F .order) (F .none) in
+      rw (lt-ltb c ORDERS (F .order)) (ap (λ (f : Found). stripTakeBy v t c f .answer) e)
+
+  -- "16 ends a request", where the tree has no free piece that is sufficient
+  pub no-strip : (o .answer ≡ NoStrip) ↔ (Tested lent v t × FindsNoPiece v t)
+  unfolding Steps.stepAt
+  no-strip = (
+    ends-by NoStrip tt,
+    λ h. ap (λ (x : Outcome). x .answer)
+        (at-place (h .0) (h .1 .place) (omega arith) (omega (arith, h .1 .order))) ∙ finds-no-piece (h .1),
   )
 
   -- a task that finds the list of spare regions empty goes to the head read of the push back

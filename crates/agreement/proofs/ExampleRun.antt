@@ -1,210 +1,33 @@
--- The premises of the agreement are met by a run with the moves that need care: lost exchanges of a head and of an
--- anchor, a region closed in one return and opened again for another class, an EMPTY anchor found on a partial list, a
--- head that changes and comes back to its item between a read and its exchange, 13, and users' writes. All of it is
+-- The premises of the agreement are met by a run with the moves that need care, those of ExampleLines. All of it is
 -- computed on the plain pool.
 use mathlib.Core.Path.{_≡_, refl, sym, ap, subst, _∙_}
-use mathlib.Core.List.{List, [], _∷_, _++_, map}
-use Prim.Native.Nat.{ℕ, zero, suc, _*_}
+use mathlib.Core.List.{List, [], _∷_}
+use Prim.Native.Nat.{ℕ}
 use native.Mathlib.Omega.{arith}
 use native.Mathlib.Decide.{ℕ-discrete, decLt, decLe}
-use lib.ListN.{length, replicate}
-use Rattle.limits.specs.Limits.{CONTROL-BYTES, REGION-BYTES, SPARE-DESCRIPTORS, SPARE-REGIONS}
+use lib.ListN.{length}
+use Rattle.limits.specs.Limits.{CONTROL-BYTES, SPARE-DESCRIPTORS, SPARE-REGIONS, STRIPS-BYTES}
 use Rattle.rows.specs.Branch.{both}
 use Rattle.rows.specs.Update.{update}
 use Rattle.classes.specs.Classes.{units, perRegion}
 use Rattle.classes.specs.Sizes.{classOf}
+use Rattle.pieces.specs.StripSizes.{orderFrom}
+use Rattle.pieces.specs.Strips.{takeStrip}
 use Rattle.plain.specs.State.{EMPTY, FULL, exchange, spare, popping, working}
-use Rattle.plain.specs.Moves.{Decided, nothing, found-empty, popped, pushed, lost, anchor-empty, took, gave}
-use Rattle.plain.specs.Moves.{anchor-lost, Answer, going, finished, ended, refused}
 use Rattle.plain.specs.Steps.{stepOf}
-use Rattle.plain.specs.Calls.{Pool, Start, start, allocate, free, step, startMem, rising, unstarted}
+use Rattle.plain.specs.Calls.{Pool, start, startMem, rising, unstarted, Lengths}
 use Rattle.plain.specs.Calls as Plain
 use Rattle.plain.proofs.CallAnswers.{most}
 use Rattle.stepped.specs.Outcome.{Memories}
 use Rattle.stepped.specs.Calls.{Lent, lengths}
-use Rattle.agreement.specs.Events.{Event, call, write, Premises, Unstarted}
+use Rattle.agreement.specs.Events.{Event, Premises, Unstarted}
 use Rattle.agreement.specs.Reached.{starting}
 use Rattle.agreement.specs.Agreement.{Agree}
 use Rattle.agreement.proofs.AnswersOfRuns.{steppedAnswers, wholeAnswers, answered, after, WritesHeld}
-use Rattle.agreement.proofs.AnswersOfRuns.{writesHeld?, found}
-use Rattle.agreement.proofs.AnswersOfRuns.{short}
+use Rattle.agreement.proofs.AnswersOfRuns.{writesHeld?, found, short}
+use Rattle.agreement.proofs.ExampleLines.{AREA, lent, CLASS-192, CLASS-224, contention, closing, reopening}
+use Rattle.agreement.proofs.ExampleLines.{meanwhile, schedule, events, answers, told, three}
 use Rattle.agreement.proofs.Theorem.{agreement}
-
--- ---- the lines of the schedule: two regions, three tasks
-
--- an area of two regions
-abbrev pub AREA : ℕ
-AREA = 2 * REGION-BYTES
-
--- what the calls behind the start are lent: the control memory, and two regions, of which the length alone matters
-abbrev pub lent : Lent
-lent = record { control = CONTROL-BYTES; area = replicate AREA 0 }
-
-abbrev pub allocates : ℕ → ℕ → List Event
-allocates t size = call (allocate t size) lent ∷ []
-
-abbrev pub frees : ℕ → ℕ → List Event
-frees t u = call (free t u) lent ∷ []
-
--- n steps of the task t
-abbrev pub steps : ℕ → ℕ → List Event
-steps t n = replicate n (call (step t) lent)
-
-abbrev pub writes : ℕ → ℕ → List Event
-writes at b = write at b ∷ []
-
--- a line, and what its calls answer beside code 0 with nothing decided
-abbrev pub ExampleLine : Type 0
-ExampleLine = List Event × List Answer
-
--- the classes of the blocks that are asked for, by their bytes
-abbrev CLASS-160 : ℕ
-CLASS-160 = classOf 160
-
-abbrev CLASS-192 : ℕ
-CLASS-192 = classOf 192
-
-abbrev CLASS-224 : ℕ
-CLASS-224 = classOf 224
-
-abbrev CLASS-256 : ℕ
-CLASS-256 = classOf 256
-
--- A list of partial descriptors has the number of its class. A region has 16 blocks of 256 bytes; block i of region r
--- is the unit 512 × r + 32 × i.
-abbrev pub contention : List ExampleLine
-contention =
-    -- Tasks 0 and 1 begin alike: each has read the head of the spare descriptors and the next of the top one.
-    (allocates 0 256, [])
-    ∷ (steps 0 4, going (found-empty CLASS-256) ∷ [])
-    ∷ (allocates 1 256, [])
-    ∷ (steps 1 4, going (found-empty CLASS-256) ∷ [])
-    -- Task 0 wins its exchange; task 1 loses it and pops the next descriptor. Each opens a region and carves its 16
-    -- blocks, and its user gets the last of them.
-    ∷ (steps 0 1, going (popped SPARE-DESCRIPTORS 0) ∷ [])
-    ∷ (steps 1 1, going (lost SPARE-DESCRIPTORS) ∷ [])
-    ∷ (steps 0 21, going (popped SPARE-REGIONS 0) ∷ finished 480 ∷ [])
-    ∷ (steps 1 24, going (popped SPARE-DESCRIPTORS 1) ∷ going (popped SPARE-REGIONS 1) ∷ finished 992 ∷ [])
-    -- The users write into their blocks, over the links, and get one block more each.
-    ∷ (writes 3840 170, [])
-    ∷ (writes 7936 255, [])
-    ∷ (writes 8191 1, [])
-    ∷ (allocates 0 256, [])
-    ∷ (steps 0 1, finished 448 ∷ [])
-    ∷ (allocates 1 256, [])
-    ∷ (steps 1 1, finished 960 ∷ [])
-    -- Two of these blocks, one of each region, fill task 1's cache; the third finds it full.
-    ∷ (frees 1 480, [])
-    ∷ (steps 1 1, finished 0 ∷ [])
-    -- Block 480 is not freed twice: its mark is clear.
-    ∷ (frees 1 480, refused 11 ∷ [])
-    ∷ (frees 1 960, [])
-    ∷ (steps 1 1, finished 0 ∷ [])
-    ∷ (frees 1 448, [])
-    -- A group of one, block 960, goes back to region 1: FULL, then PARTIAL. Its descriptor is offered.
-    ∷ (steps 1 9, going (gave 1) ∷ going (pushed CLASS-256 1) ∷ [])
-    -- Task 2 pops that descriptor and reads its anchor.
-    ∷ (allocates 2 256, [])
-    ∷ (steps 2 5, going (popped CLASS-256 1) ∷ [])
-    -- Task 1 returns a group of one to region 0, then one of 14 to region 1, whose anchor changes; block 448 is cached.
-    ∷ (steps 1 8, going (gave 0) ∷ going (pushed CLASS-256 0) ∷ [])
-    ∷ (steps 1 19, going (gave 1) ∷ finished 0 ∷ [])
-    -- Task 2 loses its exchange of that anchor, reads it again and takes the chain of 15.
-    ∷ (steps 2 1, going (anchor-lost 1) ∷ [])
-    ∷ (steps 2 18, going (took 1) ∷ finished 960 ∷ [])
-    ∷ []
-
-abbrev pub closing : List ExampleLine
-closing =
-    -- Task 2 gets all 16 blocks of region 1 in its cache. A block of region 0 finds it full, and all 16 go back in one
-    -- group: FULL, then EMPTY. Region 1 is closed and spare; its descriptor is offered though it is EMPTY.
-    (frees 2 992, [])
-    ∷ (steps 2 1, finished 0 ∷ [])
-    ∷ (frees 2 960, [])
-    ∷ (steps 2 1, finished 0 ∷ [])
-    ∷ (allocates 0 256, [])
-    ∷ (steps 0 1, finished 416 ∷ [])
-    ∷ (frees 2 416, [])
-    ∷ (steps 2 29, going (gave 1) ∷ going (pushed SPARE-REGIONS 1) ∷ going (pushed CLASS-256 1) ∷ finished 0 ∷ [])
-    ∷ []
-
-abbrev pub reopening : List ExampleLine
-reopening =
-    -- Region 1 is opened again, for blocks of 224 bytes; the user writes the first and the last byte of one.
-    (allocates 0 224, [])
-    ∷ (
-      steps 0 28,
-      going (found-empty CLASS-224) ∷ going (popped SPARE-DESCRIPTORS 2) ∷ going (popped SPARE-REGIONS 1)
-          ∷ finished 988 ∷ [],
-    )
-    ∷ (writes 7904 7, [])
-    ∷ (writes 8127 9, [])
-    -- Task 1's cache has one block. Then its list has the descriptor that is EMPTY, which goes to the spare ones, and
-    -- below it one with a chain of one.
-    ∷ (allocates 1 256, [])
-    ∷ (steps 1 1, finished 448 ∷ [])
-    ∷ (allocates 1 256, [])
-    ∷ (steps 1 8, going (popped CLASS-256 1) ∷ going (anchor-empty 1) ∷ going (pushed SPARE-DESCRIPTORS 1) ∷ [])
-    ∷ (steps 1 7, going (popped CLASS-256 0) ∷ going (took 0) ∷ finished 480 ∷ [])
-    -- Task 1 wants 192 bytes: it has read the head of the spare descriptors, with descriptor 1 on top, and its next.
-    ∷ (allocates 1 192, [])
-    ∷ (steps 1 4, going (found-empty CLASS-192) ∷ [])
-    ∷ []
-
-abbrev pub meanwhile : List ExampleLine
-meanwhile =
-    -- Task 2 pops descriptor 1, finds no spare region, pushes it back and ends with 13: it is on top again.
-    (allocates 2 160, [])
-    ∷ (
-      steps 2 6,
-      going (found-empty CLASS-160) ∷ going (popped SPARE-DESCRIPTORS 1) ∷ going (found-empty SPARE-REGIONS) ∷ [],
-    )
-    ∷ (steps 2 3, ended 13 (pushed SPARE-DESCRIPTORS 1) ∷ [])
-    ∷ []
-
-abbrev pub ending : List ExampleLine
-ending =
-    -- Task 1 loses its exchange, though the item is the one that it noted; it tries again and ends with 13.
-    (steps 1 1, going (lost SPARE-DESCRIPTORS) ∷ [])
-    ∷ (steps 1 4, going (popped SPARE-DESCRIPTORS 1) ∷ going (found-empty SPARE-REGIONS) ∷ [])
-    ∷ (steps 1 3, ended 13 (pushed SPARE-DESCRIPTORS 1) ∷ [])
-    ∷ []
-
-abbrev pub schedule : List ExampleLine
-schedule = contention ++ (closing ++ (reopening ++ (meanwhile ++ ending)))
-
--- ---- its events and its answers
-
-abbrev pub joined : {A : Type 0} → List (List A) → List A
-joined [] = []
-joined (q ∷ qs) = q ++ joined qs
-
-abbrev pub events : List ExampleLine → List Event
-events ls = joined (map (λ (l : ExampleLine). l .0) ls)
-
-abbrev pub answers : List ExampleLine → List Answer
-answers ls = joined (map (λ (l : ExampleLine). l .1) ls)
-
--- without code 0 with nothing decided
-abbrev pub toldBy : ℕ → Decided → Answer → List Answer → List Answer
-toldBy zero nothing a q = q
-toldBy zero (found-empty ℓ) a q = a ∷ q
-toldBy zero (popped ℓ x) a q = a ∷ q
-toldBy zero (pushed ℓ x) a q = a ∷ q
-toldBy zero (lost ℓ) a q = a ∷ q
-toldBy zero (anchor-empty d) a q = a ∷ q
-toldBy zero (took d) a q = a ∷ q
-toldBy zero (gave d) a q = a ∷ q
-toldBy zero (anchor-lost d) a q = a ∷ q
-toldBy (suc code) e a q = a ∷ q
-
-abbrev pub told : List Answer → List Answer
-told [] = []
-told (a ∷ q) = toldBy (a .code) (a .decided) a (told q)
-
--- three tasks
-abbrev pub three : Start
-three = record { tasks = 3 }
 
 -- the pool of three tasks and two regions
 abbrev started : Pool
@@ -213,6 +36,7 @@ started = Plain.plainCall (start three) (lengths lent) unstarted .0
 -- the run as it is told above is that of the plain pool
 pub told-whole : told (wholeAnswers (events schedule) started) ≡ answers schedule
 unfolding Plain.plainCall stepOf startMem rising units perRegion update ℕ-discrete decLt decLe both unstarted classOf
+    orderFrom takeStrip
 told-whole = refl
 
 -- ---- what stands in the plain pool between the parts
@@ -233,6 +57,7 @@ pub region-closed :
     × (closed .mem .row SPARE-REGIONS ≡ 1 ∷ []) × (reopened .mem .map 1 ≡ 3)
     × (reopened .mem .descriptor 2 .class ≡ CLASS-224)
 unfolding Plain.plainCall stepOf startMem rising units perRegion update ℕ-discrete decLt decLe both unstarted classOf
+    orderFrom takeStrip
 region-closed = (refl, refl, refl, refl, refl, refl)
 
 abbrev returned : Pool
@@ -248,49 +73,59 @@ pub head-returned :
     × (reopened .mem .row SPARE-DESCRIPTORS ≡ 1 ∷ rising 61 3)
     × (returned .mem .row SPARE-DESCRIPTORS ≡ 1 ∷ rising 61 3)
 unfolding Plain.plainCall stepOf startMem rising units perRegion update ℕ-discrete decLt decLe both unstarted classOf
+    orderFrom takeStrip
 head-returned = (refl, refl, refl, refl, refl, refl)
 
 -- ---- the premises are met, and the agreement holds of it
 
--- the schedule on an area, whose bytes may be any
-abbrev pub scheduleOn : List ℕ → List Event
-scheduleOn area = starting three area ∷ events schedule
+-- what the start is lent: its area has two regions, and the bytes of all three memories may be any
+pub record Lends (given : Lent) : Type 0 where
+  pub control-is : given .control ≡ CONTROL-BYTES
+  pub area-is : length (given .area) ≡ AREA
+  pub strips-is : length (given .strips) ≡ STRIPS-BYTES
 
--- every write is into a block in a user's hands
+-- the lengths are those of the calls behind the start
+same-lent : {given : Lent} → Lends given → lengths given ≡ lengths lent
+same-lent L = λ i. record { control = L .control-is i; area = L .area-is i; strips = L .strips-is i }
+
+-- the schedule on these memories
+abbrev pub scheduleOn : Lent → List Event
+scheduleOn given = starting three given ∷ events schedule
+
+-- every write is into a block or a strip in a user's hands
 writes-held : WritesHeld (events schedule) started
 unfolding Plain.plainCall stepOf startMem rising units perRegion update ℕ-discrete decLt decLe both unstarted classOf
-    writesHeld?
+    orderFrom takeStrip writesHeld?
 writes-held = found (writesHeld? (events schedule) started) tt
 
-few : length (events schedule) ≡ 239
+few : length (events schedule) ≡ 254
 few = refl
 
-pub premises : (area : List ℕ) → length area ≡ AREA → Premises (scheduleOn area) unstarted
+pub premises : (given : Lent) → Lends given → Premises (scheduleOn given) unstarted
 unfolding unstarted
-premises area h = (
+premises given L = (
   tt,
   subst
-      (λ (n : ℕ). Premises (events schedule)
-      (Plain.plainCall (start three) (record { control = CONTROL-BYTES; area = n }) unstarted .0)) (sym h)
+      (λ (n : Lengths). Premises (events schedule) (Plain.plainCall (start three) n unstarted .0)) (sym (same-lent L))
       (short 1 (events schedule) started (most 0 (start three) (lengths lent) unstarted (λ k. absurd (omega arith)))
       (omega (arith, few)) writes-held),
 )
 
 -- what the stepped run does on the bytes: it agrees with the plain pool, and tells what the schedule tells
-pub record Example (area : List ℕ) (s₁ : Memories) : Type 0 where
-  pub agrees : Agree (scheduleOn area) s₁ unstarted
-  pub tells : told (steppedAnswers (scheduleOn area) s₁) ≡ answers schedule
+pub record Example (given : Lent) (s₁ : Memories) : Type 0 where
+  pub agrees : Agree (scheduleOn given) s₁ unstarted
+  pub tells : told (steppedAnswers (scheduleOn given) s₁) ≡ answers schedule
 
-pub example : (area : List ℕ) (s₁ : Memories) → length area ≡ AREA → Unstarted s₁ → Example area s₁
+pub example : (given : Lent) (s₁ : Memories) → Lends given → Unstarted s₁ → Example given s₁
 unfolding Plain.plainCall unstarted ℕ-discrete both decLt
-example area s₁ h U =
-    let p = premises area h in
+example given s₁ L U =
+    let p = premises given L in
     record {
-      agrees = agreement (scheduleOn area) s₁ U p;
+      agrees = agreement (scheduleOn given) s₁ U p;
       tells =
-          ap told (answered (scheduleOn area) s₁ U p)
-          ∙ subst (λ (n : ℕ).
-          let x = Plain.plainCall (start three) (record { control = CONTROL-BYTES; area = n }) unstarted in
+          ap told (answered (scheduleOn given) s₁ U p)
+          ∙ subst (λ (n : Lengths).
+          let x = Plain.plainCall (start three) n unstarted in
           told (x .1 ∷ wholeAnswers (events schedule) (x .0)) ≡ answers schedule)
-          (sym h) told-whole;
+          (sym (same-lent L)) told-whole;
     }

@@ -30,6 +30,7 @@ use Rattle.agreement.proofs.SoundSteps.{step-fit}
 use Rattle.agreement.proofs.SoundCalls.{allocate-fit, free-fit}
 use Rattle.agreement.proofs.Both.{seen-fitting}
 use Rattle.agreement.proofs.Ways.{tests, start-tests}
+use Rattle.agreement.specs.Events.{write-strip}
 
 -- ---- writes
 
@@ -81,7 +82,7 @@ image-found b regions few small started t l =
 tested-start-found : (b : Start) (lent : Lent) → StartTested b (lengths lent)
     → FoundStates (startEffect b lent .control)
 tested-start-found b lent T =
-    image-found b (length (lent .area) / REGION-BYTES) (T .tasks .1) (omega (arith, T .area))
+    image-found b (length (lent .area) / REGION-BYTES) (T .tasks .1) (omega (arith, T .lengths .0))
 
 start-found : (b : Start) (lent : Lent) (s : Memories) → FoundStates (s .control)
     → FoundStates (Calls.startIn b lent s .control)
@@ -89,12 +90,9 @@ start-found b lent s old =
     start-tests (λ e. FoundStates (e .control)) b lent s (λ n F. old) (tested-start-found b lent)
 
 -- an accepted start, whatever was before
-pub accepted-found : (s : Memories) (b : Start) (area : List ℕ) → Plain.StartArea (length area)
-    → Plain.StartTasks (b .tasks)
-    → FoundStates (stepped (starting b area) s .0 .control)
-accepted-found s b area a t =
-    let lent : Lent = record { control = CONTROL-BYTES; area = area } in
-    let T : StartTested b (lengths lent) = record { control-is = refl; area = a; tasks = t } in
+pub accepted-found : (s : Memories) (b : Start) (lent : Lent) → StartTested b (lengths lent)
+    → FoundStates (stepped (starting b lent) s .0 .control)
+accepted-found s b lent T =
     subst (λ (e : Effect). FoundStates (e .control)) (sym (start-passed b lent s T)) (tested-start-found b lent T)
 
 -- ---- every event
@@ -117,3 +115,4 @@ pub event-found : (e : Event) (s : Memories) → length (s .control) ≡ CONTROL
     → FoundStates (s .control) → FoundStates (stepped e s .0 .control)
 event-found (call k lent) s long bytes old = call-found k lent s long bytes old
 event-found (write at b) s long bytes old = old
+event-found (write-strip at b) s long bytes old = old

@@ -28,6 +28,7 @@ use Rattle.agreement.specs.Relation.{r-a3-read, r-a3-exchange, r-a4, r-a
 use Rattle.agreement.specs.Relation.{r-f3-link, r-f3-exchange, r-f4-clear, PlaceRelated, r-idle, r-working}
 use Rattle.agreement.specs.Relation.{SlotRelated, Core, Related}
 use Rattle.agreement.proofs.HeldItems.{HoldsItem, push-holds}
+use Rattle.agreement.specs.Relation.{r-strip-take, r-strip-give}
 
 -- x is the descriptor whose anchor is noted
 abbrev pub Reads : ℕ → Noted → Type 0
@@ -150,6 +151,8 @@ kept-work {s = s} K (r-f3-exchange e G N l f) =
           1,
     )) ∙ f)
 kept-work K (r-f4-clear e h) = r-f4-clear e h
+kept-work K (r-strip-take e) = r-strip-take e
+kept-work K (r-strip-give e h) = r-strip-give e h
 
 kept-place : {regions : ℕ} {a a′ : Contents} {m m′ : Mem} {s : Slot} {p : Place} {k : ℕ → List ℕ}
     → Framed a a′ m m′ (record { place = p; cache = k }) → PlaceRelated regions a m s p → PlaceRelated regions a′ m′ s p

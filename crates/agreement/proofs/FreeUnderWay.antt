@@ -10,13 +10,14 @@ use Rattle.plain.specs.State.{State, EMPTY, PARTIAL, stateNumber, Place}
 use Rattle.plain.specs.State as Plain
 use Rattle.plain.specs.Held.{classAt, underWay, owed, holdsDescriptor}
 use Rattle.control.specs.Layout.{TaskUnit, TaskPlace, TaskClass, TaskDescriptor, TaskState}
-use Rattle.control.specs.Places.{PUSH-RELEASE, PUSH-OFFER, A3-READ, A8, F3-EXCHANGE}
+use Rattle.control.specs.Places.{PUSH-RELEASE, PUSH-OFFER, A3-READ, A8, F3-EXCHANGE, STRIP-TAKE}
 
 -- The block that is freed, and the descriptor that it owes to the partial list
 -- from its exchange on, where it found the anchor FULL.
 pub data Freeing (v : View) (t : ℕ) (p : Place) : Type 0 where
   allocates : v (TaskPlace t) < PUSH-RELEASE → Freeing v t p
   fills : A3-READ ≤ v (TaskPlace t) → v (TaskPlace t) ≤ A8 → Freeing v t p
+  of-strip : STRIP-TAKE ≤ v (TaskPlace t) → Freeing v t p
   frees : PUSH-OFFER ≤ v (TaskPlace t) → v (TaskPlace t) ≤ F3-EXCHANGE → classAt p ≡ v (TaskClass t)
       → 1 ≤ count (v (TaskUnit t)) (underWay p)
       → Freeing v t p

@@ -1,43 +1,55 @@
 -- What a finished allocation hands out: of any memories by its class, and along runs by the size that was asked for.
-use mathlib.Core.Path.{_≡_, refl, subst}
-use mathlib.Core.Logic.{_≢_}
+use mathlib.Core.Path.{_≡_, refl, sym, ap, subst, subst⁻¹, _∙_}
+use mathlib.Core.Logic.{_↔_, ⊎-elim}
 use mathlib.Core.Bool.{true}
-use Prim.Native.Nat.{ℕ, _<_}
+use Prim.Native.Nat.{ℕ, _≤_, _<_}
 use native.Mathlib.Omega.{arith}
 use borrow.Author.Tests.{ltb-true}
 use lib.Dec.{ltb}
-use Rattle.limits.specs.Limits.{TASKS, CLASSES}
+use Rattle.limits.specs.Limits.{TASKS, CLASSES, ORDERS, WHOLE-ORDER}
 use Rattle.fields.specs.Columns.{View}
 use Rattle.links.specs.Link.{link}
-use Rattle.classes.specs.Sizes.{classOf}
 use Rattle.classes.specs.Geometry.{regionOf, isFirst}
 use Rattle.classes.proofs.Sizes.{holds, smallest}
 use Rattle.classes.proofs.BlockUnits.{first-block, block-aligned}
-use Rattle.plain.specs.State.{Place, Work, Mem}
-use Rattle.plain.specs.Requests.{allocation, freeing, popRequest, requestAt}
+use Rattle.plain.specs.State.{strip-take, strip-give, working, Mem}
+use Rattle.plain.specs.Requests.{allocation, freeing, strip-allocation, strip-freeing, freesStrip}
 use Rattle.plain.specs.Calls.{Pool, Lengths}
-use Rattle.control.specs.Layout.{TaskUnit, TaskPlace, TaskClass, Regions, seen}
-use Rattle.control.specs.Places.{A1, F1}
-use Rattle.control.specs.declared.answer.Answer.the-variants.{Allocated, Freed}
-use Rattle.control.specs.declared.moves.Pop.{Pop}
-use Rattle.control.specs.declared.moves.Pop.the-variants.{Partial, Spare, Region}
-use Rattle.control.specs.declared.moves.Push.the-variants.{Retire, Back, Release, Offer}
+use Rattle.control.specs.Layout.{SlotByte, TaskUnit, TaskPlace, TaskClass, Regions, seen}
+use Rattle.control.specs.Places.{A1, STRIP-TAKE}
+use Rattle.control.specs.declared.answer.Answer.the-variants.{Allocated, Freed, NoStrip}
 use Rattle.stepped.specs.Outcome.{Memories}
 use Rattle.stepped.specs.Ranges.{isBlock}
 use Rattle.stepped.specs.Calls.{Tested, stepOutcome}
 use Rattle.stepped.proofs.Conjunction.{left-true, right-true}
-use Rattle.agreement.specs.Contents.{Contents, Slot, TaskHand}
-use Rattle.agreement.specs.Relation.{plainPop, PlaceRelated, r-idle, r-working, WorkRelated, r-a1, r-popping}
-use Rattle.agreement.specs.Relation.{r-pushing, r-a3-read, r-a3-exchange, r-a4, r-a7, r-a8, r-f1, r-f2}
-use Rattle.agreement.specs.Relation.{r-f2-more, r-f3-read, r-f3-link, r-f3-exchange, r-f4-clear}
 use Rattle.agreement.specs.Reached.{History, Reached}
 use Rattle.agreement.specs.Asked.{Asked, nothing-yet, for-bytes, for-free, asked}
-use Rattle.agreement.specs.AtWhatAsked.{AsAsked, AtWhatAsked}
-use Rattle.agreement.specs.Handed.{AlignedBlock, Gives}
-use Rattle.agreement.proofs.ListMoves.{pop-first}
-use Rattle.agreement.proofs.WorkPlaces.{span}
-use Rattle.agreement.proofs.Ends.{ends-by}
+use Rattle.agreement.specs.AtWhatAsked.{StripServes, AsAsked}
+use Rattle.agreement.specs.Handed.{AlignedBlock, StripHanded, StripGiven, Gives, EndsWith16}
+use Rattle.agreement.proofs.WorkKinds.{takes}
+use Rattle.agreement.proofs.Ways.{TakesTop, TakesStrip}
+use Rattle.agreement.proofs.Ends.{ends-by, no-strip}
 use Rattle.agreement.proofs.Reaching.{reached-tied, reached-asked}
+use Rattle.pieces.specs.Pieces.{begun, Pieces}
+use Rattle.pieces.specs.Strips.{StripTaken, none-found, strip-at, takeStrip, giveStrip}
+use Rattle.pieces.specs.StripSizes.{stripBytes, orderOf}
+use Rattle.pieces.specs.StripSlots.{FreeStretch}
+use Rattle.pieces.specs.StripUnits.{stripUnit}
+use Rattle.pieces.specs.PieceRows.{piecesRow, RowTakes, RowGives, NoneToJoin}
+use Rattle.pieces.proofs.FreeStretches.{none-exactly}
+use Rattle.pieces.proofs.StripGiving.{give-joined}
+use Rattle.pieces.proofs.StripSizes.{rounds, less-than-twice}
+use Rattle.pieces.proofs.Strips.{taken-row, taken-fits, taken-aligned, given-row, none-left}
+use Rattle.strip_tree.specs.declared.find.Found.the-variants.{At, Nothing}
+use Rattle.strip_tree.specs.TreeMoves.{find, slotOfNode}
+use Rattle.strip_tree.proofs.NoFreeNodes.{none-free, finds-none}
+use Rattle.strips_agreement.specs.TreeFollows.{Follows}
+use Rattle.strips_agreement.specs.StripsAgree.{TakeAgrees}
+use Rattle.strips_agreement.proofs.StripsAgree.{take-agrees}
+use Rattle.plain.specs.Steps.{stepOf}
+use Rattle.plain.specs.TaskHolds.{PlaceHolds}
+use Rattle.stepped.specs.StripSteps.{treeOf}
+use Rattle.agreement.proofs.AskedAtPlaces.{AtFirstStep, asked-at, after-take, after-give}
 
 -- ---- whatever the memories hold
 
@@ -53,79 +65,54 @@ tested-block regions c u l e =
       aligned = block-aligned b;
     }
 
--- A step that finishes an allocation hands out an aligned block of the class of the task's request.
-pub hands-out : (lent : Lengths) (v : View) (links : ℕ → ℕ) (t u : ℕ)
+-- the top of a task's cache that step 1 of an allocation takes is such a block
+taken-block : {v : View} {t u : ℕ} → TakesTop v t u → AlignedBlock (v Regions) (v (TaskClass t)) u
+taken-block {v} {t} {u} H = tested-block (v Regions) (v (TaskClass t)) u (H .class) (H .is-block)
+
+-- A step that finishes the allocation of a small block hands out an aligned block of the class of the task's request.
+pub hands-out : (lent : Lengths) (v : View) (links : ℕ → ℕ) (t u : ℕ) → v (TaskPlace t) ≡ A1
     → stepOutcome lent v links t .answer ≡ Allocated u
     → AlignedBlock (v Regions) (v (TaskClass t)) u
-hands-out lent v links t u e =
-    let H = ends-by lent v links t (Allocated u) tt e .1 in
-    tested-block (v Regions) (v (TaskClass t)) u (H .class) (H .is-block)
-
--- ---- the request of a task, by the number of its place
-
--- a task at work allocates, and is not at step 1 of a free; or frees, and is not at step 1 of an allocation
-data Works (s : Slot) (w : Work) : Type 0 where
-  allocates : requestAt w ≡ allocation (s .class) → s .place ≢ F1 → Works s w
-  frees : requestAt w ≡ freeing (s .class) (s .unit) → s .place ≢ A1 → Works s w
-
--- a task at step 1 of a request, by the number of its place, is at what it has asked for
-abbrev AtStepOne : Asked → (place class unit : ℕ) → Type 0
-AtStepOne b place class unit =
-    (place ≡ F1 → AsAsked b (freeing class unit)) × (place ≡ A1 → AsAsked b (allocation class))
-
-pops : (P : Pop) (c : ℕ) (h : TaskHand) → popRequest (plainPop P c h) ≡ allocation c
-pops Partial c h = refl
-pops Spare c h = refl
-pops Region c h = refl
-
-module _ {regions : ℕ} {a : Contents} {m : Mem} {s : Slot} where
-  works : {w : Work} → WorkRelated regions a m s w → Works s w
-  works (r-a1 e) = allocates refl (λ f. absurd (omega arith))
-  works (r-popping P h) = allocates (pops P (s .class) (s .hand)) (λ f. absurd (omega (arith, span h, pop-first P)))
-  works (r-pushing Retire z f h) = allocates refl (λ g. absurd (omega (arith, span h)))
-  works (r-pushing Back z f h) = allocates refl (λ g. absurd (omega (arith, span h)))
-  works (r-pushing Release z f h) = frees refl (λ g. absurd (omega (arith, span h)))
-  works (r-pushing Offer z f h) = frees refl (λ g. absurd (omega (arith, span h)))
-  works (r-a3-read e) = allocates refl (λ f. absurd (omega arith))
-  works (r-a3-exchange e N i j l o) = allocates refl (λ f. absurd (omega arith))
-  works (r-a4 e l n h) = allocates refl (λ f. absurd (omega arith))
-  works (r-a7 e) = allocates refl (λ f. absurd (omega arith))
-  works (r-a8 e) = allocates refl (λ f. absurd (omega arith))
-  works (r-f1 e) = frees refl (λ f. absurd (omega arith))
-  works (r-f2 e z) = frees refl (λ f. absurd (omega arith))
-  works (r-f2-more e G) = frees refl (λ f. absurd (omega arith))
-  works (r-f3-read e G) = frees refl (λ f. absurd (omega arith))
-  works (r-f3-link e G N l) = frees refl (λ f. absurd (omega arith))
-  works (r-f3-exchange e G N l i) = frees refl (λ f. absurd (omega arith))
-  works (r-f4-clear e i) = frees refl (λ f. absurd (omega arith))
-
-  -- a task of the stepped pool, by that of the plain pool
-  asked-at : (b : Asked) {p : Place} → PlaceRelated regions a m s p → AtWhatAsked b p
-      → AtStepOne b (s .place) (s .class) (s .unit)
-  asked-at b (r-idle e) h = (λ f. absurd (omega arith), λ f. absurd (omega arith))
-  asked-at b (r-working {w} W) h = by (works W)
-    where
-      by : Works s w → AtStepOne b (s .place) (s .class) (s .unit)
-      by (allocates q n) = (λ f. absurd (n f), λ f. subst (AsAsked b) q h)
-      by (frees q n) = (λ f. subst (AsAsked b) q h, λ f. absurd (n f))
+hands-out lent v links t u here e =
+    ⊎-elim taken-block (λ K. absurd (omega (arith, here, K .place)))
+    (ends-by lent v links t (Allocated u) tt e .1)
 
 -- ---- along runs
 
--- an aligned block of the class of the request that was asked for is what is handed out
-gives : {regions c u : ℕ} (a : Asked) → AsAsked a (allocation c) → AlignedBlock regions c u → Gives regions a u
-gives {regions} {u = u} (for-bytes size) Z B = record {
-  given = subst (λ (c : ℕ). AlignedBlock regions c u) (Z .2) B;
-  holds = holds size (Z .1);
-  smallest = smallest size;
-}
-gives nothing-yet Z B = absurd Z
-gives (for-free unit) Z B = absurd Z
+module _ (regions : ℕ) (before after : Mem) (t : ℕ) where
+  -- an aligned block of the class of the request that was asked for is what is handed out
+  gives : {c u : ℕ} (a : Asked) → AsAsked a (allocation c) → AlignedBlock regions c u → Gives regions before after t a u
+  gives {u = u} (for-bytes size) Z B = (
+    λ l. record {
+      given = subst (λ (c : ℕ). AlignedBlock regions c u) (Z .2) B;
+      holds = holds size (Z .1);
+      smallest = smallest size;
+    },
+    λ l. absurd (omega (arith, Z .1)),
+  )
+  gives nothing-yet Z B = absurd Z
+  gives (for-free unit) Z B = absurd Z
 
--- a free that was asked for gives no unit
-gives-none : (regions c u : ℕ) (a : Asked) → AsAsked a (freeing c u) → Gives regions a 0
-gives-none regions c u (for-free unit) Z = refl
-gives-none regions c u nothing-yet Z = absurd Z
-gives-none regions c u (for-bytes size) Z = absurd Z
+  -- a free that was asked for gives no unit
+  gives-none : (c u : ℕ) (a : Asked) → AsAsked a (freeing c u) → Gives regions before after t a 0
+  gives-none c u (for-free unit) Z = (refl, λ l. absurd (omega (arith, Z .1)))
+  gives-none c u nothing-yet Z = absurd Z
+  gives-none c u (for-bytes size) Z = absurd Z
+
+  -- so does one of a strip, whose pieces are joined
+  gives-strip : (q : ℕ) (a : Asked) → AsAsked a (strip-freeing q)
+      → ((u : ℕ) → u ≡ stripUnit q → StripGiven (before .strips) (after .strips) t u) → Gives regions before after t a 0
+  gives-strip q (for-free unit) Z G = (refl, λ l. G unit (sym Z))
+  gives-strip q nothing-yet Z G = absurd Z
+  gives-strip q (for-bytes size) Z G = absurd Z
+
+  -- a strip of the order of the size that was asked for is what is handed out
+  hands-strip : {c u : ℕ} (a : Asked) → AsAsked a (strip-allocation c)
+      → ((size : ℕ) → StripServes size c → StripHanded (before .strips) (after .strips) size u)
+      → Gives regions before after t a u
+  hands-strip (for-bytes size) Z H = (λ l. absurd (omega (arith, Z .0)), λ l. H size Z)
+  hands-strip nothing-yet Z H = absurd Z
+  hands-strip (for-free unit) Z H = absurd Z
 
 module _ {h : History} {s₁ : Memories} {s : Pool} (R : Reached h s₁ s) (lent : Lengths) (t : ℕ) where
   abbrev v : View
@@ -134,24 +121,166 @@ module _ {h : History} {s₁ : Memories} {s : Pool} (R : Reached h s₁ s) (lent
   abbrev links : ℕ → ℕ
   links = link (s₁ .area)
 
-  -- the task of a step that passes the tests
-  at-task : Tested lent v t → AtStepOne (asked t h) (v (TaskPlace t)) (v (TaskClass t)) (v (TaskUnit t))
-  at-task T =
-      let S = reached-tied R in
-      let l : t < TASKS = omega (arith, T .below, T .tasks) in
-      asked-at (asked t h) (S .related (omega (arith, T .started, S .tasks)) .slots t l .place) (reached-asked R t)
+  abbrev m : Mem
+  m = s .mem
 
-  -- a step that finishes an allocation hands out a block for the size that was asked for
-  pub handed : (u : ℕ) → stepOutcome lent v links t .answer ≡ Allocated u → Gives (s .regions) (asked t h) u
+  abbrev after : Mem
+  after = stepOf t m .0
+
+  started : Tested lent v t → 1 ≤ s .tasks
+  started T = omega (arith, T .started, reached-tied R .tasks)
+
+  -- the task of a step that passes the tests
+  at-task : Tested lent v t
+      → AtFirstStep (asked t h) (m .task t .place) (v (TaskPlace t)) (v (TaskClass t)) (v (TaskUnit t))
+  at-task T =
+      let l : t < TASKS = omega (arith, T .below, T .tasks) in
+      asked-at (asked t h) (reached-tied R .related (started T) .slots t l .place) (reached-asked R t)
+
+  follows : Tested lent v t → Follows (treeOf v) (λ q. v (SlotByte q)) (m .strips)
+  follows T = reached-tied R .related (started T) .core .strips
+
+  -- ---- a strip is taken
+
+  -- what the tree finds is what the plain pool takes
+  taken : {u : ℕ} → TakesStrip v t u → (x : StripTaken) → takeStrip (v (TaskClass t)) (m .strips) ≡ x
+      → TakeAgrees (treeOf v) (λ q. v (SlotByte q)) (v (TaskClass t)) x
+      → m .task t .place ≡ working (strip-take (v (TaskClass t)))
+      → (size : ℕ) → StripServes size (v (TaskClass t)) → StripHanded (m .strips) (after .strips) size u
+  taken K none-found e A p size Z =
+      let f : At (K .node) (K .found-order) ≡ Nothing = sym (K .found) ∙ A in
+      let y : _≡_ {A = ℕ} 0 1 = cc in
+      absurd (omega arith)
+  taken {u} K (strip-at q pieces) e A p size Z =
+      let f : At (A .node) (A .order) ≡ At (K .node) (K .found-order) = sym (A .found) ∙ K .found in
+      let i : A .node ≡ K .node = cc in
+      let j : A .order ≡ K .found-order = cc in
+      let here : slotOfNode (K .found-order) (K .node) ≡ q = rw (i, j) at (A .slot) in
+      let c = v (TaskClass t) in
+      let r = rounds size (Z .1) in
+      let d = after-take t m c q pieces p e in
+      let e′ : takeStrip (orderOf size) (m .strips) ≡ strip-at q pieces =
+      subst (λ (n : ℕ). takeStrip n (m .strips) ≡ strip-at q pieces) (Z .2) e in
+      record {
+        slot = q;
+        is = K .is ∙ ap stripUnit here;
+        fits = taken-fits (orderOf size) q (m .strips) pieces e′;
+        aligned = taken-aligned (orderOf size) q (m .strips) pieces e′ (r .within);
+        rounds = r;
+        less = ⊎-elim (λ z. omega (arith, Z .0, ap stripBytes z)) (λ z. z) (less-than-twice size (orderOf size) r);
+        taken =
+            subst⁻¹ (λ (x : Pieces WHOLE-ORDER). RowTakes (orderOf size) q (piecesRow 0 (m .strips)) (piecesRow 0 x)) d
+            (taken-row (orderOf size) q (m .strips) pieces e′);
+      }
+
+  -- a step that finishes an allocation hands out what was asked for
+  pub handed : (u : ℕ) → stepOutcome lent v links t .answer ≡ Allocated u
+      → Gives (s .regions) m after t (asked t h) u
   handed u e =
       let E = ends-by lent v links t (Allocated u) tt e in
-      let S = reached-tied R in
-      let regions : v Regions ≡ s .regions = S .regions (omega (arith, E .0 .started, S .tasks)) in
-      gives (asked t h) (at-task (E .0) .1 (E .1 .place))
-      (subst (λ (r : ℕ). AlignedBlock r (v (TaskClass t)) u) regions (hands-out lent v links t u e))
+      let T = E .0 in
+      let regions : v Regions ≡ s .regions = reached-tied R .regions (started T) in
+      ⊎-elim
+      (λ H. gives (s .regions) m after t (asked t h) (at-task T .at-a1 (H .place))
+      (subst (λ (r : ℕ). AlignedBlock r (v (TaskClass t)) u) regions (taken-block H)))
+      (λ K. let B = at-task T .at-take (K .place) in
+      let c = v (TaskClass t) in
+      hands-strip (s .regions) m after t (asked t h) (B .1)
+      (taken K (takeStrip c (m .strips)) refl
+      (take-agrees (treeOf v) (λ q. v (SlotByte q)) (m .strips) (follows T) c (K .order)) (B .0)))
+      (E .1)
+
+  -- ---- a strip is given back
+
+  given : t < TASKS → (q : ℕ) → m .task t .place ≡ working (strip-give q) → 1 ≤ s .tasks → (u : ℕ) → u ≡ stripUnit q
+      → StripGiven (m .strips) (after .strips) t u
+  given l q p k u e =
+      let H = reached-tied R .good .strips k in
+      let B = H .begun-by t q l (ap freesStrip p) in
+      let d = after-give t m q p in
+      record {
+        slot = q;
+        order = B .0;
+        is = e;
+        given =
+            subst⁻¹
+            (λ (x : Pieces WHOLE-ORDER). RowGives (B .0) q (begun t) (piecesRow 0 (m .strips)) (piecesRow 0 x)) d
+            (given-row (m .strips) q (B .0) (begun t) (B .1));
+        none-left =
+            subst⁻¹ (λ (x : Pieces WHOLE-ORDER). NoneToJoin (piecesRow 0 x)) d
+            (none-left (giveStrip q (m .strips)) (give-joined (m .strips) q (H .joined)));
+      }
 
   -- a step that finishes a free finishes one that was asked for
-  pub freed : stepOutcome lent v links t .answer ≡ Freed → Gives (s .regions) (asked t h) 0
+  pub freed : stepOutcome lent v links t .answer ≡ Freed → Gives (s .regions) m after t (asked t h) 0
   freed e =
       let E = ends-by lent v links t Freed tt e in
-      gives-none (s .regions) (v (TaskClass t)) (v (TaskUnit t)) (asked t h) (at-task (E .0) .0 (E .1))
+      let T = E .0 in
+      let l : t < TASKS = omega (arith, T .below, T .tasks) in
+      ⊎-elim
+      (λ H. gives-none (s .regions) m after t (v (TaskClass t)) (v (TaskUnit t)) (asked t h) (at-task T .at-f1 H))
+      (λ H. let B = at-task T .at-give H in
+      gives-strip (s .regions) m after t (B .0) (asked t h) (B .1 .1) (given l (B .0) (B .1 .0) (started T)))
+      (E .1)
+
+  -- ---- 16
+
+  -- the search finds nothing exactly where the plain pool has no strip
+  none-alike : Tested lent v t → v (TaskClass t) < ORDERS
+      → (find (treeOf v) (v (TaskClass t)) ≡ Nothing) ↔ (takeStrip (v (TaskClass t)) (m .strips) ≡ none-found)
+  none-alike T few =
+      by (takeStrip (v (TaskClass t)) (m .strips)) refl
+      (take-agrees (treeOf v) (λ q. v (SlotByte q)) (m .strips) (follows T) (v (TaskClass t)) few)
+    where
+      by : (x : StripTaken) → takeStrip (v (TaskClass t)) (m .strips) ≡ x
+          → TakeAgrees (treeOf v) (λ q. v (SlotByte q)) (v (TaskClass t)) x
+          → (find (treeOf v) (v (TaskClass t)) ≡ Nothing) ↔ (takeStrip (v (TaskClass t)) (m .strips) ≡ none-found)
+      by none-found e A = (λ f. e, λ f. A)
+      by (strip-at q pieces) e A = (
+        λ f. let g : At (A .node) (A .order) ≡ Nothing = sym (A .found) ∙ f in
+            let y : _≡_ {A = ℕ} 0 1 = cc in absurd (omega arith),
+        λ f. let g : strip-at q pieces ≡ none-found = sym e ∙ f in
+            let y : _≡_ {A = ℕ} 0 1 = cc in absurd (omega arith),
+      )
+
+  -- A step of a strip's request ends with 16 exactly where no aligned stretch of the rounded size is free.
+  pub sixteen-exactly : Tested lent v t → v (TaskPlace t) ≡ STRIP-TAKE
+      → EndsWith16 (m .strips) (asked t h) (stepOutcome lent v links t .answer ≡ NoStrip)
+  sixteen-exactly T here = by (asked t h) refl (B .1)
+    where
+      B : (m .task t .place ≡ working (strip-take (v (TaskClass t)))) × AsAsked (asked t h)
+          (strip-allocation (v (TaskClass t)))
+      B = at-task T .at-take here
+
+      few : v (TaskClass t) < ORDERS
+      few =
+          let I = reached-tied R .good .inv (started T) in
+          let l : t < TASKS = omega (arith, T .below, T .tasks) in
+          subst (PlaceHolds (m .task t .cache)) (B .0) (I .tasks t l .place)
+
+      exact : (k : ℕ) → k ≡ v (TaskClass t)
+          → (stepOutcome lent v links t .answer ≡ NoStrip) ↔ ((q : ℕ) → FreeStretch (m .strips) k q → ⊥)
+      exact k e =
+          let N = no-strip lent v links t in
+          let M = none-alike T few in
+          let X = none-exactly (v (TaskClass t)) (m .strips) (omega (arith, few))
+          (reached-tied R .good .strips (started T) .joined) in
+          subst⁻¹ (λ (n : ℕ). (stepOutcome lent v links t .answer ≡ NoStrip)
+          ↔ ((q : ℕ) → FreeStretch (m .strips) n q → ⊥)) e (
+            λ f. X .0 (M .0 (finds-none (treeOf v) (v (TaskClass t)) few (N .0 f .1 .none))),
+            λ f. N .1 (
+              T,
+              record {
+                place = here;
+                order = few;
+                none = none-free (treeOf v) (v (TaskClass t)) few (M .1 (X .1 f));
+              },
+            ),
+          )
+
+      by : (a : Asked) → asked t h ≡ a → AsAsked a (strip-allocation (v (TaskClass t)))
+          → EndsWith16 (m .strips) (asked t h) (stepOutcome lent v links t .answer ≡ NoStrip)
+      by (for-bytes size) e Z =
+          record { size = size; asked-for = e; is-strip = Z .0; exactly = exact (orderOf size) (sym (Z .2)) }
+      by nothing-yet e Z = absurd Z
+      by (for-free unit) e Z = absurd Z

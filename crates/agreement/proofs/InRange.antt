@@ -1,119 +1,50 @@
 -- The fields of the control memory are in their ranges, after every event of a run that meets the premises.
 use Prim.Native.Nat.{ℕ, _≤_, _<_}
-use mathlib.Core.Path.{_≡_, refl, sym, subst, _∙_}
+use mathlib.Core.Path.{_≡_, refl, sym, subst}
 use mathlib.Core.Bool.{true}
 use mathlib.Core.List.{List, _∷_}
 use native.Mathlib.Omega.{arith}
-use native.Mathlib.Decide.{decLt}
 use lib.ListN.{length}
-use Rattle.limits.specs.Limits.{UNITS, TASKS, CLASSES, DESCRIPTORS}
+use Rattle.limits.specs.Limits.{TASKS, DESCRIPTORS}
 use Rattle.rows.specs.Counting.{count}
-use Rattle.rows.specs.Linked.{Linked}
-use Rattle.rows.proofs.Branch.{if-yes}
 use Rattle.fields.specs.Columns.{View}
-use Rattle.links.specs.Link.{link}
 use Rattle.words.specs.Anchor.{FULL, anchorOf}
 use Rattle.classes.specs.Classes.{perRegion}
-use Rattle.plain.specs.State.{State, EMPTY, PARTIAL, Place, Mem}
+use Rattle.plain.specs.State.{State, EMPTY, PARTIAL, Mem}
 use Rattle.plain.specs.State as Plain
-use Rattle.plain.specs.Held.{classAt, underWay}
 use Rattle.plain.specs.ByState.{IsOpen}
 use Rattle.plain.specs.Invariant.{Invariant, ChainLength}
 use Rattle.plain.specs.Steps.{top}
 use Rattle.plain.specs.Calls.{Pool, Start, unstarted}
 use Rattle.plain.specs.Calls as Calls
+use Rattle.stepped.specs.Calls.{Lent, lengths}
 use Rattle.plain.proofs.ByState.{open-holds}
-use Rattle.plain.proofs.Turn.{taskHolds}
-use Rattle.control.specs.Layout.{Anchor, CacheTop, CacheCount, TaskUnit, TaskPlace, TaskClass, TaskDescriptor}
-use Rattle.control.specs.Layout.{TaskState, DescriptorClass, Regions, seen}
-use Rattle.control.specs.Places.{PUSH-RELEASE, PUSH-OFFER, A3-READ, F1, F4-CLEAR}
-use Rattle.stepped.specs.Ranges.{isBlock, isTop}
-use Rattle.agreement.specs.Contents.{slotOf, contentsOf}
-use Rattle.agreement.specs.Relation.{PlaceRelated, Related}
+use Rattle.control.specs.Layout.{Anchor}
+use Rattle.control.specs.Layout.{DescriptorClass, Regions, seen}
+use Rattle.agreement.specs.Contents.{contentsOf}
+use Rattle.agreement.specs.Relation.{Related}
 use Rattle.stepped.specs.Outcome.{Memories}
 use Rattle.agreement.specs.Events.{Event, whole, Premises, Unstarted}
 use Rattle.agreement.specs.Reached.{History, Reached, starting, from-unstarted, from-start, by-event, Along}
 use Rattle.agreement.specs.Reached.{Wherever}
-use Rattle.agreement.specs.InRange.{TaskInRange, Ranged, AllRanged, RangedAfter}
-use Rattle.agreement.proofs.ListTops.{top-le, listed, listed-region, descriptor-in-hand}
+use Rattle.agreement.specs.InRange.{Ranged, AllRanged, RangedAfter}
+use Rattle.agreement.proofs.ListTops.{top-le, listed, listed-region}
 use Rattle.agreement.proofs.NotedAnchors.{note-of, first-max, number-open, number-max}
-use Rattle.agreement.proofs.TurnInBoth.{Pair, mine}
-use Rattle.agreement.proofs.TaskBlocks.{under-unit, below-tested, top-max}
+use Rattle.agreement.proofs.TurnInBoth.{Pair}
 use Rattle.agreement.specs.Tied.{Tied}
 use Rattle.agreement.proofs.Both.{seen-fitting}
 use Rattle.agreement.proofs.Reaching.{reached-tied, reached-found, along}
-use Rattle.agreement.proofs.FreeUnderWay.{Freeing, allocates, fills, frees, owes}
-use Rattle.agreement.proofs.NumbersInRange.{numbers-at}
-
--- ---- a task
-
-module _ (regions : ℕ) (v : View) (area : List ℕ) (m : Mem) (t : ℕ) where
-  abbrev u : ℕ
-  u = v (TaskUnit t)
-
-  abbrev d : ℕ
-  d = v (TaskDescriptor t)
-
-  module _ {p : Place} {k : ℕ → List ℕ} (w : Pair regions (contentsOf v area) m t p k) where
-    abbrev c : ℕ
-    c = v (TaskClass t)
-
-    -- the block that is freed is one of its class
-    freed-unit : classAt p ≡ c → 1 ≤ count u (underWay p) → isBlock regions c u ≡ true
-    freed-unit e h = subst (λ (z : ℕ). isBlock regions z u ≡ true) e (under-unit w u h)
-
-    -- at the places of a free: the two pushes, and its own steps
-    unit-at : Freeing v t p → PUSH-RELEASE ≤ v (TaskPlace t) → (A3-READ ≤ v (TaskPlace t) → F1 ≤ v (TaskPlace t))
-        → isBlock regions c u ≡ true
-    unit-at (allocates h) i j = absurd (omega arith)
-    unit-at (fills h l) i j = absurd (omega (arith, j h))
-    unit-at (frees h l e o) i j = freed-unit e o
-    unit-at (owes f e o) i j = freed-unit e o
-
-    -- at those where a descriptor may be owed: the map entry is cleared, and the region released
-    owed-at : Freeing v t p → PUSH-RELEASE ≤ v (TaskPlace t)
-        → (PUSH-OFFER ≤ v (TaskPlace t) → F4-CLEAR ≤ v (TaskPlace t)) → v (TaskState t) ≡ FULL → d < DESCRIPTORS
-    owed-at (allocates h) i j f = absurd (omega arith)
-    owed-at (fills h l) i j f = absurd (omega (arith, j (omega arith)))
-    owed-at (frees h l e o) i j f = absurd (omega (arith, j h))
-    owed-at (owes g e o) i j f = descriptor-in-hand (w .turn) d (g f)
-
-    -- a cache's two fields
-    module _ (e : ℕ) (l : e < CLASSES) where
-      abbrev row : List ℕ
-      row = k e
-
-      count-is : v (CacheCount t e) ≡ length row
-      count-is = sym (if-yes (decLt e CLASSES) (v (CacheCount t e)) 0 l) ∙ mine w .caches .counts e l
-
-      top-linked : Linked (link area) (λ x. x) UNITS (v (CacheTop t e)) row
-      top-linked =
-          subst (λ (z : ℕ). Linked (link area) (λ x. x) UNITS z row) (if-yes (decLt e CLASSES) (v (CacheTop t e)) 0 l)
-          (mine w .caches .tops e l)
-
-      top-is : isTop regions e (v (CacheCount t e)) (v (CacheTop t e)) ≡ true
-      top-is = rw count-is (below-tested w e (v (CacheTop t e)) row (λ x. omega arith) top-linked)
-
-      top-below : v (CacheTop t e) ≤ UNITS
-      top-below = top-max w e (v (CacheTop t e)) row top-linked (λ x. omega arith)
-
-    task-in-range : PlaceRelated regions (contentsOf v area) m (slotOf v t) p → TaskInRange regions v t
-    task-in-range P =
-        let N = numbers-at regions v area m t k w P in
-        let F = N .2 in
-        record {
-          class = mine w .fits;
-          lists = N .0;
-          hand = N .1 .0;
-          chains = N .1 .1;
-          unit-pushing = λ i j. unit-at F i (λ h. absurd (omega arith));
-          unit = λ i j. unit-at F (omega arith) (λ h. i);
-          descriptor-released = λ i j. owed-at F i (λ h. absurd (omega arith));
-          descriptor-cleared = λ i j. owed-at F (omega arith) (λ h. i);
-          counts = λ e l. omega (arith, count-is e l, taskHolds (w .turn) .lengths e);
-          tops = top-is;
-          tops-max = top-below;
-        }
+use mathlib.Core.Path.{subst⁻¹}
+use Rattle.limits.specs.Limits.{SLOTS}
+use Rattle.pieces.specs.Pieces.{free, held, begun}
+use Rattle.pieces.specs.Strips.{StripStart, nowhere, here, stripStarts}
+use Rattle.strip_tree.specs.TreeMoves.{canBegin}
+use Rattle.strip_tree.specs.SlotStates.{LAST-BYTE, orderIn}
+use Rattle.strips_agreement.specs.StripsAgree.{StartAgrees}
+use Rattle.strips_agreement.proofs.StripsAgree.{start-agrees}
+use Rattle.control.specs.Layout.{SlotByte}
+use Rattle.stepped.specs.StripSteps.{treeOf}
+use Rattle.agreement.proofs.TaskRanges.{task-in-range}
 
 -- ---- the pool
 
@@ -147,6 +78,24 @@ module _ {regions : ℕ} (v : View) {area : List ℕ} {m : Mem} (R : Related reg
             omega (arith, C .counts, chain-most (E .state) (perRegion (E .class)) (length (E .chain)) o (O .sized));
       })
 
+-- the byte of a slot
+byte-range : {regions : ℕ} (v : View) {area : List ℕ} {m : Mem} → Related regions (contentsOf v area) m
+    → (n : ℕ) → n < SLOTS
+    → (v (SlotByte n) ≤ LAST-BYTE) × (1 ≤ v (SlotByte n) → canBegin n (orderIn (v (SlotByte n))) ≡ true)
+byte-range v {m = m} R n l =
+    by (stripStarts (m .strips) n) (start-agrees (treeOf v) (λ s. v (SlotByte s)) (m .strips) (R .core .strips) n l)
+  where
+    of : (k : ℕ) → v (SlotByte n) ≤ LAST-BYTE → orderIn (v (SlotByte n)) ≡ k → canBegin n k ≡ true
+        → (v (SlotByte n) ≤ LAST-BYTE) × (1 ≤ v (SlotByte n) → canBegin n (orderIn (v (SlotByte n))) ≡ true)
+    of k a o d = (a, λ h. subst⁻¹ (λ (i : ℕ). canBegin n i ≡ true) o d)
+
+    by : (x : StripStart) → StartAgrees (treeOf v) (λ s. v (SlotByte s)) (m .strips) n x
+        → (v (SlotByte n) ≤ LAST-BYTE) × (1 ≤ v (SlotByte n) → canBegin n (orderIn (v (SlotByte n))) ≡ true)
+    by nowhere A = (omega (arith, A), λ h. absurd (omega (arith, A)))
+    by (here k free) A = absurd A
+    by (here k held) A = of k (omega (arith, A .is, A .order)) (omega (arith, A .is, A .order)) (A .aligned)
+    by (here k (begun u)) A = of k (omega (arith, A .is, A .order)) (omega (arith, A .is, A .order)) (A .aligned)
+
 -- Once a pool is started, the relation between the bytes and the plain pool gives every field's range.
 pub in-range : {s₁ : Memories} {s : Pool} → Tied s₁ s → Ranged s₁
 in-range {s₁} {s} S started =
@@ -175,8 +124,11 @@ in-range {s₁} {s} S started =
       descriptor-regions = rw e (C .descriptors .regionNumbers);
       descriptor-classes = C .descriptors .classNumbers;
       maps = λ r l. omega (arith, C .entries .maps r (omega arith), I .entries r);
+      slot-bytes = λ n l. byte-range v R n l .0;
+      slot-orders = λ n l h. byte-range v R n l .1 h;
       each-task =
-          λ t l. rw e (task-in-range (s .regions) v (s₁ .area) (s .mem) t (pair t l) (R .slots t l .place));
+          λ t l. rw e
+          (task-in-range (s .regions) v (s₁ .area) (s .mem) t (pair t l) (S .good .strips q) (R .slots t l .place));
     }
 
 -- ---- a run
@@ -197,10 +149,9 @@ ranges es s₁ U p = along RangedAfter ranged-after (from-unstarted U) es p
 
 -- From an accepted start on any memories and in any pool, every field that the pool stores is in its range: right after
 -- the start, and along every list of events behind it that meets the premises.
-pub ranges-from-start : (es : List Event) (s₁ : Memories) (s : Pool) (b : Start) (area : List ℕ)
-    → Calls.StartArea (length area)
-    → Calls.StartTasks (b .tasks) → Premises es (whole (starting b area) s .0)
-    → Along RangedAfter (starting b area ∷ es) s₁ s
-ranges-from-start es s₁ s b area a t p =
-    let R = from-start s₁ s b area a t in
+pub ranges-from-start : (es : List Event) (s₁ : Memories) (s : Pool) (b : Start) (lent : Lent)
+    → Calls.StartTested b (lengths lent) → Premises es (whole (starting b lent) s .0)
+    → Along RangedAfter (starting b lent ∷ es) s₁ s
+ranges-from-start es s₁ s b lent T p =
+    let R = from-start s₁ s b lent T in
     (reached-ranged R, along RangedAfter ranged-after R es p)

@@ -11,7 +11,7 @@ use Rattle.control.specs.Layout.{seen}
 use Rattle.control.specs.Answers.{codeOf}
 use Rattle.control.specs.declared.answer.Answer.{Answer}
 use Rattle.control.specs.declared.answer.Answer.the-variants.{Accepted, Allocated, Freed, NoDescriptor, NoRegion}
-use Rattle.control.specs.declared.answer.Answer.the-variants.{Refused}
+use Rattle.control.specs.declared.answer.Answer.the-variants.{NoStrip, Refused}
 use Rattle.stepped.specs.Outcome.{Effect, effect, refuse, Memories}
 use Rattle.stepped.specs.Calls.{Lent, lengths, effectIn}
 use Rattle.stepped.specs.Calls as Stepped
@@ -49,12 +49,12 @@ start-elsewhere b lent s s′ =
     ⊎-elim (λ F. inr (F .0, (start-failed b lent s (F .1), start-failed b lent s′ (F .1))))
     (λ T. inl (start-passed b lent s T ∙ sym (start-passed b lent s′ T))) (start-tested b (lengths lent))
 
--- An accepted start "leaves the area as it is": its area is the one that it is lent.
+-- An accepted start "leaves the area as it is": its area is the one that it is lent, and so is its strips' memory.
 pub start-leaves : (b : Start) (lent : Lent) (s : Memories) → codeOf (Stepped.startIn b lent s .answer) ≡ 0
-    → Stepped.startIn b lent s .area ≡ lent .area
+    → (Stepped.startIn b lent s .area ≡ lent .area) × (Stepped.startIn b lent s .strips ≡ lent .strips)
 start-leaves b lent s =
-    start-tests (λ e. codeOf (e .answer) ≡ 0 → e .area ≡ lent .area) b lent s
-    (λ n F h. absurd (omega (arith, start-numbers F, h))) (λ T h. refl)
+    start-tests (λ e. codeOf (e .answer) ≡ 0 → (e .area ≡ lent .area) × (e .strips ≡ lent .strips)) b lent s
+    (λ n F h. absurd (omega (arith, start-numbers F, h))) (λ T h. (refl, refl))
 
 -- ---- refusals
 
@@ -68,4 +68,5 @@ refused-leaves e s h = by (e .answer) refl
     by Freed i k l = absurd (omega arith)
     by NoDescriptor i k l = absurd (omega arith)
     by NoRegion i k l = absurd (omega arith)
-    by (Refused n) i k l = λ j. record { control = h n i .0 j; area = h n i .1 j }
+    by NoStrip i k l = absurd (omega arith)
+    by (Refused n) i k l = λ j. h n i j

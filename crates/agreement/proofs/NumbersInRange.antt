@@ -38,6 +38,8 @@ use Rattle.agreement.proofs.TurnInBoth.{Pair}
 use Rattle.agreement.proofs.TaskBlocks.{home-below}
 use Rattle.agreement.proofs.GroupBlocks.{first-below, last-below, region-below}
 use Rattle.agreement.proofs.NotedAnchors.{first-max, number-max}
+use Rattle.agreement.specs.Relation.{r-strip-take, r-strip-give}
+use Rattle.agreement.proofs.FreeUnderWay.{of-strip}
 
 -- a noted anchor
 note-in : {m : Mem} {c d : ℕ} {n : Note} {b : Anchor} → NoteRelated m c d n b
@@ -222,6 +224,8 @@ module _ (regions : ℕ) (v : View) (area : List ℕ) (m : Mem) (t : ℕ) (k : �
       let f = region-held w (omega arith) in
       let n : v (TaskState t) ≤ FULL = omega (arith, number-max z, i) in
       (no-move (omega arith), (omega arith, omega arith), owing z i (omega arith) refl (omega arith))
+  numbers-at-work w (r-strip-take e) = (no-move (omega arith), (omega arith, omega arith), of-strip (omega arith))
+  numbers-at-work w (r-strip-give e i) = (no-move (omega arith), (omega arith, omega arith), of-strip (omega arith))
 
   -- every place
   pub numbers-at : {p : Place} → Turning p → PlaceRelated regions (contentsOf v area) m s p → RangedAt p

@@ -39,6 +39,8 @@ use Rattle.agreement.specs.Observe.{holderOf, SameObserved}
 use Rattle.agreement.proofs.TurnInBoth.{Pair}
 use Rattle.agreement.proofs.NotedAnchors.{number-open}
 use Rattle.agreement.proofs.UnderWays.{under-way}
+use Rattle.plain.specs.Invariant.{StripsHold}
+use Rattle.agreement.proofs.ObservedStrips.{pieces-same, one-slot, plain-one-slot, freed-once, joined-row}
 
 -- ---- lists
 
@@ -118,7 +120,7 @@ holder-same (suc n) f g c t h =
     rw (h t (omega arith) (omega arith), holder-same n f g c (suc t) (λ j l k. h j (omega arith) (omega arith)))
 
 module _ {regions : ℕ} {a : Contents} {m : Mem} (small : regions ≤ REGIONS) (R : Related regions a m)
-    (I : Invariant regions m) where
+    (I : Invariant regions m) (H : StripsHold m) where
   with-task : (t v : ℕ) → t < TASKS → withTask a t v ≡ blockWeight v t (m .task t)
   with-task t v l =
       let S = R .slots t l in
@@ -236,4 +238,9 @@ module _ {regions : ℕ} {a : Contents} {m : Mem} (small : regions ≤ REGIONS) 
     plain-one-place = plain-one;
     own-blocks = λ r c v l f h. chain-blocks (m .map r) r c v (I .entries r) f h;
     held = λ v h. found I v (omega (arith, I .blocks v));
+    pieces = pieces-same R H;
+    one-piece = one-slot R H;
+    plain-one-piece = plain-one-slot R H;
+    one-freeing = freed-once R H;
+    none-to-join = joined-row R H;
   }

@@ -1,8 +1,8 @@
 -- One event in both runs: the same answer, the two tied again, and each byte in hands as it was.
-use mathlib.Core.Path.{_≡_, refl, sym, subst}
+use mathlib.Core.Path.{_≡_, refl, sym, subst, _∙_}
 use Prim.Native.Nat.{ℕ, _/_, _<_}
 use native.Mathlib.Omega.{arith}
-use lib.ListN.{length}
+use lib.ListN.{length, length-set}
 use Rattle.limits.specs.Limits.{REGION-BYTES, TASKS}
 use Rattle.fields.specs.Columns.{View}
 use Rattle.links.specs.Link.{link}
@@ -14,6 +14,7 @@ use Rattle.plain.specs.Calls.{Pool, Call, start, allocate, free, step, Lengths}
 use Rattle.plain.specs.Calls as Plain
 use Rattle.plain.specs.Invariant.{Good}
 use Rattle.plain.proofs.StartInvariant.{start-inv}
+use Rattle.plain.proofs.StripInvariant.{start-strips}
 use Rattle.plain.proofs.Always.{call-good}
 use Rattle.plain.proofs.CallTests.{passed}
 use Rattle.control.specs.Layout.{seen, Regions}
@@ -21,14 +22,15 @@ use Rattle.stepped.specs.Outcome.{Outcome, Memories}
 use Rattle.stepped.specs.Steps as Stepping₁
 use Rattle.stepped.specs.Calls.{Lent, lengths}
 use Rattle.stepped.specs.Calls as Stepped
-use Rattle.agreement.specs.Events.{Event, write, stepped, whole, Premise, call, CallPremise}
+use Rattle.agreement.specs.Events.{Event, write, write-strip, stepped, whole, Premise, call, CallPremise}
 use Rattle.agreement.specs.Agreement.{HandsKept}
 use Rattle.agreement.proofs.Both.{Both, seen-fitting}
 use Rattle.agreement.proofs.Turns.{At}
 use Rattle.agreement.specs.Tied.{Tied}
 use Rattle.agreement.proofs.Simulation.{Alike, tested-alike}
 use Rattle.agreement.proofs.Starting.{start-alike}
-use Rattle.agreement.proofs.BeginsBoth.{when-idle, allocate-both, free-both}
+use Rattle.agreement.proofs.BeginsBoth.{when-idle, allocate-both}
+use Rattle.agreement.proofs.StripsBoth.{free-both}
 use Rattle.agreement.proofs.Stepping.{step-both}
 use Rattle.agreement.proofs.UserWrites.{write-related}
 
@@ -92,6 +94,7 @@ CallKeeps (step t) s₁ s z = HandsKept s₁ s z
 abbrev pub EventKeeps : Event → Memories → Pool → Memories → Type 0
 EventKeeps (call k lent) s₁ s z = CallKeeps k s₁ s z
 EventKeeps (write at b) s₁ s z = Unit {0}
+EventKeeps (write-strip at b) s₁ s z = Unit {0}
 
 -- one call: the same answer, in relation again, and each byte in hands as it was
 call-alike : (k : Call) (lent : Lent) (s₁ : Memories) (s : Pool) → Tied s₁ s → CallPremise k (lengths lent) s
@@ -101,8 +104,9 @@ call-alike (start b) lent s₁ s S h =
     start-alike S b lent
     (λ T. record {
       few = T .tasks .1;
-      small = λ k. omega (arith, T .area);
+      small = λ k. omega (arith, T .lengths .0);
       inv = λ k. start-inv (length (lent .area) / REGION-BYTES);
+      strips = λ k. start-strips (length (lent .area) / REGION-BYTES);
     })
 call-alike (allocate t size) lent s₁ s S h =
     let y = Plain.whenIdle (s .mem .task t .place) (Plain.beginAllocate t size (s .mem)) (s .mem) in
@@ -123,7 +127,7 @@ call-alike (step t) lent s₁ s S h =
     (λ T. at-regions S (λ r. Stepping₁.stepOf (seen (s₁ .control)) (link (s₁ .area)) r t) y T
     (step-both t (omega (arith, T .below, S .good .few)) (S .good .small (T .started))
     (seen-fitting (s₁ .control) (S .bytes))
-    (S .related (T .started)) (S .good .inv (T .started)) (h T)))
+    (S .related (T .started)) (S .good .inv (T .started)) (S .good .strips (T .started)) (h T)))
 
 -- one event: the same answer, the two tied again, and each byte in hands as it was
 pub alike : (e : Event) (s₁ : Memories) (s : Pool) → Tied s₁ s → Premise e s
@@ -142,5 +146,20 @@ alike (write at b) s₁ s S h = record {
     related =
         λ k. write-related (S .good .inv k) (h .unit) at (h .held) (h .from) (h .to) (seen (s₁ .control)) (s₁ .area) b
         (S .related k);
+    strips = S .strips;
+  };
+}
+alike (write-strip at b) s₁ s S h = record {
+  says = refl;
+  shows = tt;
+  tied = record {
+    length = S .length;
+    bytes = S .bytes;
+    tasks = S .tasks;
+    good = S .good;
+    some = S .some;
+    regions = S .regions;
+    related = S .related;
+    strips = λ k. length-set (s₁ .strips) at b ∙ S .strips k;
   };
 }

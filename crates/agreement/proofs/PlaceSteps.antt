@@ -10,6 +10,8 @@ use Rattle.stepped.specs.Outcome.{refuse}
 use Rattle.stepped.specs.Allocate as Allocate
 use Rattle.stepped.specs.Free as Free
 use Rattle.stepped.specs.Steps.{stepList, stepAt}
+use Rattle.control.specs.Places.{STRIP-TAKE, STRIP-GIVE}
+use Rattle.stepped.specs.StripSteps.{stripTake, stripGive}
 
 -- there are as many steps as places
 pub steps-places : (v : View) (link : ℕ → ℕ) (regions t c : ℕ) → length (stepList v link regions t c) ≡ PLACES
@@ -30,6 +32,8 @@ pub record PlaceSteps (v : View) (link : ℕ → ℕ) (regions t c : ℕ) : Type
   pub f3-link : stepAt v link regions t c F3-LINK ≡ Free.f3Link v link regions t c
   pub f3-exchange : stepAt v link regions t c F3-EXCHANGE ≡ Free.f3Exchange v link regions t c
   pub f4-clear : stepAt v link regions t c F4-CLEAR ≡ Free.f4Clear v link regions t c
+  pub strip-take : stepAt v link regions t c STRIP-TAKE ≡ stripTake v t c
+  pub strip-give : stepAt v link regions t c STRIP-GIVE ≡ stripGive v t
 
 pub place-steps : (v : View) (link : ℕ → ℕ) (regions t c : ℕ) → PlaceSteps v link regions t c
 unfolding stepAt
@@ -47,4 +51,6 @@ place-steps v link regions t c = record {
   f3-link = refl;
   f3-exchange = refl;
   f4-clear = refl;
+  strip-take = refl;
+  strip-give = refl;
 }

@@ -32,10 +32,10 @@ reached (from-unstarted U) = record {
   found = λ k. absurd (omega (arith, U .tasks));
   asks = unstarted-asked _;
 }
-reached (from-start s₁ s b area a t) = record {
-  tied = accepted-start s₁ s b area a t .tied;
-  found = accepted-found s₁ b area a t;
-  asks = started-asked b area s _ a t;
+reached (from-start s₁ s b lent T) = record {
+  tied = accepted-start s₁ s b lent T .tied;
+  found = accepted-found s₁ b lent T;
+  asks = started-asked b lent s _ T;
 }
 reached (by-event {h} {s₁} {s} R e p) =
     let H = reached R in

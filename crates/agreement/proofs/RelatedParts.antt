@@ -5,6 +5,10 @@ use Prim.Native.Nat.{ℕ, suc, _*_, _≤_, _<_}
 use mathlib.Core.List.{List}
 use lib.ListN.{length}
 use Rattle.limits.specs.Limits.{UNITS, REGION-BYTES, DESCRIPTORS, MOST-BLOCKS, SPARE-REGIONS, LISTS, DESCRIPTOR-LISTS}
+use Rattle.limits.specs.Limits.{WHOLE-ORDER}
+use Rattle.pieces.specs.Pieces.{Pieces}
+use Rattle.strip_tree.specs.declared.tree.Tree.{Tree}
+use Rattle.strips_agreement.specs.TreeFollows.{Follows}
 use Rattle.words.specs.declared.anchor.Anchor.{Anchor}
 use Rattle.words.specs.declared.head.Head.{Head}
 use Rattle.rows.specs.Counting.{count}
@@ -18,10 +22,10 @@ use Rattle.plain.specs.ByState.{IfOpen, IsOpen}
 use Rattle.plain.proofs.ByState.{open-map}
 use Rattle.agreement.specs.Contents.{Slot, Lists, Descriptors, Entries, Contents}
 use Rattle.agreement.specs.Relation.{ChainRelated, Core, DescriptorRelated, DescriptorsRelated, EntriesRelated}
-use Rattle.agreement.specs.Relation.{ListsRelated, wrap}
+use Rattle.agreement.specs.Relation.{ListsRelated, StripsRelated, wrap}
 use Rattle.agreement.proofs.Parts.{first, behind}
 use Rattle.agreement.proofs.Sets.{withHeads, withDescriptorNexts, withRegionNexts, withAnchors, withMap}
-use Rattle.agreement.proofs.Sets.{withMarks, onLists, onDescriptors, onEntries, withSlots, withArea}
+use Rattle.agreement.proofs.Sets.{withMarks, onLists, onDescriptors, onEntries, withSlots, withArea, withStrips}
 
 -- ---- the lists
 module _ {regions : ℕ} {l : Lists} {won : ℕ → ℕ} {row : ℕ → List ℕ} (R : ListsRelated regions l won row) where
@@ -122,9 +126,10 @@ module _ {regions : ℕ} {E : Entries} {map hands : ℕ → ℕ} (R : EntriesRel
 -- ---- all but the tasks, with one part related anew, beside any parts of the tasks
 
 -- the plain pool with other parts
-abbrev pub plainWith : (won : ℕ → ℕ) (row : ℕ → List ℕ) (P : ℕ → Descriptor) (map hands : ℕ → ℕ) (task : ℕ → Task) → Mem
-plainWith won row P map hands task =
-    record { row = row; won = won; descriptor = P; map = map; hands = hands; task = task }
+abbrev pub plainWith : (won : ℕ → ℕ) (row : ℕ → List ℕ) (P : ℕ → Descriptor) (map hands : ℕ → ℕ) (task : ℕ → Task)
+    (strips : Pieces WHOLE-ORDER) → Mem
+plainWith won row P map hands task strips =
+    record { row = row; won = won; descriptor = P; map = map; hands = hands; task = task; strips = strips }
 
 -- what relates the parts, each with what relates those behind it
 abbrev CoreParts : ℕ → Contents → Mem → Type 0
@@ -133,37 +138,49 @@ CoreParts regions a m =
     × (DescriptorsRelated regions (link (a .area)) (a .descriptors) (m .descriptor)
     × ((length (a .area) ≡ REGION-BYTES * regions)
     × (EntriesRelated regions (a .entries) (m .map) (m .hands)
-    × Unit {0})))
+    × (StripsRelated (a .strips) (m .strips) × Unit {0}))))
 
 -- all of it, and the other way round: here alone the parts are all named, and a further one comes last
 core-parts : {regions : ℕ} {a : Contents} {m : Mem} → Core regions a m → CoreParts regions a m
-core-parts C = (C .lists, (C .descriptors, (C .length, (C .entries, tt))))
+core-parts C = (C .lists, (C .descriptors, (C .length, (C .entries, (C .strips, tt)))))
 
 core-of : {regions : ℕ} {a : Contents} {m : Mem} → CoreParts regions a m → Core regions a m
-core-of p = record { lists = p .0; descriptors = p .1 .0; length = p .1 .1 .0; entries = p .1 .1 .1 .0 }
+core-of p = record {
+  lists = p .0;
+  descriptors = p .1 .0;
+  length = p .1 .1 .0;
+  entries = p .1 .1 .1 .0;
+  strips = p .1 .1 .1 .1 .0;
+}
 
 module _ {regions : ℕ} {a : Contents} {m : Mem} (C : Core regions a m) {slots : ℕ → Slot} {tasks : ℕ → Task} where
   -- the lists
   pub core-lists : {l : Lists} {won : ℕ → ℕ} {row : ℕ → List ℕ} → ListsRelated regions l won row
       → Core regions (withSlots slots (onLists (λ x. l) a))
-      (plainWith won row (m .descriptor) (m .map) (m .hands) tasks)
+      (plainWith won row (m .descriptor) (m .map) (m .hands) tasks (m .strips))
   core-lists L = core-of (first (λ x. L) (core-parts C))
 
   -- the descriptors
   pub core-descriptors : {D : Descriptors} {P : ℕ → Descriptor} → DescriptorsRelated regions (link (a .area)) D P
       → Core regions (withSlots slots (onDescriptors (λ x. D) a))
-      (plainWith (m .won) (m .row) P (m .map) (m .hands) tasks)
+      (plainWith (m .won) (m .row) P (m .map) (m .hands) tasks (m .strips))
   core-descriptors R = core-of (behind (first (λ x. R)) (core-parts C))
 
   -- the links, in an area of the same length
   pub core-links : {b : List ℕ} → DescriptorsRelated regions (link b) (a .descriptors) (m .descriptor)
       → length b ≡ length (a .area)
       → Core regions (withSlots slots (withArea b a))
-      (plainWith (m .won) (m .row) (m .descriptor) (m .map) (m .hands) tasks)
+      (plainWith (m .won) (m .row) (m .descriptor) (m .map) (m .hands) tasks (m .strips))
   core-links R e = core-of (behind (λ p. (R, first (λ l. e ∙ l) (p .1))) (core-parts C))
 
   -- the map and the marks
   pub core-entries : {E : Entries} {map hands : ℕ → ℕ} → EntriesRelated regions E map hands
       → Core regions (withSlots slots (onEntries (λ x. E) a))
-      (plainWith (m .won) (m .row) (m .descriptor) map hands tasks)
+      (plainWith (m .won) (m .row) (m .descriptor) map hands tasks (m .strips))
   core-entries R = core-of (behind (behind (behind (first (λ x. R)))) (core-parts C))
+
+  -- the strips
+  pub core-strips : {t : Tree} {b : ℕ → ℕ} {p : Pieces WHOLE-ORDER} → Follows t b p
+      → Core regions (withSlots slots (withStrips t b a))
+      (plainWith (m .won) (m .row) (m .descriptor) (m .map) (m .hands) tasks p)
+  core-strips F = core-of (behind (behind (behind (behind (first (λ x. F))))) (core-parts C))

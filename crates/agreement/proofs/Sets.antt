@@ -6,20 +6,28 @@ use Rattle.rows.specs.Update.{update}
 use Rattle.links.specs.Link.{withLink}
 use Rattle.words.specs.declared.head.Head.{Head}
 use Rattle.words.specs.declared.anchor.Anchor.{Anchor}
-use Rattle.agreement.specs.Contents.{Slot, Lists, Descriptors, Entries, Contents}
+use Rattle.agreement.specs.Contents.{Slot, Lists, Descriptors, Entries, StripFields, Contents}
+use Rattle.strip_tree.specs.declared.tree.Tree.{Tree}
 use Rattle.agreement.proofs.Parts.{first, behind}
 
 -- ---- the parts
 
 -- the parts, each with those behind it
 abbrev Parts : Type 0
-Parts = Lists × (Descriptors × (Entries × ((ℕ → Slot) × (List ℕ × Unit {0}))))
+Parts = Lists × (Descriptors × (Entries × ((ℕ → Slot) × (List ℕ × (StripFields × Unit {0})))))
 
 -- the memories after a change of one part: here alone the parts are all named, and a further one comes last
 abbrev through : (Parts → Parts) → Contents → Contents
 through f a =
-    let p = f (a .lists, (a .descriptors, (a .entries, (a .slot, (a .area, tt))))) in
-    record { lists = p .0; descriptors = p .1 .0; entries = p .1 .1 .0; slot = p .1 .1 .1 .0; area = p .1 .1 .1 .1 .0 }
+    let p = f (a .lists, (a .descriptors, (a .entries, (a .slot, (a .area, (a .strips, tt)))))) in
+    record {
+      lists = p .0;
+      descriptors = p .1 .0;
+      entries = p .1 .1 .0;
+      slot = p .1 .1 .1 .0;
+      area = p .1 .1 .1 .1 .0;
+      strips = p .1 .1 .1 .1 .1 .0;
+    }
 
 -- the memories with other lists
 abbrev pub onLists : (Lists → Lists) → Contents → Contents
@@ -40,6 +48,10 @@ withSlots S = through (behind (behind (behind (first (λ x. S)))))
 -- the memories with another area
 abbrev pub withArea : List ℕ → Contents → Contents
 withArea b = through (behind (behind (behind (behind (first (λ x. b))))))
+
+-- the memories with another tree of free pieces and other bytes of the slots
+abbrev pub withStrips : Tree → (ℕ → ℕ) → Contents → Contents
+withStrips t b = through (behind (behind (behind (behind (behind (first (λ x. record { tree = t; byte = b })))))))
 
 -- ---- a part with another column
 

@@ -18,7 +18,7 @@ use Rattle.plain.specs.Invariant.{Good}
 use Rattle.control.specs.Layout.{layout, Tasks, Regions, seen, changed}
 use Rattle.control.proofs.Fields.{seen-changed}
 use Rattle.stepped.specs.Outcome.{Outcome, effect, refuse, Memories}
-use Rattle.stepped.specs.Calls.{Tested, FirstFails, control-fails, tasks-fail, not-started, regions-fail, area-fails}
+use Rattle.stepped.specs.Calls.{Tested, FirstFails, control-fails, tasks-fail, not-started, regions-fail, lengths-fail}
 use Rattle.stepped.specs.Calls.{task-fails}
 use Rattle.stepped.specs.Calls as Stepped
 use Rattle.agreement.specs.Events.{ran}
@@ -52,9 +52,9 @@ module _ {s₁ : Memories} {s : Pool} (S : Tied s₁ s) where
           tasks = S .tasks;
           good = S .good;
           some = S .some;
-          regions =
-              S .regions;
+          regions = S .regions;
           related = S .related;
+          strips = S .strips;
         };
   }
 
@@ -64,8 +64,11 @@ module _ {s₁ : Memories} {s : Pool} (S : Tied s₁ s) where
       → Alike (HandsKept s₁ s) (ran (effect o s₁)) (Plain.became s y)
   moves o y h g B = record {
     says = B .says;
-    shows =
-        λ at k. byte-kept (S .good .inv h) (k .unit) at (k .held) (k .from) (k .to) (o .links) (s₁ .area) (B .apart);
+    shows = record {
+      blocks =
+          λ at k. byte-kept (S .good .inv h) (k .unit) at (k .held) (k .from) (k .to) (o .links) (s₁ .area) (B .apart);
+      strips = refl;
+    };
     tied = record {
       length = length-written layout (o .writes) (s₁ .control) ∙ S .length;
       bytes = bytes-written layout (o .writes) (s₁ .control) (S .bytes);
@@ -74,6 +77,7 @@ module _ {s₁ : Memories} {s : Pool} (S : Tied s₁ s) where
       some = S .some;
       regions = λ k. view Regions (omega arith) ∙ B .keeps .1 ∙ S .regions k;
       related = λ k. views-related view (withLinks (o .links) (s₁ .area)) (S .good .small k) (g .inv k) (B .rel);
+      strips = S .strips;
     };
   }
     where
@@ -89,7 +93,7 @@ module _ {s₁ : Memories} {s : Pool} (S : Tied s₁ s) where
       record {
         control-is = T .control-is;
         started = q;
-        area-is = omega (arith, T .area-is, S .regions q);
+        lengths = (omega (arith, T .lengths-are .0, S .regions q), T .lengths-are .1);
         below = omega (arith, T .below, S .tasks);
       }
 
@@ -104,16 +108,16 @@ module _ {s₁ : Memories} {s : Pool} (S : Tied s₁ s) where
   failed-too y (regions-fail T h) =
       let q : 1 ≤ s .tasks = omega (arith, T .1, S .tasks) in
       absurd (h (omega (arith, S .regions q, S .some q, S .good .small q)))
-  failed-too {lent} y (area-fails T R h) =
+  failed-too {lent} y (lengths-fail T R h) =
       let q : 1 ≤ s .tasks = omega (arith, T .1, S .tasks) in
       if-yes (ℕ-discrete (lent .control) CONTROL-BYTES) _ _ (T .0)
       ∙ if-no (ℕ-discrete (s .tasks) 0) _ _ (λ e. absurd (omega (arith, q, e)))
-      ∙ if-no (ℕ-discrete (lent .area) (REGION-BYTES * s .regions)) _ _ (λ e. h (omega (arith, e, S .regions q)))
+      ∙ if-no (Plain.startedLengths? lent (s .regions)) _ _ (λ e. h (omega (arith, e .0, S .regions q), e .1))
   failed-too {lent} {t} y (task-fails T R a h) =
       let q : 1 ≤ s .tasks = omega (arith, T .1, S .tasks) in
       if-yes (ℕ-discrete (lent .control) CONTROL-BYTES) _ _ (T .0)
       ∙ if-no (ℕ-discrete (s .tasks) 0) _ _ (λ e. absurd (omega (arith, q, e)))
-      ∙ if-yes (ℕ-discrete (lent .area) (REGION-BYTES * s .regions)) _ _ (omega (arith, a, S .regions q))
+      ∙ if-yes (Plain.startedLengths? lent (s .regions)) _ _ (omega (arith, a .0, S .regions q), a .1)
       ∙ if-no (decLt t (s .tasks)) _ _ (λ l. absurd (omega (arith, l, h, S .tasks)))
 
   -- a call that is no start: refused by the same number, or done in both
@@ -124,6 +128,7 @@ module _ {s₁ : Memories} {s : Pool} (S : Tied s₁ s) where
   tested-alike lent t x y g both =
       let Same : Outcome → Pool × Answer → Type 0 = λ o. Alike (HandsKept s₁ s) (ran (effect o s₁)) in
       tests lent v t (λ o. Same o (Plain.tested t lent s y)) x
-      (λ n F. subst (Same (refuse n)) (sym (failed-too y F)) (stays (HandsKept s₁ s) (λ at k. refl) n))
+      (λ n F. subst (Same (refuse n)) (sym (failed-too y F))
+      (stays (HandsKept s₁ s) (record { blocks = λ at k. refl; strips = refl }) n))
       (λ T. let T′ = tested-too T in
       subst (Same x) (sym (passed y T′)) (moves x y (T′ .started) (g T′) (both T′)))

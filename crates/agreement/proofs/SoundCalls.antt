@@ -9,7 +9,8 @@ use native.Mathlib.Omega.{arith}
 use borrow.Author.Tests.{ne-eqb, ltb-true, ltb-false}
 use lib.Dec.{eqb, leb, ltb}
 use lib.ListN.{length}
-use Rattle.limits.specs.Limits.{CONTROL-BYTES, UNITS, TASKS, CLASSES, DESCRIPTORS, LARGEST-SIZE, WORD-MARKS}
+use Rattle.limits.specs.Limits.{CONTROL-BYTES, UNITS, TASKS, CLASSES, DESCRIPTORS, LARGEST-SIZE, LARGEST-STRIP}
+use Rattle.limits.specs.Limits.{WORD-MARKS}
 use Rattle.fields.specs.Columns.{Field, View, Write, _:=_, assign, assigned, Has}
 use Rattle.fields.specs.Little.{Bytes}
 use Rattle.words.specs.Anchor.{EMPTY, anchorOf}
@@ -17,6 +18,7 @@ use Rattle.words.specs.Mark.{isSet}
 use Rattle.words.proofs.Marks.{clear-below}
 use Rattle.classes.specs.Geometry.{regionOf, isFirst}
 use Rattle.classes.proofs.Sizes.{is-class}
+use Rattle.pieces.proofs.StripSizes.{rounds}
 use Rattle.plain.specs.Calls.{Lengths}
 use Rattle.control.specs.Layout.{layout, seen, changed, Anchor, Marks, Map, Regions, DescriptorRegion}
 use Rattle.control.specs.Layout.{DescriptorClass, TaskPlace}
@@ -30,6 +32,7 @@ use Rattle.stepped.specs.Calls.{Tested}
 use Rattle.agreement.specs.Ends.{placeAfter}
 use Rattle.agreement.proofs.Both.{Fitting, seen-fitting}
 use Rattle.agreement.proofs.SoundMoves.{Own, Owns, Fit, none, test}
+use Rattle.agreement.proofs.SoundStrips.{begin-strip}
 use Rattle.agreement.proofs.SoundSteps.{step-fit}
 use Rattle.agreement.proofs.Ways.{branch, tests}
 
@@ -48,8 +51,13 @@ module _ {lent : Lengths} {v : View} (fits : Fitting v) {t : ℕ} (T : Tested le
   unfolding Calls.beginAllocate
   allocate-fit size =
       idle-fit (Calls.beginAllocate t size)
-      (branch (Fit t) (eqb size 0) (λ e. none) (λ e. branch (Fit t) (ltb LARGEST-SIZE size) (λ h. none)
-      (λ h. record { sound = omega (arith, task, is-class size (ltb-false LARGEST-SIZE size h)); own = omega arith })))
+      (branch (Fit t) (eqb size 0) (λ e. none) (λ e. branch (Fit t) (ltb LARGEST-STRIP size) (λ h. none)
+      (λ h. branch (Fit t) (ltb LARGEST-SIZE size)
+      (λ k. record {
+        sound = omega (arith, task, rounds size (ltb-false LARGEST-STRIP size h) .within);
+        own = omega arith;
+      })
+      (λ k. record { sound = omega (arith, task, is-class size (ltb-false LARGEST-SIZE size k)); own = omega arith }))))
 
   marked-fit : (u c : ℕ) → u < UNITS → c < CLASSES → Fit t (Calls.freeMarked v t u c)
   unfolding Calls.freeMarked
@@ -70,23 +78,28 @@ module _ {lent : Lengths} {v : View} (fits : Fitting v) {t : ℕ} (T : Tested le
       })
       (λ e. none)
 
-  pub free-fit : (u : ℕ) → Fit t (Calls.whenIdle v t (Calls.beginFree v (v Regions) t u))
-  unfolding Calls.beginFree Calls.freeEntry Calls.freeBy Calls.freeOpen
-  free-fit u =
+  small-fit : (u : ℕ) → Fit t (Calls.beginFreeSmall v (v Regions) t u)
+  unfolding Calls.beginFreeSmall Calls.freeEntry Calls.freeBy Calls.freeOpen
+  small-fit u =
       let P = Fit t in
       let entry = v (Map (regionOf u)) in
       let d = entry - 1 in
       let a = v (Anchor d) in
       let r = v (DescriptorRegion d) in
       let c = v (DescriptorClass d) in
-      idle-fit (Calls.beginFree v (v Regions) t u)
-      (branch P (ltb (regionOf u) (v Regions)) (λ e.
+      branch P (ltb (regionOf u) (v Regions)) (λ e.
       branch P (eqb entry 0) (λ f. none) (λ f. test (leb entry DESCRIPTORS) (λ f.
       test (ltb r (v Regions)) (λ g. branch P (eqb r (regionOf u)) (λ h.
       test (isAnchor a) (λ i. branch P (eqb (anchorOf a .state) EMPTY) (λ j. none) (λ j.
       test (ltb c CLASSES) (λ k. branch P (isFirst c u)
       (λ l. marked-fit u c (omega (arith, ltb-true (regionOf u) (v Regions) e, T .regions)) (ltb-true c CLASSES k))
-      (λ l. none))))) (λ h. none))))) (λ e. none))
+      (λ l. none))))) (λ h. none))))) (λ e. none)
+
+  pub free-fit : (u : ℕ) → Fit t (Calls.whenIdle v t (Calls.beginFree v (v Regions) t u))
+  unfolding Calls.beginFree
+  free-fit u =
+      idle-fit (Calls.beginFree v (v Regions) t u)
+      (branch (Fit t) (ltb u UNITS) (λ e. small-fit u) (λ e. begin-strip v fits task u))
 
 -- ---- the bytes
 

@@ -24,6 +24,7 @@ use Rattle.agreement.proofs.SoundMoves as Moves
 use Rattle.agreement.proofs.SoundMoves.{Fit, none}
 use Rattle.agreement.proofs.SoundAllocate as Allocate
 use Rattle.agreement.proofs.SoundFree as Free
+use Rattle.agreement.proofs.SoundStrips as Strips
 use Rattle.agreement.proofs.Ways.{branch}
 use Rattle.stepped.specs.Calls.{Tested}
 
@@ -89,6 +90,8 @@ module _ (v : View) (fits : Fitting v) (link : ℕ → ℕ) {regions t c : ℕ} 
       then Free.f3-link v fits link few task class
       then Free.f3-exchange v fits link few task class
       then Free.f4-clear v fits link few task class
+      then Strips.strip-take v fits task c
+      then Strips.strip-give v fits task
       then end
 
   found : (os : List Outcome) → EachSound os → (place : ℕ) → Fit t (getD os place bad)

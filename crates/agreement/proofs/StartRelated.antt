@@ -1,5 +1,5 @@
 -- The relation after a start, on any bytes.
-use mathlib.Core.Path.{_≡_, refl, sym, ap, _∙_}
+use mathlib.Core.Path.{_≡_, refl, sym, ap, subst⁻¹, _∙_}
 use mathlib.Core.Bool.{Bool, true, false, cond}
 use mathlib.Core.List.{List, [], _∷_, _++_}
 use Prim.Native.Nat.{ℕ, zero, suc, _+_, _*_, _/_, _%_, _^_, _≤_, _<_}
@@ -21,8 +21,15 @@ use Rattle.words.specs.Mark.{bitAt}
 use Rattle.plain.specs.Steps.{top}
 use Rattle.plain.specs.Calls.{rising, startMem, Start}
 use Rattle.control.specs.Layout.{CACHES, fieldOf, Head, Tasks, Regions, DescriptorNext, RegionNext, TopOfCache}
-use Rattle.control.specs.Layout.{TaskState}
+use Rattle.control.specs.Layout.{TaskState, FreeNodes}
 use Rattle.control.specs.Layout
+use Rattle.pieces.specs.Pieces.{onePiece}
+use Rattle.strip_tree.specs.declared.tree.Tree.{Tree}
+use Rattle.strip_tree.specs.Trees.{WHOLE-FREE}
+use Rattle.strips_agreement.specs.TreeFollows.{Follows, startTree}
+use Rattle.strips_agreement.proofs.StripsAgree.{same-follows}
+use Rattle.strips_agreement.proofs.StartFollows.{start-follows}
+use Rattle.stepped.specs.StripSteps.{treeOf}
 use Rattle.stepped.specs.Start.{fill, nextUp, startWrites}
 use Rattle.agreement.specs.Contents.{contentsOf}
 use Rattle.agreement.specs.Relation.{Related, r-idle}
@@ -36,7 +43,13 @@ module _ (b : Start) (regions : ℕ) where
   -- the fields after a start, in the order of the writes
   abbrev first : View
   first =
-      assigned (Tasks := b .tasks ∷ Regions := regions ∷ Head SPARE-DESCRIPTORS := 1 ∷ Head SPARE-REGIONS := 1 ∷ [])
+      assigned
+      (Tasks := b .tasks
+      ∷ Regions := regions
+      ∷ Head SPARE-DESCRIPTORS := 1
+      ∷ Head SPARE-REGIONS := 1
+      ∷ FreeNodes 0 := WHOLE-FREE
+      ∷ [])
       zeroed
 
   abbrev second : View
@@ -75,6 +88,15 @@ module _ (b : Start) (regions : ℕ) where
 
   pub at-state : (t : ℕ) → startView (TaskState t) ≡ 0
   at-state t = unfilled Layout.taskStates t refl refl refl
+
+  -- the tree of free pieces
+  at-tree : treeOf startView ≡ startTree
+  at-tree = λ i. record {
+    a = unfilled Layout.freeNodes 0 refl refl refl i;
+    b = unfilled Layout.freeNodes 1 refl refl refl i;
+    c = unfilled Layout.freeNodes 2 refl refl refl i;
+    d = unfilled Layout.freeNodes 3 refl refl refl i;
+  }
 
   at-head : (ℓ : ℕ) → startView (Head ℓ) ≡ cond (eqb SPARE-REGIONS ℓ) 1 (cond (eqb SPARE-DESCRIPTORS ℓ) 1 0)
   at-head ℓ = unfilled Layout.heads ℓ refl refl refl
@@ -185,6 +207,10 @@ module _ (b : Start) (regions : ℕ) (few : 1 ≤ regions) where
             ∙ no-bit (u % WORD-MARKS);
       };
       length = e;
+      strips =
+          subst⁻¹ (λ (t : Tree). Follows t (λ s. v (Layout.SlotByte s)) onePiece) (at-tree b regions)
+          (same-follows startTree (λ s. 0) (λ s. v (Layout.SlotByte s)) onePiece
+          (λ s l. unfilled b regions Layout.bytesOfSlots s refl refl refl) start-follows);
     };
     slots = λ t l. record {
       fits = rw (unfilled b regions Layout.taskClasses t refl refl refl) (omega arith);

@@ -4,7 +4,7 @@ use mathlib.Core.List.{List, _++_}
 use Prim.Native.Nat.{ℕ, _*_, _/_, _≤_}
 use native.Mathlib.Omega.{arith}
 use lib.ListN.{length, replicate, length-replicate}
-use Rattle.limits.specs.Limits.{CONTROL-BYTES, REGIONS, REGION-BYTES, UNITS, TASKS, DESCRIPTORS}
+use Rattle.limits.specs.Limits.{CONTROL-BYTES, REGIONS, REGION-BYTES, UNITS, TASKS, DESCRIPTORS, STRIPS-BYTES}
 use Rattle.fields.specs.Columns.{Field, firstByte, width, Has, Sound}
 use Rattle.fields.proofs.Layouts.{length-written, bytes-written}
 use Rattle.plain.specs.Moves.{Answer}
@@ -12,6 +12,7 @@ use Rattle.plain.specs.Calls.{Pool, Start, StartTested}
 use Rattle.plain.specs.Calls as Plain
 use Rattle.plain.specs.Invariant.{Good}
 use Rattle.plain.proofs.StartInvariant.{start-inv}
+use Rattle.plain.proofs.StripInvariant.{start-strips}
 use Rattle.plain.proofs.CallTests.{start-failed, start-passed}
 use Rattle.plain.proofs.CallTests.{started as startedPool}
 use Rattle.control.specs.Layout.{CACHES, layout, Tasks, Regions, seen, DescriptorNext, RegionNext, TopOfCache}
@@ -46,15 +47,18 @@ module _ (b : Start) (regions : ℕ) (few : b .tasks ≤ TASKS) (small : regions
         omega arith,
         (
           omega arith,
-          append-sound (fill DescriptorNext (nextUp DESCRIPTORS) DESCRIPTORS)
-              (fill RegionNext (nextUp regions) regions ++ fill TopOfCache (λ i. UNITS) CACHES)
-              (fill-sound descriptorNexts (nextUp DESCRIPTORS) DESCRIPTORS DESCRIPTORS 256 (λ i x l k. omega arith)
-              (λ i l. omega (arith, next-max DESCRIPTORS i l)) (omega arith))
-              (append-sound (fill RegionNext (nextUp regions) regions) (fill TopOfCache (λ i. UNITS) CACHES)
-              (fill-sound regionNexts (nextUp regions) regions REGIONS 256 (λ i x l k. omega arith)
-              (λ i l. omega (arith, next-max regions i l)) small)
-              (fill-sound cacheTops (λ i. UNITS) CACHES CACHES 65536 (λ i x l k. omega arith) (λ i l. omega arith)
-              (omega arith))),
+          (
+            omega arith,
+            append-sound (fill DescriptorNext (nextUp DESCRIPTORS) DESCRIPTORS)
+                (fill RegionNext (nextUp regions) regions ++ fill TopOfCache (λ i. UNITS) CACHES)
+                (fill-sound descriptorNexts (nextUp DESCRIPTORS) DESCRIPTORS DESCRIPTORS 256 (λ i x l k. omega arith)
+                (λ i l. omega (arith, next-max DESCRIPTORS i l)) (omega arith))
+                (append-sound (fill RegionNext (nextUp regions) regions) (fill TopOfCache (λ i. UNITS) CACHES)
+                (fill-sound regionNexts (nextUp regions) regions REGIONS 256 (λ i x l k. omega arith)
+                (λ i l. omega (arith, next-max regions i l)) small)
+                (fill-sound cacheTops (λ i. UNITS) CACHES CACHES 65536 (λ i x l k. omega arith) (λ i l. omega arith)
+                (omega arith))),
+          ),
         ),
       ),
     ),
@@ -71,13 +75,14 @@ module _ (b : Start) (regions : ℕ) (few : b .tasks ≤ TASKS) (small : regions
       ∙ start-view b regions g
 
   -- the image and any area of the length are related to the plain pool after a start
-  started : (area : List ℕ) → length area ≡ REGION-BYTES * regions → 1 ≤ regions → (s : Pool)
+  started : (area strips : List ℕ) → length area ≡ REGION-BYTES * regions → length strips ≡ STRIPS-BYTES
+      → 1 ≤ regions → (s : Pool)
       → s ≡ record { tasks = b .tasks; regions = regions; mem = Plain.startMem regions } → Good s
-      → Tied (record { control = startImage b regions; area = area }) s
+      → Tied (record { control = startImage b regions; area = area; strips = strips }) s
   unfolding startImage
-  started area e some s i g =
+  started area strips e f some s i g =
       let G : Good (record { tasks = b .tasks; regions = regions; mem = Plain.startMem regions }) = subst Good i g in
-      subst (λ (z : Pool). Tied (record { control = startImage b regions; area = area }) z) (sym i)
+      subst (λ (z : Pool). Tied (record { control = startImage b regions; area = area; strips = strips }) z) (sym i)
       (record {
         length =
             length-written layout (startWrites b regions) (replicate CONTROL-BYTES 0)
@@ -90,6 +95,7 @@ module _ (b : Start) (regions : ℕ) (few : b .tasks ≤ TASKS) (small : regions
         some = λ k. some;
         regions = λ k. image-view Regions (omega arith) ∙ at-regions b regions;
         related = λ k. views-related image-view area small (G .inv k) (start-related b regions some area e small);
+        strips = λ k. f;
       })
 
 -- a pool that has just been started
@@ -106,8 +112,8 @@ new-alike b lent T g =
       says = refl;
       shows = tt;
       tied =
-          started b regions (T .tasks .1) (omega (arith, T .area)) (lent .area) (omega (arith, T .area))
-          (omega (arith, T .area)) (new b regions) refl g;
+          started b regions (T .tasks .1) (omega (arith, T .lengths .0)) (lent .area) (lent .strips)
+          (omega (arith, T .lengths .0)) (T .lengths .1) (omega (arith, T .lengths .0)) (new b regions) refl g;
     }
 
 -- a start: refused by the same number, or accepted in both
@@ -121,15 +127,16 @@ start-alike {s₁} {s} S b lent g =
     (λ T. subst (Same (startEffect b lent)) (sym (start-passed s T)) (new-alike b lent T (g T)))
 
 -- an accepted start, whatever was before
-pub accepted-start : (s₁ : Memories) (s : Pool) (b : Start) (area : List ℕ) → Plain.StartArea (length area)
-    → Plain.StartTasks (b .tasks)
-    → Alike (λ z. Unit {0}) (stepped (starting b area) s₁)
-    (Plain.startCall b (record { control = CONTROL-BYTES; area = length area }) s)
-accepted-start s₁ s b area a t =
-    let lent : Lent = record { control = CONTROL-BYTES; area = area } in
-    let T : StartTested b (lengths lent) = record { control-is = refl; area = a; tasks = t } in
-    let regions = length area / REGION-BYTES in
+pub accepted-start : (s₁ : Memories) (s : Pool) (b : Start) (lent : Lent) → StartTested b (lengths lent)
+    → Alike (λ z. Unit {0}) (stepped (starting b lent) s₁) (Plain.startCall b (lengths lent) s)
+accepted-start s₁ s b lent T =
+    let regions = length (lent .area) / REGION-BYTES in
     subst (λ (e : Effect). Alike (λ z. Unit {0}) (ran e) (Plain.startCall b (lengths lent) s))
     (sym (Steps₁.start-passed b lent s₁ T))
     (subst (Alike (λ z. Unit {0}) (ran (startEffect b lent))) (sym (start-passed s T))
-    (new-alike b lent T (record { few = t .1; small = λ k. omega (arith, a); inv = λ k. start-inv regions })))
+    (new-alike b lent T (record {
+      few = T .tasks .1;
+      small = λ k. omega (arith, T .lengths .0);
+      inv = λ k. start-inv regions;
+      strips = λ k. start-strips regions;
+    })))

@@ -29,6 +29,19 @@ use Rattle.stepped.specs.Steps as Steps
 use Rattle.stepped.proofs.Conjunction.{left-true}
 use Rattle.agreement.proofs.Ways.{branch, PlaceEnding, wrong, either, test, to, stay, finish}
 use Rattle.agreement.proofs.MoveWays.{pop-read, pop-next, pop-exchange, push-read, push-next, push-exchange, f5}
+use mathlib.Core.Logic.{inl, inr}
+use Rattle.limits.specs.Limits.{ORDERS}
+use Rattle.pieces.specs.StripUnits.{slotOfUnit, isStripUnit}
+use Rattle.strip_tree.specs.declared.find.Found.{Found}
+use Rattle.strip_tree.specs.declared.find.Found.the-variants.{At, Nothing}
+use Rattle.strip_tree.specs.TreeMoves.{find, canBegin}
+use Rattle.strip_tree.specs.SlotStates.{FREE-BEGUN, LAST-BYTE, orderIn}
+use Rattle.control.specs.Layout.{SlotByte}
+use Rattle.control.specs.Places.{STRIP-TAKE, STRIP-GIVE}
+use Rattle.stepped.specs.StripSteps as Strips
+use Rattle.stepped.specs.StripSteps.{treeOf}
+use Rattle.strip_tree.proofs.NoFreeNodes.{none-free}
+use borrow.Author.Tests.{ltb-true}
 
 module _ (v : View) (link : ℕ → ℕ) (t : ℕ) (fits : v (TaskClass t) < CLASSES) where
   abbrev c : ℕ
@@ -52,7 +65,7 @@ module _ (v : View) (link : ℕ → ℕ) (t : ℕ) (fits : v (TaskClass t) < CLA
       (test (leb k (perRegion c))
       (branch End (isBlock regions c u && below)
       (λ e. finish
-      (record { place = here; class = fits; top = refl; is-block = left-true (isBlock regions c u) below e })
+      (inl (record { place = here; class = fits; top = refl; is-block = left-true (isBlock regions c u) below e }))
       (λ u. refl))
       (λ e. wrong)))
 
@@ -108,7 +121,8 @@ module _ (v : View) (link : ℕ → ℕ) (t : ℕ) (fits : v (TaskClass t) < CLA
       let n = perRegion c in
       test (leb k n)
       (either (ltb k n)
-      (test (isBlock regions c (v (TaskUnit t)) && isTop regions c k (v (CacheTop t c))) (finish here (λ u. refl)))
+      (test (isBlock regions c (v (TaskUnit t)) && isTop regions c k (v (CacheTop t c)))
+      (finish (inl here) (λ u. refl)))
       (to F2 (omega arith) (λ u. refl)))
 
   f2 : End (Free.f2 v link regions t c)
@@ -160,6 +174,27 @@ module _ (v : View) (link : ℕ → ℕ) (t : ℕ) (fits : v (TaskClass t) < CLA
       (either (eqb (a .count + g) n) (to F4-CLEAR (omega arith) (λ u. refl))
       (f5 v t fits (a .state) (gave d) ws (λ u. refl)))
       (to F3-READ (omega arith) (λ u. refl))))
+
+  take-found : v (TaskPlace t) ≡ STRIP-TAKE → c < ORDERS → (f : Found) → find (treeOf v) c ≡ f
+      → End (Strips.stripTakeBy v t c f)
+  unfolding Strips.stripTakeAt
+  take-found here few (At i j) e =
+      finish (inr (record { place = here; order = few; node = i; found-order = j; found = e; is = refl })) (λ u. refl)
+  take-found here few Nothing e =
+      finish (record { place = here; order = few; none = none-free (treeOf v) c few e }) (λ u. refl)
+
+  strip-take : v (TaskPlace t) ≡ STRIP-TAKE → End (Strips.stripTake v t c)
+  unfolding Strips.stripTake
+  strip-take here =
+      branch End (ltb c ORDERS) (λ e. take-found here (ltb-true c ORDERS e) (find (treeOf v) c) refl) (λ e. wrong)
+
+  strip-give : v (TaskPlace t) ≡ STRIP-GIVE → End (Strips.stripGive v t)
+  unfolding Strips.stripGive Strips.stripGiveAt
+  strip-give here =
+      let s = slotOfUnit (v (TaskUnit t)) in
+      let x = v (SlotByte s) in
+      test (isStripUnit (v (TaskUnit t)))
+      (test (leb FREE-BEGUN x && leb x LAST-BYTE && canBegin s (orderIn x)) (finish (inr here) (λ u. refl)))
 
   f4-clear : End (Free.f4Clear v link regions t c)
   unfolding Free.f4Clear
@@ -214,6 +249,8 @@ module _ (v : View) (link : ℕ → ℕ) (t : ℕ) (fits : v (TaskClass t) < CLA
       then (λ e. f3-link)
       then (λ e. f3-exchange)
       then (λ e. f4-clear)
+      then (λ e. strip-take e)
+      then (λ e. strip-give e)
       then end
 
   -- the step at a place ends so, and a place past the list is outside its range

@@ -10,7 +10,7 @@ use Rattle.fields.specs.Columns.{View}
 use Rattle.links.specs.Link.{link}
 use Rattle.plain.specs.State.{Place, Mem, Work, working}
 use Rattle.plain.specs.Steps as Steps
-use Rattle.plain.specs.Invariant.{Invariant}
+use Rattle.plain.specs.Invariant.{Invariant, StripsHold}
 use Rattle.plain.specs.Noted.{notedAt, noted}
 use Rattle.control.specs.Layout.{TaskPlace, TaskClass}
 use Rattle.control.specs.Places.{IDLE}
@@ -18,7 +18,8 @@ use Rattle.stepped.specs.Steps as Stepped
 use Rattle.agreement.specs.Contents.{slotOf, contentsOf}
 use Rattle.agreement.specs.Relation.{WorkRelated, r-a1, r-popping, r-pushing, r-a3-read, r-a3-exchange, r-a4}
 use Rattle.agreement.specs.Relation.{r-a7, r-a8, r-f1, r-f2, r-f2-more, r-f3-read, r-f3-link, r-f3-exchange}
-use Rattle.agreement.specs.Relation.{r-f4-clear, PlaceRelated, r-idle, r-working, Related}
+use Rattle.agreement.specs.Relation.{r-f4-clear, r-strip-take, r-strip-give, PlaceRelated, r-idle, r-working}
+use Rattle.agreement.specs.Relation.{Related}
 use Rattle.agreement.specs.Events
 use Rattle.agreement.proofs.Both.{Both, Fitting, pass, choose}
 use Rattle.agreement.proofs.Turns.{At}
@@ -35,49 +36,53 @@ use Rattle.agreement.proofs.Returning.{f3-read-both, f3-link-both}
 use Rattle.agreement.proofs.Exchanging.{f3-exchange-both}
 use Rattle.agreement.proofs.Clearing.{f4-clear-both}
 use Rattle.agreement.proofs.WorkPlaces.{work-place}
+use Rattle.agreement.proofs.StripsBoth.{strip-take-both, strip-give-both}
 
 module _ {regions : ℕ} {v : View} {area : List ℕ} {m : Mem} {t : ℕ} {k : ℕ → List ℕ} where
-  work-both : {p : Work} → At regions v area m t (working p) k
+  work-both : {p : Work} → At regions v area m t (working p) k → StripsHold m
       → WorkRelated regions (contentsOf v area) m (slotOf v t) p
       → Events.Near (m .won) (notedAt p)
       → Both regions v area m (Stepped.stepAt v (link area) regions t (v (TaskClass t)) (v (TaskPlace t)))
       (Steps.stepAt t k p m)
   unfolding Stepped.stepAt
-  work-both w (r-a1 e) n = rw e (a1-both w)
-  work-both w (r-popping P h) n = pop-both (link area) P w h n
-  work-both w (r-pushing P z f h) n = push-both (link area) P z w f h n
-  work-both w (r-a3-read e) n = rw e (a3-read-both w)
-  work-both w (r-a3-exchange e N i j l o) n = rw e (a3-exchange-both w N i j l o)
-  work-both w (r-a4 e l i h) n = rw e (a4-both w e l i h)
-  work-both w (r-a7 e) n = rw e (a7-both w)
-  work-both w (r-a8 e) n = rw e (a8-both w e)
-  work-both w (r-f1 e) n = rw e (f1-both w)
-  work-both w (r-f2 e z) n = rw e (f2-both w e z)
-  work-both w (r-f2-more e G) n = rw e (f2-more-both w e G)
-  work-both w (r-f3-read e G) n = rw e (f3-read-both w G)
-  work-both w (r-f3-link e G N l) n = rw e (f3-link-both w G N l)
-  work-both w (r-f3-exchange e G N l i) n = rw e (f3-exchange-both w G N l i)
-  work-both w (r-f4-clear e i) n = rw e (f4-clear-both w i)
+  work-both w H (r-a1 e) n = rw e (a1-both w)
+  work-both w H (r-popping P h) n = pop-both (link area) P w h n
+  work-both w H (r-pushing P z f h) n = push-both (link area) P z w f h n
+  work-both w H (r-a3-read e) n = rw e (a3-read-both w)
+  work-both w H (r-a3-exchange e N i j l o) n = rw e (a3-exchange-both w N i j l o)
+  work-both w H (r-a4 e l i h) n = rw e (a4-both w e l i h)
+  work-both w H (r-a7 e) n = rw e (a7-both w)
+  work-both w H (r-a8 e) n = rw e (a8-both w e)
+  work-both w H (r-f1 e) n = rw e (f1-both w)
+  work-both w H (r-f2 e z) n = rw e (f2-both w e z)
+  work-both w H (r-f2-more e G) n = rw e (f2-more-both w e G)
+  work-both w H (r-f3-read e G) n = rw e (f3-read-both w G)
+  work-both w H (r-f3-link e G N l) n = rw e (f3-link-both w G N l)
+  work-both w H (r-f3-exchange e G N l i) n = rw e (f3-exchange-both w G N l i)
+  work-both w H (r-f4-clear e i) n = rw e (f4-clear-both w i)
+  work-both w H (r-strip-take e) n = rw e (strip-take-both w)
+  work-both w H (r-strip-give e i) n = rw e (strip-give-both w H i)
 
   -- one step: test 7, the class, and the step at the place
-  place-both : {p : Place} → At regions v area m t p k → v (TaskClass t) < CLASSES
+  place-both : {p : Place} → At regions v area m t p k → StripsHold m → v (TaskClass t) < CLASSES
       → PlaceRelated regions (contentsOf v area) m (slotOf v t) p → Events.Near (m .won) (noted p)
       → Both regions v area m (Stepped.stepOf v (link area) regions t)
       (Steps.whenWorking p (λ q. Steps.stepAt t k q m) m)
   unfolding Stepped.stepOf
-  place-both w l (r-idle e) n =
+  place-both w H l (r-idle e) n =
       choose (ltb IDLE (v (TaskPlace t))) (λ h. absurd (omega (arith, ltb-true IDLE (v (TaskPlace t)) h)))
       (λ h. refusal (w .pair .rel) 7)
-  place-both w l (r-working W) n =
+  place-both w H l (r-working W) n =
       choose (ltb IDLE (v (TaskPlace t)))
-      (λ h. pass (ltb (v (TaskClass t)) CLASSES) (lt-ltb (v (TaskClass t)) CLASSES l) (work-both w W n))
+      (λ h. pass (ltb (v (TaskClass t)) CLASSES) (lt-ltb (v (TaskClass t)) CLASSES l) (work-both w H W n))
       (λ h. absurd (omega (arith, ltb-false IDLE (v (TaskPlace t)) h, work-place W)))
 
 pub step-both : {regions : ℕ} {v : View} {area : List ℕ} {m : Mem} (t : ℕ) → t < TASKS → regions ≤ REGIONS → Fitting v
-    → Related regions (contentsOf v area) m → Invariant regions m → Events.Near (m .won) (noted (m .task t .place))
+    → Related regions (contentsOf v area) m → Invariant regions m → StripsHold m
+    → Events.Near (m .won) (noted (m .task t .place))
     → Both regions v area m (Stepped.stepOf v (link area) regions t) (Steps.stepOf t m)
 unfolding Steps.stepOf
-step-both {regions} {v} {area} {m} t l small F R I near =
+step-both {regions} {v} {area} {m} t l small F R I H near =
     let w : At regions v area m t (m .task t .place) (m .task t .cache) =
     record { pair = record { rel = R; turn = record { inv = I; fits = l; is = refl }; small = small }; fitting = F } in
-    place-both w (R .slots t l .fits) (R .slots t l .place) near
+    place-both w H (R .slots t l .fits) (R .slots t l .place) near

@@ -4,14 +4,14 @@ use mathlib.Core.Logic.{_≢_}
 use mathlib.Core.List.{List, _∷_}
 use Prim.Native.Nat.{ℕ}
 use native.Mathlib.Omega.{arith}
-use lib.ListN.{length}
 use Rattle.plain.specs.Moves.{Answer}
 use Rattle.plain.specs.Calls.{Pool, Call, Start, start, allocate, free, step, unstarted}
 use Rattle.plain.specs.Calls as Plain
 use Rattle.plain.proofs.CallAnswers.{never-14}
 use Rattle.stepped.specs.Outcome.{Memories}
 use Rattle.stepped.specs.Calls.{Lent, lengths, effectIn}
-use Rattle.agreement.specs.Events.{Event, call, write, stepped, whole, Premise, Premises, Unstarted}
+use Rattle.agreement.specs.Events.{Event, call, write, write-strip, stepped, whole, Premise, Premises}
+use Rattle.agreement.specs.Events.{Unstarted}
 use Rattle.agreement.specs.Tied.{Tied}
 use Rattle.agreement.specs.Reached.{starting, from-unstarted, from-start, Wherever}
 use Rattle.agreement.specs.Agreement.{Agrees, Unchanged, CallUntouched, Untouched, AgreesAt, Agree}
@@ -27,6 +27,7 @@ use Rattle.agreement.proofs.Observing.{observed}
 never : (e : Event) (s : Pool) → whole e s .1 .code ≢ 14
 never (call k lent) s = never-14 k (lengths lent) s
 never (write at b) s = λ e. absurd (omega arith)
+never (write-strip at b) s = λ e. absurd (omega arith)
 
 call-untouched : (k : Call) (lent : Lent) (s₁ : Memories) (s : Pool) → CallKeeps k s₁ s (stepped (call k lent) s₁ .0)
     → CallUntouched k lent s₁ (stepped (call k lent) s₁) s
@@ -39,11 +40,13 @@ untouched : (e : Event) (s₁ : Memories) (s : Pool) → EventKeeps e s₁ s (st
     → Untouched e s₁ (stepped e s₁) s
 untouched (call k lent) s₁ s h = call-untouched k lent s₁ s h
 untouched (write at b) s₁ s h = tt
+untouched (write-strip at b) s₁ s h = tt
 
 -- a refused call leaves both memories
 unchanged : (e : Event) (s₁ : Memories) → Unchanged s₁ (stepped e s₁)
 unchanged (call k lent) s₁ = refused-leaves (effectIn k lent s₁) s₁ (effect-leaves k lent s₁)
 unchanged (write at b) s₁ = λ h k. absurd (omega arith)
+unchanged (write-strip at b) s₁ = λ h k. absurd (omega arith)
 
 agrees : (e : Event) (s₁ : Memories) (s : Pool) → Alike (EventKeeps e s₁ s) (stepped e s₁) (whole e s)
     → Agrees (stepped e s₁) (whole e s)
@@ -54,7 +57,8 @@ agrees e s₁ s A = record {
   regions = A .tied .regions;
   control-length = A .tied .length;
   area-length = λ h. A .tied .related h .core .length;
-  same = λ h. observed (A .tied .good .small h) (A .tied .related h) (A .tied .good .inv h);
+  strips-length = A .tied .strips;
+  same = λ h. observed (A .tied .good .small h) (A .tied .related h) (A .tied .good .inv h) (A .tied .good .strips h);
 }
 
 -- an event that meets its premise, on memories that are tied to the plain pool: the two agree, and are tied again
@@ -81,13 +85,13 @@ agreement es s₁ U p = along AgreesAt reached-agrees (from-unstarted U) es p
 
 -- The agreement from an accepted start on any memories and in any pool, the start itself with it: the control memory
 -- before it may look like a started pool, or hold anything.
-pub agreement-from-start : (es : List Event) (s₁ : Memories) (s : Pool) (b : Start) (area : List ℕ)
-    → Plain.StartArea (length area) → Plain.StartTasks (b .tasks) → Premises es (whole (starting b area) s .0)
-    → Agree (starting b area ∷ es) s₁ s
+pub agreement-from-start : (es : List Event) (s₁ : Memories) (s : Pool) (b : Start) (lent : Lent)
+    → Plain.StartTested b (lengths lent) → Premises es (whole (starting b lent) s .0)
+    → Agree (starting b lent ∷ es) s₁ s
 unfolding Plain.plainCall
-agreement-from-start es s₁ s b area a t p =
-    let e = starting b area in
-    let A = accepted-start s₁ s b area a t in (
+agreement-from-start es s₁ s b lent T p =
+    let e = starting b lent in
+    let A = accepted-start s₁ s b lent T in (
       (agrees e s₁ s A, unchanged e s₁, untouched e s₁ s tt),
-      along AgreesAt reached-agrees (from-start s₁ s b area a t) es p,
+      along AgreesAt reached-agrees (from-start s₁ s b lent T) es p,
     )

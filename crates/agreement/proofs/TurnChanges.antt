@@ -32,6 +32,13 @@ use Rattle.agreement.proofs.RelatedParts.{core-entries}
 use Rattle.agreement.proofs.RelatedParts.{plainWith}
 use Rattle.agreement.proofs.Sets.{setAnchor, setDescriptorNext, setHead, setMap, setMark, setRegionNext, setSlot}
 use Rattle.agreement.proofs.Sets.{onLists}
+use Rattle.limits.specs.Limits.{WHOLE-ORDER}
+use Rattle.pieces.specs.Pieces.{Pieces}
+use Rattle.strip_tree.specs.declared.tree.Tree.{Tree}
+use Rattle.strips_agreement.specs.TreeFollows.{Follows}
+use Rattle.plain.specs.State.{setStrips}
+use Rattle.agreement.proofs.RelatedParts.{core-strips}
+use Rattle.agreement.proofs.Sets.{withStrips}
 
 -- a won exchange of the list ℓ: what others noted of it is past
 wins : (m : Mem) (ℓ j : ℕ) → m .won j ≤ update (m .won) ℓ (m .won ℓ + 1) j
@@ -51,9 +58,9 @@ module _ {regions : ℕ} {a : Contents} {m : Mem} {t : ℕ} {p : Place} {k : ℕ
   relisting : {l : Lists} {won : ℕ → ℕ} {row : ℕ → List ℕ} (s : Slot) (T : Task) → ListsRelated regions l won row
       → ((j : ℕ) → j < TASKS → j ≢ t → KeptLists (a .lists) l (m .won) won (m .row) row (m .task j .place))
       → SlotRelated regions (setSlot t s (onLists (λ x. l) a))
-      (plainWith won row (m .descriptor) (m .map) (m .hands) (update (m .task) t T)) s T
+      (plainWith won row (m .descriptor) (m .map) (m .hands) (update (m .task) t T) (m .strips)) s T
       → Related regions (setSlot t s (onLists (λ x. l) a))
-      (plainWith won row (m .descriptor) (m .map) (m .hands) (update (m .task) t T))
+      (plainWith won row (m .descriptor) (m .map) (m .hands) (update (m .task) t T) (m .strips))
   relisting s T L kept own = after {a = a} {m = m} t s T refl refl (core-lists C L) own
       (λ j i d. record { lists = kept j i d; links = λ v h. refl; regions = λ x h. refl })
       (w .rel .slots)
@@ -137,6 +144,14 @@ module _ {regions : ℕ} {a : Contents} {m : Mem} {t : ℕ} {p : Place} {k : ℕ
   clearing r z s T own = after {a = a} {m = m} t s T refl refl
       (core-entries C (map-related (C .entries) r z z refl))
       own
+      (λ j l d. record { lists = lists-kept; links = λ v h. refl; regions = λ x h. refl })
+      (w .rel .slots)
+
+  -- ---- the strips
+  pub stripping : (tree : Tree) (byte : ℕ → ℕ) (q : Pieces WHOLE-ORDER) (s : Slot) (T : Task) → Follows tree byte q
+      → SlotRelated regions (setSlot t s (withStrips tree byte a)) (setTask t T (setStrips q m)) s T
+      → Related regions (setSlot t s (withStrips tree byte a)) (setTask t T (setStrips q m))
+  stripping tree byte q s T F own = after {a = a} {m = m} t s T refl refl (core-strips C F) own
       (λ j l d. record { lists = lists-kept; links = λ v h. refl; regions = λ x h. refl })
       (w .rel .slots)
 

@@ -22,6 +22,13 @@ use Rattle.agreement.proofs.TurnInBoth.{quiet, linking}
 use Rattle.agreement.proofs.TurnChanges.{anchoring, clearing}
 use Rattle.agreement.proofs.Turns.{At}
 use Rattle.agreement.proofs.Caching.{withCache, cache-own, cache-others}
+use Rattle.limits.specs.Limits.{WHOLE-ORDER}
+use Rattle.pieces.specs.Pieces.{Pieces}
+use Rattle.strip_tree.specs.declared.tree.Tree.{Tree}
+use Rattle.strips_agreement.specs.TreeFollows.{Follows}
+use Rattle.plain.specs.State.{setStrips}
+use Rattle.agreement.proofs.Sets.{withStrips}
+use Rattle.agreement.proofs.TurnChanges.{stripping}
 
 -- Writes that change the view v to v′: what is shared is as in b, and of the tasks' parts only that of t, now s, has
 -- changed.
@@ -77,3 +84,12 @@ module _ {regions : ℕ} {v : View} {area : List ℕ} {m : Mem} {t : ℕ} {p : P
   entry-cleared r c h =
       rw (becomes v v′ area t s (setMap r 0 (contentsOf v area)) (c .shared) refl (c .own) (c .others))
       (clearing (w .pair) r 0 s T h)
+
+  -- the relation after writes that change the task's own part, the tree of free pieces and the bytes of the slots
+  pub strips-written : (tree : Tree) (byte : ℕ → ℕ) (q : Pieces WHOLE-ORDER)
+      → OwnWrites v v′ area t s (withStrips tree byte (contentsOf v area)) → Follows tree byte q
+      → SlotRelated regions (setSlot t s (withStrips tree byte (contentsOf v area))) (setTask t T (setStrips q m)) s T
+      → Related regions (contentsOf v′ area) (setTask t T (setStrips q m))
+  strips-written tree byte q c F h =
+      rw (becomes v v′ area t s (withStrips tree byte (contentsOf v area)) (c .shared) refl (c .own) (c .others))
+      (stripping (w .pair) tree byte q s T F h)

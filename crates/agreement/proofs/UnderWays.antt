@@ -28,6 +28,8 @@ use Rattle.agreement.specs.Relation.{r-idle, r-working}
 use Rattle.agreement.specs.Observe.{underWays, blocksAt}
 use Rattle.agreement.proofs.TurnInBoth.{Pair}
 use Rattle.agreement.proofs.GroupBlocks.{of-region}
+use Rattle.control.specs.Places.{STRIP-TAKE, STRIP-GIVE}
+use Rattle.agreement.specs.Relation.{r-strip-take, r-strip-give}
 
 -- the block that is freed, and a group behind it
 freed-with : {u : ℕ} {q r : List ℕ} → q ≡ r → u ∷ q ≡ u ∷ r
@@ -103,6 +105,8 @@ module _ {regions : ℕ} {a : Contents} {m : Mem} {t : ℕ} {k : ℕ → List �
       at-place w F3-EXCHANGE (a .slot t .unit ∷ y ∷ g) e
       (freed-with (group-is w G (λ v. omega arith) refl (placeHolds (w .turn) .2)))
   at-work w (r-f4-clear e f) = at-place w F4-CLEAR (a .slot t .unit ∷ []) e refl
+  at-work w (r-strip-take e) = at-place w STRIP-TAKE [] e refl
+  at-work w (r-strip-give e f) = at-place w STRIP-GIVE [] e refl
 
   pub under-way : {p : Place} (w : Pair regions a m t p k) → PlaceRelated regions a m (a .slot t) p
       → blocksAt (underWays (a .slot t) a) (a .slot t .place) ≡ underWay p

@@ -14,7 +14,7 @@ use Rattle.classes.specs.Classes.{perRegion}
 use Rattle.classes.specs.Geometry.{unitOf}
 use Rattle.plain.specs.State.{FULL, read, next, exchange, Pop, partial, spare, region, a1, popping, a7, a8, Task, Mem}
 use Rattle.plain.specs.State.{setTask, setRow, setDescriptor, setMap, working}
-use Rattle.plain.specs.Moves.{Decided, nothing, found-empty, popped, Answer, going, finished}
+use Rattle.plain.specs.Moves.{Decided, nothing, found-empty, popped, Answer, going, finishedBy}
 use Rattle.plain.specs.Steps.{popList, whenPopped, stepOf, whenWorking, atWork, stepAt, popRead, popTake, popLost}
 use Rattle.plain.specs.Steps.{a1Step}
 use Rattle.plain.proofs.PlaceAlone.{taskOf}
@@ -35,7 +35,7 @@ module _ (t : ℕ) where
 
   -- from the pool m on the task makes n steps with code 0, and then one that finishes with the unit
   pub data Finishes (unit : ℕ) : ℕ → Mem → Type 0 where
-    last : {m m′ : Mem} → stepOf t m ≡ (m′, finished unit) → Finishes unit 0 m
+    last : {m m′ : Mem} {e : Decided} → stepOf t m ≡ (m′, finishedBy e unit) → Finishes unit 0 m
     more : {n : ℕ} {m m′ : Mem} {e : Decided} → stepOf t m ≡ (m′, going e) → Finishes unit n m′
         → Finishes unit (suc n) m
 
@@ -45,7 +45,8 @@ module _ (t : ℕ) where
       ap (λ r. brief (r .1) ∷ map brief (taskAnswers (suc n) (r .0))) p ∙ ap (λ q. (0, 0) ∷ q) (told F)
 
   -- the step of the task T
-  taken : (m : Mem) (T : Task) → m .task t ≡ T → stepOf t m ≡ whenWorking (T .place) (λ w. stepAt t (T .cache) w m) m
+  pub taken : (m : Mem) (T : Task) → m .task t ≡ T
+      → stepOf t m ≡ whenWorking (T .place) (λ w. stepAt t (T .cache) w m) m
   unfolding stepOf
   taken m T e = ap (λ (U : Task). whenWorking (U .place) (λ w. stepAt t (U .cache) w m) m) e
 

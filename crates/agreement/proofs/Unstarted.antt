@@ -12,8 +12,14 @@ unstarted-tied U = record {
   length = U .length;
   bytes = U .bytes;
   tasks = U .tasks;
-  good = record { few = omega arith; small = λ h. absurd (omega arith); inv = λ h. absurd (omega arith) };
+  good = record {
+    few = omega arith;
+    small = λ h. absurd (omega arith);
+    inv = λ h. absurd (omega arith);
+    strips = λ h. absurd (omega arith);
+  };
   some = λ h. absurd (omega arith);
   regions = λ h. absurd (omega arith);
   related = λ h. absurd (omega arith);
+  strips = λ h. absurd (omega arith);
 }

@@ -18,6 +18,10 @@ use Rattle.plain.proofs.PlaceAlone.{taskOf}
 use Rattle.plain.proofs.Turn.{Turn}
 use Rattle.control.specs.Layout
 use Rattle.control.specs.Layout.{layout}
+use Rattle.strip_tree.specs.declared.tree.Tree.{Tree}
+use Rattle.strips_agreement.specs.TreeFollows.{Follows}
+use Rattle.strips_agreement.proofs.StripsAgree.{same-follows}
+use Rattle.stepped.specs.StripSteps.{treeOf}
 use Rattle.agreement.specs.Contents.{Slot, byClass, slotOf, contentsOf}
 use Rattle.agreement.specs.Relation.{DescriptorRelated, SlotRelated, Core, Related}
 use Rattle.agreement.proofs.Frames.{Framed, kept-slot}
@@ -60,6 +64,15 @@ module _ {v v′ : View} (same : (g : Field) → Has layout g → v′ g ≡ v g
       top = caches-same (Layout.CacheTop t) (λ c h. omega arith) i;
       count = caches-same (Layout.CacheCount t) (λ c h. omega arith) i;
     };
+  }
+
+  -- the tree of free pieces
+  same-tree : treeOf v′ ≡ treeOf v
+  same-tree = λ i. record {
+    a = same (Layout.FreeNodes 0) (omega arith) i;
+    b = same (Layout.FreeNodes 1) (omega arith) i;
+    c = same (Layout.FreeNodes 2) (omega arith) i;
+    d = same (Layout.FreeNodes 3) (omega arith) i;
   }
 
   module _ {regions : ℕ} {m : Mem} (area : List ℕ) (small : regions ≤ REGIONS) (I : Invariant regions m)
@@ -109,6 +122,10 @@ module _ {v v′ : View} (same : (g : Field) → Has layout g → v′ g ≡ v g
         marks = λ u l. rw (same (Layout.Marks (u / WORD-MARKS)) (omega arith)) (R .core .entries .marks u l);
       };
       length = R .core .length;
+      strips =
+          subst (λ (t : Tree). Follows t (λ s. v′ (Layout.SlotByte s)) (m .strips)) (sym same-tree)
+          (same-follows (treeOf v) (λ s. v (Layout.SlotByte s)) (λ s. v′ (Layout.SlotByte s)) (m .strips)
+          (λ s l. same (Layout.SlotByte s) (omega arith)) (R .core .strips));
     }
 
     turn : (t : ℕ) → t < TASKS → Turn regions m t (taskOf (m .task t .place) (m .task t .cache))

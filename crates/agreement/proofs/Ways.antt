@@ -7,28 +7,32 @@ use mathlib.Core.List.{List, [], _∷_, _++_}
 use native.Mathlib.Omega.{arith}
 use borrow.Author.Tests.{eq-eqb, le-leb, eqb-true, eqb-false, leb-true, leb-false, ltb-true, ltb-false}
 use lib.Dec.{eqb, leb, ltb}
-use Rattle.limits.specs.Limits.{CONTROL-BYTES, REGIONS, REGION-BYTES, TASKS, CLASSES}
+use Rattle.limits.specs.Limits.{CONTROL-BYTES, REGIONS, REGION-BYTES, TASKS, CLASSES, ORDERS, STRIPS-BYTES}
 use Rattle.fields.specs.Columns.{View, Write, _:=_, assign, assigned}
 use Rattle.links.specs.Link.{LinkWrite}
 use Rattle.plain.specs.Moves.{Decided}
-use Rattle.plain.specs.Calls.{Start, Lengths, StartTested, StartFails, start-control, start-area, start-tasks}
+use Rattle.plain.specs.Calls.{Start, Lengths, StartTested, StartFails, start-control, start-lengths, start-tasks}
 use Rattle.plain.proofs.CallTests.{start-tested}
 use Rattle.control.specs.Layout.{CacheTop, TaskPlace, TaskClass, Tasks, Regions}
-use Rattle.control.specs.Places.{IDLE, A1, F1}
+use Rattle.control.specs.Places.{IDLE, A1, F1, STRIP-TAKE, STRIP-GIVE}
 use Rattle.control.specs.declared.answer.Answer.{Answer}
 use Rattle.control.specs.declared.answer.Answer.the-variants.{Accepted, Allocated, Freed, NoDescriptor, NoRegion}
-use Rattle.control.specs.declared.answer.Answer.the-variants.{Refused}
+use Rattle.control.specs.declared.answer.Answer.the-variants.{NoStrip, Refused}
 use Rattle.control.specs.declared.moves.Pop.the-variants.{Spare, Region}
 use Rattle.control.specs.declared.moves.Push.the-variants.{Back}
 use Rattle.stepped.specs.Outcome.{Outcome, refuse, bad, accept, over, Memories, Effect, effect}
+use Rattle.pieces.specs.StripUnits.{stripUnit}
+use Rattle.strip_tree.specs.declared.find.Found.the-variants.{At}
+use Rattle.strip_tree.specs.TreeMoves.{find, slotOfNode}
+use Rattle.stepped.specs.StripSteps.{treeOf}
 use Rattle.stepped.specs.Ranges.{oneTo, isBlock}
 use Rattle.stepped.specs.Calls as Calls
 use Rattle.stepped.specs.Calls.{Tested, HasTasks, HasRegions, Lent, lengths, startEffect}
-use Rattle.stepped.specs.Calls.{FirstFails, control-fails, tasks-fail, not-started, regions-fail, area-fails}
-use Rattle.stepped.specs.Calls.{task-fails}
+use Rattle.stepped.specs.Calls.{FirstFails, control-fails, tasks-fail, not-started, regions-fail, lengths-fail}
+use Rattle.stepped.specs.Calls.{task-fails, isStartedLengths}
 use Rattle.agreement.specs.Ends.{startRefusals, oneOf, testRefusals, placeRefusals, stepRefusals, Begins}
-use Rattle.agreement.specs.Ends.{FindsEmpty, WinsPush, InPush}
-use Rattle.stepped.proofs.CallTests.{one-to, start-failed, start-passed}
+use Rattle.agreement.specs.Ends.{FindsEmpty, WinsPush, InPush, FindsNoPiece}
+use Rattle.stepped.proofs.CallTests.{one-to, lengths-started, start-failed, start-passed}
 use Rattle.agreement.proofs.BothPass.{both-true}
 
 -- a test: what holds of both ways on holds of what follows
@@ -77,19 +81,20 @@ module _ (lent : Lengths) (v : View) (t : ℕ) where
       let T : HasTasks lent v = (c, omega arith, few) in
       branch P (oneTo REGIONS (v Regions)) (λ h.
       let R : HasRegions v = one-to REGIONS (v Regions) h in
-      branch P (eqb (lent .area) (REGION-BYTES * v Regions)) (λ j.
-      let a = eqb-true (lent .area) (REGION-BYTES * v Regions) j in
+      branch P (isStartedLengths lent (v Regions)) (λ j.
+      let a = lengths-started lent (v Regions) j in
       branch P (ltb t (v Tasks)) (λ l. k (record {
         control-is = c;
         started = T .1;
         tasks = few;
         some = R .0;
         regions = R .1;
-        area-is = a;
+        lengths-are = a;
         below = ltb-true t (v Tasks) l;
       }))
       (λ l. r 5 (task-fails T R a (ltb-false t (v Tasks) l))))
-      (λ j. r 2 (area-fails T R (eqb-false (lent .area) (REGION-BYTES * v Regions) j))))
+      (λ j. r 2 (lengths-fail T R (λ a. false≢true (rw (← j) (both-true
+      (eq-eqb (lent .area) (REGION-BYTES * v Regions) (a .0)) (eq-eqb (lent .strips) STRIPS-BYTES (a .1))))))))
       (λ h. r 14 (regions-fail T (λ R. false≢true
       (rw (← h) (both-true (le-leb 1 (v Regions) (R .0)) (le-leb (v Regions) REGIONS (R .1)))))))))
       (λ f. r 14 (tasks-fail c (leb-false (v Tasks) TASKS f))))
@@ -106,7 +111,7 @@ among-tests (control-fails h) = refl
 among-tests (tasks-fail c h) = refl
 among-tests (not-started c h) = refl
 among-tests (regions-fail T h) = refl
-among-tests (area-fails T R h) = refl
+among-tests (lengths-fail T R h) = refl
 among-tests (task-fails T R a h) = refl
 
 -- ---- the tests 1, 2, 3 of a start
@@ -123,7 +128,7 @@ start-tests P b lent s r k =
 pub among-start-tests : {b : Start} {lent : Lengths} {n : ℕ} → StartFails b lent n
     → oneOf startRefusals n ≡ true
 among-start-tests (start-control h) = refl
-among-start-tests (start-area c h) = refl
+among-start-tests (start-lengths c h) = refl
 among-start-tests (start-tasks c a h) = refl
 
 -- ---- the ways out of a step
@@ -136,13 +141,23 @@ pub record TakesTop (v : View) (t u : ℕ) : Type 0 where
   pub top : u ≡ v (CacheTop t (v (TaskClass t)))
   pub is-block : isBlock (v Regions) (v (TaskClass t)) u ≡ true
 
+-- a strip is taken: the task t is at that place, and the free piece that is found is the one of this unit
+pub record TakesStrip (v : View) (t u : ℕ) : Type 0 where
+  pub place : v (TaskPlace t) ≡ STRIP-TAKE
+  pub order : v (TaskClass t) < ORDERS
+  pub node : ℕ
+  pub found-order : ℕ
+  pub found : find (treeOf v) (v (TaskClass t)) ≡ At node found-order
+  pub is : u ≡ stripUnit (slotOfNode found-order node)
+
 -- why a step gives an answer that ends the request
 abbrev pub Cause : View → ℕ → Answer → Type 0
 Cause v t Accepted = ⊥
-Cause v t (Allocated u) = TakesTop v t u
-Cause v t Freed = v (TaskPlace t) ≡ F1
+Cause v t (Allocated u) = TakesTop v t u ⊎ TakesStrip v t u
+Cause v t Freed = (v (TaskPlace t) ≡ F1) ⊎ (v (TaskPlace t) ≡ STRIP-GIVE)
 Cause v t NoDescriptor = FindsEmpty Spare v t
 Cause v t NoRegion = WinsPush Back v t
+Cause v t NoStrip = FindsNoPiece v t
 Cause v t (Refused n) = ⊥
 
 -- How a step of the task t ends: with a refusal by one of the numbers ns, with the request under way, or with the

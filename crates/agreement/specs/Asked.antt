@@ -5,7 +5,7 @@ use mathlib.Core.List.{[], _∷_}
 use Prim.Native.Nat.{ℕ}
 use lib.Dec.{eqb}
 use Rattle.plain.specs.Calls.{Call, start, allocate, free, step}
-use Rattle.agreement.specs.Events.{Event, call, write}
+use Rattle.agreement.specs.Events.{Event, call, write, write-strip}
 use Rattle.agreement.specs.Reached.{History}
 
 -- the request that a task began last since the start: none, an allocation of so many bytes, or the free of a unit
@@ -26,6 +26,7 @@ askedBy t (step u) code a = a
 abbrev pub askedIn : ℕ → Event → ℕ → Asked → Asked
 askedIn t (call k lent) code a = askedBy t k code a
 askedIn t (write at b) code a = a
+askedIn t (write-strip at b) code a = a
 
 -- what the task t has asked for last in a history, whose latest event is the first
 abbrev pub asked : ℕ → History → Asked

@@ -1,11 +1,13 @@
 -- docs/POOL.md, "The relation"
 -- Every task of the plain pool that is at work is at what it has asked for last.
 use mathlib.Core.Path.{_≡_}
-use Prim.Native.Nat.{ℕ, _≤_}
-use Rattle.limits.specs.Limits.{LARGEST-SIZE}
+use Prim.Native.Nat.{ℕ, _≤_, _<_}
+use Rattle.limits.specs.Limits.{LARGEST-SIZE, LARGEST-STRIP, UNITS}
 use Rattle.classes.specs.Sizes.{classOf}
+use Rattle.pieces.specs.StripSizes.{orderOf}
+use Rattle.pieces.specs.StripUnits.{stripUnit}
 use Rattle.plain.specs.State.{Place, idle, working, Mem}
-use Rattle.plain.specs.Requests.{Request, allocation, freeing, requestAt}
+use Rattle.plain.specs.Requests.{Request, allocation, freeing, strip-allocation, strip-freeing, requestAt}
 use Rattle.agreement.specs.Reached.{History}
 use Rattle.agreement.specs.Asked.{Asked, nothing-yet, for-bytes, for-free, asked}
 
@@ -13,13 +15,21 @@ use Rattle.agreement.specs.Asked.{Asked, nothing-yet, for-bytes, for-fre
 abbrev pub Serves : ℕ → ℕ → Type 0
 Serves size c = (1 ≤ size) × (size ≤ LARGEST-SIZE) × (c ≡ classOf size)
 
+-- a strip of the order k serves the size
+abbrev pub StripServes : ℕ → ℕ → Type 0
+StripServes size k = (LARGEST-SIZE < size) × (size ≤ LARGEST-STRIP) × (k ≡ orderOf size)
+
 -- the request is what was asked for
 abbrev pub AsAsked : Asked → Request → Type 0
 AsAsked nothing-yet q = ⊥
 AsAsked (for-bytes size) (allocation c) = Serves size c
 AsAsked (for-bytes size) (freeing c u) = ⊥
+AsAsked (for-bytes size) (strip-allocation k) = StripServes size k
+AsAsked (for-bytes size) (strip-freeing s) = ⊥
 AsAsked (for-free unit) (allocation c) = ⊥
-AsAsked (for-free unit) (freeing c u) = u ≡ unit
+AsAsked (for-free unit) (freeing c u) = (u ≡ unit) × (unit < UNITS)
+AsAsked (for-free unit) (strip-allocation k) = ⊥
+AsAsked (for-free unit) (strip-freeing s) = stripUnit s ≡ unit
 
 -- a task that is at work is at what it has asked for
 abbrev pub AtWhatAsked : Asked → Place → Type 0

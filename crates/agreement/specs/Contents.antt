@@ -1,5 +1,5 @@
 -- docs/POOL.md, "The relation"
--- The two memories, column by column: what each field and each link says.
+-- The control memory and the area, column by column: what each field and each link says.
 use Prim.Native.Nat.{ℕ, _/_, _%_}
 use native.Mathlib.Decide.{decLt}
 use mathlib.Core.List.{List}
@@ -12,6 +12,8 @@ use Rattle.words.specs.Mark.{bitAt}
 use Rattle.words.specs.declared.head.Head.{Head}
 use Rattle.words.specs.declared.anchor.Anchor.{Anchor}
 use Rattle.control.specs.Layout
+use Rattle.strip_tree.specs.declared.tree.Tree.{Tree}
+use Rattle.stepped.specs.StripSteps.{treeOf}
 
 -- ---- a task's part of the control memory
 
@@ -41,8 +43,8 @@ pub record TaskCaches : Type 0 where
   pub top : ℕ → ℕ
   pub count : ℕ → ℕ
 
--- a task's part of the control memory: its place in the step list, the class of its request and the block that it
--- frees; what it noted, what it has in hand, its group and its caches
+-- a task's part of the control memory: its place in the step list, the class of its request or the order of its strip,
+-- and the block or strip that it frees; what it noted, what it has in hand, its group and its caches
 pub record Slot : Type 0 where
   pub place : ℕ
   pub class : ℕ
@@ -71,11 +73,17 @@ pub record Entries : Type 0 where
   pub map : ℕ → ℕ
   pub mark : ℕ → ℕ
 
--- what the two memories hold, part by part
+-- the strips: the tree of free pieces, and the byte of each of their slots
+pub record StripFields : Type 0 where
+  pub tree : Tree
+  pub byte : ℕ → ℕ
+
+-- what the control memory and the area hold, part by part
 pub record Contents : Type 0 where
   pub lists : Lists
   pub descriptors : Descriptors
   pub entries : Entries
+  pub strips : StripFields
   pub slot : ℕ → Slot
   pub area : List ℕ
 
@@ -118,7 +126,7 @@ slotOf v t = record {
 abbrev pub markOf : View → ℕ → ℕ
 markOf v u = bitAt (v (Layout.Marks (u / WORD-MARKS))) (u % WORD-MARKS)
 
--- what the two memories hold, read off a view of the fields and the area
+-- what the control memory and the area hold, read off a view of the fields and the area
 abbrev pub contentsOf : View → List ℕ → Contents
 contentsOf v area = record {
   lists = record {
@@ -132,6 +140,7 @@ contentsOf v area = record {
     class = λ d. v (Layout.DescriptorClass d);
   };
   entries = record { map = λ r. v (Layout.Map r); mark = markOf v };
+  strips = record { tree = treeOf v; byte = λ s. v (Layout.SlotByte s) };
   slot = slotOf v;
   area = area;
 }

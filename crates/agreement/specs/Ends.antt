@@ -1,25 +1,28 @@
 -- docs/POOL.md, "Calls and refusals"
--- How a call ends, whatever the two memories hold: what a refusal leaves, which numbers refuse, when "no descriptor"
--- and "no region" come, and the class that a size gets.
-use Prim.Native.Nat.{ℕ, _+_, _≤_, _<_}
+-- How a call ends, whatever the memories hold: what a refusal leaves, which numbers refuse, when "no descriptor", "no
+-- region" and 16 come, and the class or the order that a size gets.
+use Prim.Native.Nat.{ℕ, _+_, _-_, _^_, _≤_, _<_}
 use mathlib.Core.Path.{_≡_}
 use mathlib.Core.List.{List, [], _∷_, _++_}
 use mathlib.Core.Bool.{Bool, true, false, _||_}
 use lib.Dec.{eqb}
-use Rattle.limits.specs.Limits.{CLASSES, LARGEST-SIZE}
+use Rattle.limits.specs.Limits.{CLASSES, ORDERS, LARGEST-SIZE, LARGEST-STRIP}
 use Rattle.fields.specs.Columns.{View, _:=_, assigned}
 use Rattle.words.specs.Head.{itemOf}
 use Rattle.classes.specs.Classes.{block}
 use Rattle.classes.specs.Sizes.{classOf}
 use Rattle.control.specs.Layout.{Head, TaskHead, TaskPlace, TaskClass, Regions}
-use Rattle.control.specs.Places.{IDLE, A1}
+use Rattle.pieces.specs.StripSizes.{orderOf, RoundsTo}
+use Rattle.strip_tree.specs.Trees.{isFreeNode}
+use Rattle.control.specs.Places.{IDLE, A1, STRIP-TAKE}
 use Rattle.control.specs.Places.{TO-EXCHANGE}
 use Rattle.control.specs.declared.answer.Answer.{Answer}
 use Rattle.control.specs.declared.answer.Answer.the-variants.{Accepted, Allocated, Freed, NoDescriptor, NoRegion}
-use Rattle.control.specs.declared.answer.Answer.the-variants.{Refused}
+use Rattle.control.specs.declared.answer.Answer.the-variants.{NoStrip, Refused}
 use Rattle.control.specs.declared.moves.Pop.{Pop}
 use Rattle.control.specs.declared.moves.Push.{Push}
-use Rattle.stepped.specs.Outcome.{Outcome, Memories, Effect}
+use Rattle.stepped.specs.Outcome.{Outcome, Memories, Effect, memoriesAfter}
+use Rattle.stepped.specs.StripSteps.{treeOf}
 use Rattle.stepped.specs.Lists.{howMany, handField, popPlace, popList, pushPlace, pushList, pushItems}
 
 -- ---- refusals
@@ -30,7 +33,7 @@ WritesNothing o = (n : ℕ) → o .answer ≡ Refused n → (o .writes ≡ []) �
 
 -- "A refused call .. leaves both memories unchanged": the bytes are those of the memories s
 abbrev pub Leaves : Effect → Memories → Type 0
-Leaves e s = (n : ℕ) → e .answer ≡ Refused n → (e .control ≡ s .control) × (e .area ≡ s .area)
+Leaves e s = (n : ℕ) → e .answer ≡ Refused n → memoriesAfter e ≡ s
 
 -- n is one of the numbers ns
 abbrev pub oneOf : List ℕ → ℕ → Bool
@@ -69,6 +72,7 @@ Begins ns (Allocated u) = ⊥
 Begins ns Freed = ⊥
 Begins ns NoDescriptor = ⊥
 Begins ns NoRegion = ⊥
+Begins ns NoStrip = ⊥
 Begins ns (Refused n) = oneOf ns n ≡ true
 
 -- the answer of a step: still under way, a request's end, or refused by one of the numbers ns
@@ -78,6 +82,7 @@ StepAnswers ns (Allocated u) = Unit {0}
 StepAnswers ns Freed = Unit {0}
 StepAnswers ns NoDescriptor = Unit {0}
 StepAnswers ns NoRegion = Unit {0}
+StepAnswers ns NoStrip = Unit {0}
 StepAnswers ns (Refused n) = oneOf ns n ≡ true
 
 -- how a start ends, by its effect on the memories s
@@ -123,9 +128,16 @@ IsEnd (Allocated u) = Unit {0}
 IsEnd Freed = Unit {0}
 IsEnd NoDescriptor = Unit {0}
 IsEnd NoRegion = Unit {0}
+IsEnd NoStrip = Unit {0}
 IsEnd (Refused n) = ⊥
 
--- How a step ends: "12 and 13 .. are a request's end .. and leave the task idle", and so does a finish.
+-- "16 ends a request": the task t is to take a strip, and no node of its order or of a larger one is a free piece.
+pub record FindsNoPiece (v : View) (t : ℕ) : Type 0 where
+  pub place : v (TaskPlace t) ≡ STRIP-TAKE
+  pub order : v (TaskClass t) < ORDERS
+  pub none : (i : ℕ) → 1 ≤ i → i < 2 ^ (ORDERS - v (TaskClass t)) → isFreeNode (treeOf v) i ≡ false
+
+-- How a step ends: "12 and 13 .. are a request's end .. and leave the task idle", and so do 16 and a finish.
 pub record StepEnds (v : View) (t : ℕ) (o : Outcome) : Type 0 where
   pub nothing : WritesNothing o
   pub answers : StepAnswers stepRefusals (o .answer)
@@ -133,8 +145,8 @@ pub record StepEnds (v : View) (t : ℕ) (o : Outcome) : Type 0 where
 
 -- ---- sizes
 
--- The allocation of `size` bytes has begun: nothing but the task's place and its class is written, and the class is the
--- smallest whose block holds the size.
+-- The allocation of a small block of `size` bytes has begun: nothing but the task's place and its class is written, and
+-- the class is the smallest whose block holds the size.
 pub record BegunOutcome (t size : ℕ) (o : Outcome) : Type 0 where
   pub from : 1 ≤ size
   pub to : size ≤ LARGEST-SIZE
@@ -142,3 +154,11 @@ pub record BegunOutcome (t size : ℕ) (o : Outcome) : Type 0 where
   pub class : classOf size < CLASSES
   pub holds : size ≤ block (classOf size)
   pub smallest : (c : ℕ) → c < classOf size → block c < size
+
+-- The allocation of a strip has begun: the order stands where the class does, and it is the smallest whose strip holds
+-- the size.
+pub record BegunStripOutcome (t size : ℕ) (o : Outcome) : Type 0 where
+  pub from : LARGEST-SIZE < size
+  pub to : size ≤ LARGEST-STRIP
+  pub writes : o .writes ≡ (TaskPlace t := STRIP-TAKE ∷ TaskClass t := orderOf size ∷ [])
+  pub rounds : RoundsTo size (orderOf size)

@@ -5,18 +5,21 @@ use Prim.Native.Nat.{ℕ, _+_, _^_, _≤_, _<_}
 use mathlib.Core.Path.{_≡_}
 use mathlib.Core.Bool.{true}
 use Rattle.limits.specs.Limits.{REGIONS, UNITS, TASKS, CLASSES, DESCRIPTORS, MOST-BLOCKS, SPARE-REGIONS}
-use Rattle.limits.specs.Limits.{DESCRIPTOR-LISTS}
+use Rattle.limits.specs.Limits.{DESCRIPTOR-LISTS, ORDERS, SLOTS}
 use Rattle.fields.specs.Columns.{Field, View, Has, width}
 use Rattle.words.specs.Head.{itemOf}
 use Rattle.words.specs.Anchor.{EMPTY, PARTIAL, FULL, anchorOf}
 use Rattle.classes.specs.Classes.{perRegion}
+use Rattle.pieces.specs.StripUnits.{slotOfUnit, isStripUnit}
+use Rattle.strip_tree.specs.TreeMoves.{canBegin}
+use Rattle.strip_tree.specs.SlotStates.{FREE-BEGUN, LAST-BYTE, orderIn}
 use Rattle.control.specs.Layout.{layout, Head, Anchor, TaskHead, TaskAnchor, CacheTop, CacheCount, TaskUnit}
 use Rattle.control.specs.Layout.{TaskIndex, TaskLeft, GroupFirst, GroupLast, GroupCount}
 use Rattle.control.specs.Layout.{TaskPlace, TaskClass, TaskNext, TaskDescriptor, TaskRegion, TaskState}
 use Rattle.control.specs.Layout.{DescriptorNext, RegionNext, DescriptorRegion, DescriptorClass, Map, Tasks, Regions}
-use Rattle.control.specs.Layout.{seen}
+use Rattle.control.specs.Layout.{SlotByte, seen}
 use Rattle.control.specs.Places.{POP-REGION, PUSH-BACK, PUSH-RELEASE, PUSH-OFFER, A3-EXCHANGE, A4, A7, A8, F1, F2}
-use Rattle.control.specs.Places.{F3-READ, F3-LINK, F3-EXCHANGE, F4-CLEAR, PLACES}
+use Rattle.control.specs.Places.{F3-READ, F3-LINK, F3-EXCHANGE, F4-CLEAR, STRIP-TAKE, STRIP-GIVE, PLACES}
 use Rattle.control.specs.Places.{TO-NEXT, TO-EXCHANGE}
 use Rattle.control.specs.declared.moves.Pop.{Pop}
 use Rattle.control.specs.declared.moves.Push.{Push}
@@ -98,7 +101,7 @@ pub record ChainsInRange (v : View) (t : ℕ) : Type 0 where
 
 -- the fields of the task t
 pub record TaskInRange (regions : ℕ) (v : View) (t : ℕ) : Type 0 where
-  -- the class of the request is one of the classes
+  -- the class of the request is one of the classes; so is the order of a strip, where a class would stand
   pub class : v (TaskClass t) < CLASSES
   pub lists : ListsInRange regions v t
   pub hand : HandInRange regions v t
@@ -107,6 +110,10 @@ pub record TaskInRange (regions : ℕ) (v : View) (t : ℕ) : Type 0 where
   pub unit-pushing : AtPlaces v t PUSH-RELEASE (PUSH-OFFER + TO-EXCHANGE)
       (isBlock regions (v (TaskClass t)) (v (TaskUnit t)) ≡ true)
   pub unit : AtPlaces v t F1 F4-CLEAR (isBlock regions (v (TaskClass t)) (v (TaskUnit t)) ≡ true)
+  -- the order of the strip that is to be taken, and the unit of the one that is freed: its free has begun
+  pub strip-order : AtPlaces v t STRIP-TAKE STRIP-TAKE (v (TaskClass t) < ORDERS)
+  pub strip-unit : AtPlaces v t STRIP-GIVE STRIP-GIVE (isStripUnit (v (TaskUnit t)) ≡ true)
+  pub strip-freed : AtPlaces v t STRIP-GIVE STRIP-GIVE (FREE-BEGUN ≤ v (SlotByte (slotOfUnit (v (TaskUnit t)))))
   -- the descriptor that a free has in hand where it found the anchor FULL
   pub descriptor-released : AtPlaces v t PUSH-RELEASE (PUSH-RELEASE + TO-EXCHANGE)
       (v (TaskState t) ≡ FULL → v (TaskDescriptor t) < DESCRIPTORS)
@@ -119,7 +126,8 @@ pub record TaskInRange (regions : ℕ) (v : View) (t : ℕ) : Type 0 where
 
 -- the fields of a started pool
 pub record InRange (v : View) : Type 0 where
-  -- each field holds a number of its width: so a tag is any number of 32 bits, and 64 marks are any 64 bits
+  -- each field holds a number of its width: so a tag is any number of 32 bits, and 64 marks are any 64 bits, and so are
+  -- 64 nodes of the tree
   pub widths : (f : Field) → Has layout f → v f < 256 ^ width layout f
   pub tasks : OneTo TASKS (v Tasks)
   pub regions : OneTo REGIONS (v Regions)
@@ -142,6 +150,10 @@ pub record InRange (v : View) : Type 0 where
   pub descriptor-classes : (d : ℕ) → d < DESCRIPTORS → v (DescriptorClass d) < CLASSES
   -- each map entry: a descriptor's number plus one, or 0
   pub maps : (r : ℕ) → r < v Regions → v (Map r) ≤ DESCRIPTORS
+  -- the byte of each slot: 0, or that of a strip in hand or of one whose free has begun, at a multiple of its own
+  -- length
+  pub slot-bytes : (s : ℕ) → s < SLOTS → v (SlotByte s) ≤ LAST-BYTE
+  pub slot-orders : (s : ℕ) → s < SLOTS → 1 ≤ v (SlotByte s) → canBegin s (orderIn (v (SlotByte s))) ≡ true
   pub each-task : (t : ℕ) → t < TASKS → TaskInRange (v Regions) v t
 
 -- the fields of a memory are in their ranges, once it is started

@@ -1,14 +1,16 @@
 -- docs/POOL.md, "What is compared"
 -- What is compared: "each list's items from the top, which regions are open and in which class, and, for these, the
--- chain in order and each block's holder". It is read off the memories, through the links and by the counts, and off
--- the plain pool.
+-- chain in order and each block's holder"; and of the strips "both are compared", strips and free pieces. It is read
+-- off the memories, through the links and by the counts, and off the plain pool.
 use mathlib.Core.Path.{_≡_}
 use mathlib.Core.List.{List, [], _∷_}
 use Prim.Native.Nat.{ℕ, zero, suc, _+_, _-_, _≤_, _<_}
 use mathlib.Core.Bool.{cond, _&&_}
 use native.Mathlib.Decide.{ℕ-discrete, decLt, decLe}
-use lib.Dec.{leb}
-use Rattle.limits.specs.Limits.{DESCRIPTORS, CLASSES, TASKS, UNITS, SPARE-REGIONS, DESCRIPTOR-LISTS}
+use lib.Dec.{leb, eqb}
+use Rattle.limits.specs.Limits.{DESCRIPTORS, CLASSES, TASKS, UNITS, BOTH-UNITS, SPARE-REGIONS, DESCRIPTOR-LISTS}
+use Rattle.limits.specs.Limits.{WHOLE-ORDER, SLOTS}
+use Rattle.strip_tree.specs.SlotStates.{FREE-BEGUN}
 use Rattle.rows.specs.Branch.{if, both}
 use Rattle.rows.specs.Counting.{count}
 use Rattle.rows.specs.Totals.{total}
@@ -17,13 +19,17 @@ use Rattle.classes.specs.Classes.{perRegion}
 use Rattle.classes.specs.Geometry.{unitOf, BlockOf}
 use Rattle.words.specs.Anchor.{EMPTY}
 use Rattle.links.specs.Link.{link}
+use Rattle.pieces.specs.PieceRows.{Piece, piecesRow, havingSlot, NoneToJoin}
+use Rattle.pieces.specs.StripUnits.{stripUnit, slotOfUnit}
+use Rattle.strips_agreement.specs.ObservedPieces.{observedPieces}
+use Rattle.strips_agreement.specs.SlotsCounted.{freeOver, stripsOver}
 use Rattle.plain.specs.State.{Mem}
 use Rattle.plain.specs.Calls.{opens?}
 use Rattle.plain.specs.Blocks.{blocksFrom}
 use Rattle.plain.specs.HolderWeights.{blockWeight}
 use Rattle.plain.specs.OnePlace.{OpenBlock}
 use Rattle.control.specs.Places.{A4, A8, F1, F2, F3-EXCHANGE, F4-CLEAR, PUSH-RELEASE, PUSH-OFFER}
-use Rattle.control.specs.Places.{TO-EXCHANGE}
+use Rattle.control.specs.Places.{TO-EXCHANGE, STRIP-GIVE}
 use Rattle.agreement.specs.Contents.{Slot, Contents}
 
 -- ---- lists
@@ -147,6 +153,23 @@ holderIn a r v = holder (a .entries .mark v) (λ t. withTask a t v) (count v (ch
 abbrev pub plainHolder : Mem → ℕ → ℕ → Holder
 plainHolder m r v = holder (m .hands v) (λ t. blockWeight v t (m .task t)) (count v (plainChain m r))
 
+-- ---- strips: "each unit of that area is in exactly one strip or free piece, and both are compared"
+
+-- the first of the n tasks from t on that frees the strip at the slot s, as its place and its unit say; the number
+-- behind them where none does
+abbrev pub taskFreeing : Contents → ℕ → ℕ → ℕ → ℕ
+taskFreeing a zero t s = t
+taskFreeing a (suc n) t s =
+    cond (eqb (a .slot t .place) STRIP-GIVE && eqb (a .slot t .unit) (stripUnit s)) t (taskFreeing a n (suc t) s)
+
+-- 1 if the fields of a task say that it frees the strip at the slot q, else 0
+abbrev pub freesSlot : Slot → ℕ → ℕ
+freesSlot s q = cond (eqb (s .place) STRIP-GIVE && eqb (s .unit) (stripUnit q)) 1 0
+
+-- the pieces of the strips' memory from slot 0 on, each with its order, its state, and the task that frees it
+abbrev pub piecesIn : Contents → List Piece
+piecesIn a = observedPieces (a .strips .tree) (a .strips .byte) (taskFreeing a TASKS 0) WHOLE-ORDER 1 0
+
 -- ---- the comparison, in an area of so many regions
 
 -- what is compared is the same in the memories and in the plain pool
@@ -168,3 +191,15 @@ pub record SameObserved (regions : ℕ) (a : Contents) (m : Mem) : Type 0 where
       → BlockOf r c v
   -- what is in a user's hands is a block of an open region
   pub held : (v : ℕ) → 1 ≤ m .hands v → (d : ℕ) × OpenBlock m v d
+  -- the strips and free pieces from slot 0 on, each with its order, state and holder
+  pub pieces : piecesIn a ≡ piecesRow 0 (m .strips)
+  -- "each unit of that area is in exactly one strip or free piece": counted in the memories, over every bit of the tree
+  -- and every byte of the slots; and in the plain pool, where the pieces tile the memory by the way they are built
+  pub one-piece : (u : ℕ) → UNITS ≤ u → u < BOTH-UNITS
+      → freeOver (a .strips .tree) (slotOfUnit u) + stripsOver (a .strips .byte) (slotOfUnit u) ≡ 1
+  pub plain-one-piece : (u : ℕ) → UNITS ≤ u → u < BOTH-UNITS → havingSlot (slotOfUnit u) (piecesRow 0 (m .strips)) ≡ 1
+  -- a strip whose free has begun is freed by one task, and no task frees another
+  pub one-freeing : (q : ℕ) → q < SLOTS
+      → total TASKS (λ t s. freesSlot s q) (a .slot) ≡ cond (leb FREE-BEGUN (a .strips .byte q)) 1 0
+  -- "Freed halves join whenever both are free": no two pieces are left to join
+  pub none-to-join : NoneToJoin (piecesIn a)

@@ -1,13 +1,11 @@
 -- docs/POOL.md, "Runs and premises"
 -- What a run reaches, and its history. Whatever is said of runs is said of what they reach.
 use mathlib.Core.List.{List, [], _∷_}
-use Prim.Native.Nat.{ℕ}
-use lib.ListN.{length}
-use Rattle.limits.specs.Limits.{CONTROL-BYTES}
 use Rattle.plain.specs.Moves.{Answer}
 use Rattle.plain.specs.Calls.{Pool, Start, unstarted}
 use Rattle.plain.specs.Calls as Plain
 use Rattle.stepped.specs.Outcome.{Memories}
+use Rattle.stepped.specs.Calls.{Lent, lengths}
 use Rattle.agreement.specs.Events.{Event, call, stepped, whole, Premise, Unstarted}
 
 -- one event of a run: the event, the plain pool before it, and its answer with the move that it decided
@@ -24,18 +22,17 @@ History = List Happened
 abbrev pub happened : Event → Memories → Pool → Happened
 happened e s₁ s = record { event = e; before = s; answer = stepped e s₁ .1 }
 
--- a start that is lent a control memory of the right length, and this area
-abbrev pub starting : Start → List ℕ → Event
-starting b area = call (Plain.start b) (record { control = CONTROL-BYTES; area = area })
+-- a start that is lent these memories
+abbrev pub starting : Start → Lent → Event
+starting b lent = call (Plain.start b) lent
 
 -- A run begins with a control memory that is not started, or with an accepted start on any memories and beside any
 -- pool; it goes on by any event that meets its premise. With its history it reaches the memories of the stepped run and
 -- the pool of the whole run.
 pub data Reached : History → Memories → Pool → Type 0 where
   from-unstarted : {s₁ : Memories} → Unstarted s₁ → Reached [] s₁ unstarted
-  from-start : (s₁ : Memories) (s : Pool) (b : Start) (area : List ℕ) → Plain.StartArea (length area)
-      → Plain.StartTasks (b .tasks)
-      → Reached (happened (starting b area) s₁ s ∷ []) (stepped (starting b area) s₁ .0) (whole (starting b area) s .0)
+  from-start : (s₁ : Memories) (s : Pool) (b : Start) (lent : Lent) → Plain.StartTested b (lengths lent)
+      → Reached (happened (starting b lent) s₁ s ∷ []) (stepped (starting b lent) s₁ .0) (whole (starting b lent) s .0)
   by-event : {h : History} {s₁ : Memories} {s : Pool} → Reached h s₁ s → (e : Event) → Premise e s
       → Reached (happened e s₁ s ∷ h) (stepped e s₁ .0) (whole e s .0)
 

@@ -1,11 +1,11 @@
 -- docs/POOL.md, "The relation"
--- What holds between the two memories of the stepped pool, column by column, and the plain pool.
+-- What holds between the control memory and the area of the stepped pool, column by column, and the plain pool.
 use mathlib.Core.Path.{_≡_}
 use mathlib.Core.List.{List, [], _∷_, _++_}
 use Prim.Native.Nat.{ℕ, zero, suc, _+_, _*_, _%_, _≤_, _<_}
 use lib.ListN.{length}
 use Rattle.limits.specs.Limits.{REGION-BYTES, UNITS, TASKS, CLASSES, DESCRIPTORS, MOST-BLOCKS, TAGS, SPARE-REGIONS}
-use Rattle.limits.specs.Limits.{DESCRIPTOR-LISTS, LISTS}
+use Rattle.limits.specs.Limits.{DESCRIPTOR-LISTS, LISTS, WHOLE-ORDER}
 use Rattle.rows.specs.Counting.{count}
 use Rattle.rows.specs.Linked.{Linked}
 use Rattle.classes.specs.Classes.{perRegion}
@@ -14,22 +14,26 @@ use Rattle.words.specs.Anchor.{PARTIAL}
 use Rattle.words.specs.declared.head.Head.{Head}
 use Rattle.words.specs.declared.anchor.Anchor.{Anchor}
 use Rattle.links.specs.Link.{link}
+use Rattle.pieces.specs.Pieces.{Pieces}
+use Rattle.pieces.specs.StripUnits.{stripUnit}
+use Rattle.strips_agreement.specs.TreeFollows.{Follows}
 use Rattle.plain.specs.State.{State, stateNumber, Descriptor, Note, Phase, read, next, exchange, Place, idle, a1}
 use Rattle.plain.specs.State.{popping, pushing, a3-read, a3-exchange, a4, a7, a8, f1, f2, f3-read, f3-link, f3-exchange}
-use Rattle.plain.specs.State.{f4-clear, Task, Mem, Work, working}
+use Rattle.plain.specs.State.{f4-clear, strip-take, strip-give, Task, Mem, Work, working}
 use Rattle.plain.specs.State as Plain
 use Rattle.plain.specs.Steps.{top}
 use Rattle.plain.specs.ByState.{IfOpen}
 use Rattle.plain.specs.Blocks.{countBlock}
 use Rattle.control.specs.Places.{IDLE, A1, A3-READ, A3-EXCHANGE, A4, A7, A8, F1, F2, F3-READ, F3-LINK, F3-EXCHANGE}
-use Rattle.control.specs.Places.{F4-CLEAR, TO-NEXT, TO-EXCHANGE}
+use Rattle.control.specs.Places.{F4-CLEAR, STRIP-TAKE, STRIP-GIVE, TO-NEXT, TO-EXCHANGE}
 use Rattle.control.specs.declared.moves.Pop.{Pop}
 use Rattle.control.specs.declared.moves.Pop.the-variants.{Partial, Spare, Region}
 use Rattle.control.specs.declared.moves.Push.{Push}
 use Rattle.control.specs.declared.moves.Push.the-variants.{Retire, Back, Release, Offer}
 use Rattle.stepped.specs.Lists.{Items, descriptor-items, region-items, howMany, popPlace, popList, popItems, pushPlace}
 use Rattle.stepped.specs.Lists.{pushList, pushItems}
-use Rattle.agreement.specs.Contents.{TaskHand, TaskCaches, Slot, Lists, Descriptors, Entries, Contents}
+use Rattle.agreement.specs.Contents.{TaskHand, TaskCaches, Slot, Lists, Descriptors, Entries, StripFields}
+use Rattle.agreement.specs.Contents.{Contents}
 
 -- the tag of a number of won exchanges
 abbrev pub wrap : ℕ → ℕ
@@ -180,6 +184,9 @@ pub data WorkRelated (regions : ℕ) (a : Contents) (m : Mem) (s : Slot) : Work 
       → WorkRelated regions a m s (f3-exchange (s .class) (s .unit) y g (s .hand .descriptor) n)
   r-f4-clear : {w : State} → s .place ≡ F4-CLEAR → s .hand .state ≡ stateNumber w
       → WorkRelated regions a m s (f4-clear (s .class) (s .unit) (s .hand .descriptor) w (s .hand .region))
+  -- the order of the strip that is to be taken stands where a class does
+  r-strip-take : s .place ≡ STRIP-TAKE → WorkRelated regions a m s (strip-take (s .class))
+  r-strip-give : {q : ℕ} → s .place ≡ STRIP-GIVE → s .unit ≡ stripUnit q → WorkRelated regions a m s (strip-give q)
 
 -- Any place: a task is idle, or at work.
 pub data PlaceRelated (regions : ℕ) (a : Contents) (m : Mem) (s : Slot) : Place → Type 0 where
@@ -236,11 +243,16 @@ pub record EntriesRelated (regions : ℕ) (e : Entries) (map hands : ℕ → ℕ
   pub maps : (r : ℕ) → r < regions → e .map r ≡ map r
   pub marks : (u : ℕ) → u < UNITS → e .mark u ≡ hands u
 
+-- the strips: the tree and the bytes of the slots follow the pieces
+abbrev pub StripsRelated : StripFields → Pieces WHOLE-ORDER → Type 0
+StripsRelated f p = Follows (f .tree) (f .byte) p
+
 -- the relation of all but the tasks; the area has the started length
 pub record Core (regions : ℕ) (a : Contents) (m : Mem) : Type 0 where
   pub lists : ListsRelated regions (a .lists) (m .won) (m .row)
   pub descriptors : DescriptorsRelated regions (link (a .area)) (a .descriptors) (m .descriptor)
   pub entries : EntriesRelated regions (a .entries) (m .map) (m .hands)
+  pub strips : StripsRelated (a .strips) (m .strips)
   pub length : lib.ListN.length (a .area) ≡ REGION-BYTES * regions
 
 -- the two pools in relation: what the tasks share, and each task

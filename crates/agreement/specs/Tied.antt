@@ -5,7 +5,7 @@ use mathlib.Core.Path.{_≡_}
 use mathlib.Core.List.{List}
 use Prim.Native.Nat.{ℕ, _≤_, _<_}
 use lib.ListN.{length}
-use Rattle.limits.specs.Limits.{TASKS}
+use Rattle.limits.specs.Limits.{TASKS, STRIPS-BYTES}
 use Rattle.fields.specs.Little.{Bytes}
 use Rattle.words.specs.Anchor.{FULL}
 use Rattle.plain.specs.Calls.{Pool}
@@ -27,6 +27,8 @@ pub record Tied (s₁ : Memories) (s : Pool) : Type 0 where
   pub some : 1 ≤ s .tasks → 1 ≤ s .regions
   pub regions : 1 ≤ s .tasks → seen (s₁ .control) Regions ≡ s .regions
   pub related : 1 ≤ s .tasks → Related (s .regions) (contentsOf (seen (s₁ .control)) (s₁ .area)) (s .mem)
+  -- the strips' memory has its length
+  pub strips : 1 ≤ s .tasks → lib.ListN.length (s₁ .strips) ≡ STRIPS-BYTES
 
 -- The state that each task noted is one of the three: what `TaskState` holds, whether a step will read it or not.
 abbrev pub States : List ℕ → Type 0

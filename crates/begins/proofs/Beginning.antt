@@ -1,21 +1,23 @@
 -- The beginning of an allocation, one law for each way out.
-use mathlib.Core.Path.{_≡_, refl, ap, _∙_}
+use mathlib.Core.Path.{_≡_, refl, sym, ap, subst, _∙_}
 use mathlib.Core.Logic.{_≢_}
 use mathlib.Core.Bool.{Bool, true, false, cond}
 use mathlib.Core.List.{List, [], _∷_}
 use Prim.Native.Nat.{ℕ, _≤_, _<_}
 use native.Mathlib.Omega.{arith}
-use borrow.Author.Tests.{eq-eqb, ne-eqb, lt-ltb, le-ltb}
+use borrow.Author.Tests.{eq-eqb, ne-eqb, lt-ltb, le-ltb, ltb-true}
 use lib.Dec.{eqb, ltb}
-use Rattle.limits.specs.Limits.{LARGEST-SIZE}
+use Rattle.limits.specs.Limits.{LARGEST-SIZE, LARGEST-STRIP}
 use Rattle.fields.specs.Columns.{View, _:=_}
 use Rattle.classes.specs.Sizes.{choice, classOf}
 use Rattle.classes.specs.declared.size.Choice.{Choice}
-use Rattle.classes.specs.declared.size.Choice.the-variants.{Class, Refused}
+use Rattle.classes.specs.declared.size.Choice.the-variants.{Class, Strip, Refused}
+use Rattle.pieces.specs.StripSizes.{orderOf, RoundsTo}
+use Rattle.pieces.proofs.StripSizes.{rounds, rounds-once}
 use Rattle.plain.specs.Moves.{nothing}
 use Rattle.control.specs.Layout.{changed, TaskPlace, TaskClass}
 use Rattle.control.specs.declared.answer.Answer.the-variants.{Accepted}
-use Rattle.control.specs.Places.{IDLE, A1, PLACES}
+use Rattle.control.specs.Places.{IDLE, A1, STRIP-TAKE, PLACES}
 use Rattle.stepped.specs.Outcome.{Outcome, refuse, bad, accept}
 use Rattle.stepped.specs.Calls.{whenIdle, beginAllocate}
 use Rattle.stepped.specs.Done.{Done}
@@ -38,29 +40,85 @@ module _ (v : View) (t : ℕ) (x : Outcome) where
 
 -- ---- sizes
 
--- a beginning by what the size is given
-abbrev given : ℕ → Choice → Outcome
-given t (Refused n) = refuse n
-given t (Class c) = accept nothing (TaskPlace t := A1 ∷ TaskClass t := c ∷ []) []
+-- a beginning by what the size is given, and by the order that it has as a strip
+abbrev given : ℕ → ℕ → Choice → Outcome
+given t k (Refused n) = refuse n
+given t k Strip = accept nothing (TaskPlace t := STRIP-TAKE ∷ TaskClass t := k ∷ []) []
+given t k (Class c) = accept nothing (TaskPlace t := A1 ∷ TaskClass t := c ∷ []) []
 
-by-tests : (p q : Bool) (t c : ℕ)
-    → cond p (refuse 8) (cond q (refuse 9) (accept nothing (TaskPlace t := A1 ∷ TaskClass t := c ∷ []) []))
-    ≡ given t (cond p (Refused 8) (cond q (Refused 9) (Class c)))
-by-tests true q t c = refl
-by-tests false true t c = refl
-by-tests false false t c = refl
+by-tests : (p q s : Bool) (t k c : ℕ)
+    → cond p (refuse 8)
+    (cond q (refuse 9)
+    (cond s (accept nothing (TaskPlace t := STRIP-TAKE ∷ TaskClass t := k ∷ []) [])
+    (accept nothing (TaskPlace t := A1 ∷ TaskClass t := c ∷ []) [])))
+    ≡ given t k (cond p (Refused 8) (cond q (Refused 9) (cond s Strip (Class c))))
+by-tests true q s t k c = refl
+by-tests false true s t k c = refl
+by-tests false false true t k c = refl
+by-tests false false false t k c = refl
 
-by-choice : (t size : ℕ) → beginAllocate t size ≡ given t (choice size)
+by-choice : (t size : ℕ) → beginAllocate t size ≡ given t (orderOf size) (choice size)
 unfolding beginAllocate choice
-by-choice t size = by-tests (eqb size 0) (ltb LARGEST-SIZE size) t (classOf size)
+by-choice t size =
+    by-tests (eqb size 0) (ltb LARGEST-STRIP size) (ltb LARGEST-SIZE size) t (orderOf size) (classOf size)
+
+-- a choice that is a strip
+abbrev IsStrip : Choice → Type 0
+IsStrip (Refused n) = ⊥
+IsStrip Strip = Unit {0}
+IsStrip (Class c) = ⊥
+
+by-strip : (p q s : Bool) (c : ℕ) → IsStrip (cond p (Refused 8) (cond q (Refused 9) (cond s Strip (Class c))))
+    → s ≡ true
+by-strip true q s c h = absurd h
+by-strip false true s c h = absurd h
+by-strip false false true c h = refl
+by-strip false false false c h = absurd h
+
+-- a strip serves larger sizes than the small blocks do
+pub strip-larger : (size : ℕ) → choice size ≡ Strip → LARGEST-SIZE < size
+unfolding choice
+strip-larger size e =
+    ltb-true LARGEST-SIZE size
+    (by-strip (eqb size 0) (ltb LARGEST-STRIP size) (ltb LARGEST-SIZE size) (classOf size) (subst IsStrip (sym e) tt))
+
+-- a size above those of small blocks
+module _ (t size : ℕ) (large : LARGEST-SIZE < size) where
+  pub too-large : LARGEST-STRIP < size → beginAllocate t size ≡ refuse 9
+  unfolding beginAllocate
+  too-large h = rw (ne-eqb size 0 (λ e. omega arith), lt-ltb LARGEST-STRIP size h)
+
+  as-strip : size ≤ LARGEST-STRIP
+      → beginAllocate t size ≡ accept nothing (TaskPlace t := STRIP-TAKE ∷ TaskClass t := orderOf size ∷ []) []
+  unfolding beginAllocate
+  as-strip most = rw (
+    ne-eqb size 0 (λ e. omega arith),
+    le-ltb LARGEST-STRIP size most,
+    lt-ltb LARGEST-SIZE size large,
+  )
+
+  -- the two stores of a strip's request
+  pub strip-served : size ≤ LARGEST-STRIP → (before : List ℕ) {between after : List ℕ} (k : ℕ) → RoundsTo size k
+      → between ≡ changed (TaskPlace t := STRIP-TAKE ∷ []) before
+      → after ≡ changed (TaskClass t := k ∷ []) between
+      → Done (beginAllocate t size) before after Accepted
+  strip-served most before {between} k r p q =
+      let d = rounds-once size k (orderOf size) r (rounds size most) in
+      done (as-strip most) refl
+      (q ∙ ap (λ (c : ℕ). changed (TaskClass t := c ∷ []) between) d
+      ∙ ap (changed (TaskClass t := orderOf size ∷ [])) p)
+      refl
 
 module _ (v : View) (t size : ℕ) (idle : v (TaskPlace t) ≡ IDLE) where
+  as-given : (x : Choice) → choice size ≡ x → whenIdle v t (beginAllocate t size) ≡ given t (orderOf size) x
+  as-given x e = idle-is v t (beginAllocate t size) idle ∙ by-choice t size ∙ ap (given t (orderOf size)) e
+
   pub size-refused : (n : ℕ) → choice size ≡ Refused n → whenIdle v t (beginAllocate t size) ≡ refuse n
-  size-refused n e = idle-is v t (beginAllocate t size) idle ∙ by-choice t size ∙ ap (given t) e
+  size-refused n e = as-given (Refused n) e
 
   pub size-served : (c : ℕ) → choice size ≡ Class c
       → whenIdle v t (beginAllocate t size) ≡ accept nothing (TaskPlace t := A1 ∷ TaskClass t := c ∷ []) []
-  size-served c e = idle-is v t (beginAllocate t size) idle ∙ by-choice t size ∙ ap (given t) e
+  size-served c e = as-given (Class c) e
 
   -- the two stores of an accepted beginning
   pub served : (before : List ℕ) {between after : List ℕ} (c : ℕ) → between ≡ changed (TaskPlace t := A1 ∷ []) before

@@ -6,7 +6,7 @@ use mathlib.Core.List.{List, [], _∷_}
 use Prim.Native.Nat.{ℕ, _-_, _/_, _%_, _≤_, _<_}
 use native.Mathlib.Omega.{arith}
 use borrow.Author.Tests.{eq-eqb, ne-eqb, lt-ltb, le-ltb, le-leb, lt-leb}
-use Rattle.limits.specs.Limits.{CLASSES, DESCRIPTORS, WORD-MARKS}
+use Rattle.limits.specs.Limits.{CLASSES, DESCRIPTORS, WORD-MARKS, UNITS}
 use Rattle.fields.specs.Columns.{View, _:=_}
 use Rattle.words.specs.Anchor.{EMPTY, anchorOf}
 use Rattle.words.specs.Mark.{isSet, withClear}
@@ -18,7 +18,8 @@ use Rattle.control.specs.declared.answer.Answer.the-variants.{Accepted}
 use Rattle.control.specs.Places.{IDLE, F1}
 use Rattle.stepped.specs.Outcome.{Outcome, refuse, bad, accept}
 use Rattle.stepped.specs.Ranges.{isAnchor}
-use Rattle.stepped.specs.Calls.{whenIdle, beginFree, freeEntry, freeBy, freeOpen, freeMarked}
+use Rattle.stepped.specs.Calls.{whenIdle, beginFree, beginFreeSmall, freeEntry, freeBy, freeOpen, freeMarked}
+use Rattle.stepped.specs.StripSteps.{beginFreeStrip}
 use Rattle.stepped.specs.Done.{Done}
 use Rattle.stepped.proofs.Doing.{done}
 use Rattle.begins.proofs.Beginning.{idle-is}
@@ -126,12 +127,21 @@ module _ (v : View) (regions t u entry : ℕ) where
   by-entry e h = rw (ne-eqb entry 0 e, le-leb entry DESCRIPTORS h)
 
 module _ (v : View) (regions t u : ℕ) (idle : v (TaskPlace t) ≡ IDLE) where
-  pub no-unit : regions ≤ regionOf u → whenIdle v t (beginFree v regions t u) ≡ refuse 10
+  -- a unit from UNITS up is one of strips
+  pub of-strips : UNITS ≤ u → whenIdle v t (beginFree v regions t u) ≡ beginFreeStrip v t u
   unfolding beginFree
-  no-unit h = idle-is v t _ idle ∙ rw (le-ltb (regionOf u) regions h)
+  of-strips h = idle-is v t _ idle ∙ rw (le-ltb u UNITS h)
 
-  pub in-area : (r entry : ℕ) → r ≡ regionOf u → r < regions → entry ≡ v (Map r)
-      → whenIdle v t (beginFree v regions t u) ≡ freeEntry v regions t u entry
+  of-blocks : u < UNITS → whenIdle v t (beginFree v regions t u) ≡ beginFreeSmall v regions t u
   unfolding beginFree
-  in-area r entry e h k =
-      idle-is v t _ idle ∙ rw (lt-ltb (regionOf u) regions (omega arith), k ∙ ap (λ (x : ℕ). v (Map x)) e)
+  of-blocks h = idle-is v t _ idle ∙ rw (lt-ltb u UNITS h)
+
+  pub no-unit : u < UNITS → regions ≤ regionOf u → whenIdle v t (beginFree v regions t u) ≡ refuse 10
+  unfolding beginFreeSmall
+  no-unit l h = of-blocks l ∙ rw (le-ltb (regionOf u) regions h)
+
+  pub in-area : u < UNITS → (r entry : ℕ) → r ≡ regionOf u → r < regions → entry ≡ v (Map r)
+      → whenIdle v t (beginFree v regions t u) ≡ freeEntry v regions t u entry
+  unfolding beginFreeSmall
+  in-area l r entry e h k =
+      of-blocks l ∙ rw (lt-ltb (regionOf u) regions (omega arith), k ∙ ap (λ (x : ℕ). v (Map x)) e)

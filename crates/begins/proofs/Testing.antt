@@ -10,7 +10,7 @@ use Rattle.fields.specs.Columns.{View}
 use Rattle.plain.specs.Calls.{Lengths}
 use Rattle.control.specs.Layout.{Tasks}
 use Rattle.stepped.specs.Calls.{Tested, FirstFails}
-use Rattle.stepped.specs.Calls.{control-fails, tasks-fail, not-started, regions-fail, area-fails, task-fails}
+use Rattle.stepped.specs.Calls.{control-fails, tasks-fail, not-started, regions-fail, lengths-fail, task-fails}
 use Rattle.stepped.proofs.CallTests.{failed, passed}
 use Rattle.begins.specs.TestNumber.{firstFailed, TestsAre}
 
@@ -21,7 +21,7 @@ module _ {lent : Lengths} {v : View} {t : ℕ} where
   not-zero (tasks-fail c h) e = omega arith
   not-zero (not-started c h) e = omega arith
   not-zero (regions-fail T h) e = omega arith
-  not-zero (area-fails T R h) e = omega arith
+  not-zero (lengths-fail T R h) e = omega arith
   not-zero (task-fails T R a h) e = omega arith
 
   -- the number of the first test that fails is told

@@ -86,8 +86,8 @@ fn entry(control: &mut [u8], regions: usize, task: usize, unit: usize, entry: u8
     by(control, regions, task, unit, (entry - 1) as usize)
 }
 
-// 6 where the task has a request in hand, 10 where the area has no such unit. The caller is the exported call, after
-// the tests.
+// 6 where the task has a request in hand; the units from UNITS up are those of strips; 10 where the area has no such
+// unit. The caller is the exported call, after the tests.
 pub fn begin(control: &mut [u8], regions: usize, task: usize, unit: u64) -> Answer
     requires { ⌜ Control (now control) × (regions ≤ REGIONS) × (task < TASKS) ⌝ }
     ensures { λ r. ⌜ Done
@@ -95,14 +95,14 @@ pub fn begin(control: &mut [u8], regions: usize, task: usize, unit: u64) -> Answ
         (now (control .entry)) (now (control .exit)) r ⌝ }
 {
     let place = control::tasks::task_place(control, task);
-    if places::PLACES <= place {
-        return Answer::Refused(14);
-    }
     if place != places::IDLE {
+        if places::PLACES <= place {
+            return Answer::Refused(14);
+        }
         return Answer::Refused(6);
     }
     if (limits::UNITS as u64) <= unit {
-        return Answer::Refused(10);
+        return steps_strips::begin::begin(control, task, unit);
     }
     let first = unit as usize;
     let region = geometry::region_of(first);

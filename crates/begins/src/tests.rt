@@ -1,5 +1,6 @@
 // The tests that every call but a start makes first.
 use control::started;
+use std::num;
 ghost use mathlib.Core.Path.{_≡_};
 ghost use lib.ListN.{length};
 ghost use Rattle.control.specs.Layout.{seen};
@@ -15,11 +16,12 @@ fn first_failed(tasks: u8, behind: u8) -> u8
     behind
 }
 
-// The tests 1, 4, 2, 5, in this order: the number of the first that fails, 14 where a stored number is out of its
-// range, and 0 where all pass. In a pool that is not started test 5 fails, too, since it has no tasks: so 4 is asked
-// for only where a test behind it fails, and not by a call that passes. The callers are the exported calls.
-pub fn tests(control: &[u8], area: usize, task: u64) -> u8
-    ensures { λ r. ⌜ TestsAre (record { control = length (now (control .entry)); area = area })
+// The tests 1, 4, 2, 5, in this order, by the lengths of the area and of the strips' memory: the number of the first
+// that fails, 14 where a stored number is out of its range, and 0 where all pass. In a pool that is not started test 5
+// fails, too, since it has no tasks: so 4 is asked for only where a test behind it fails, and not by a call that
+// passes. The callers are the exported calls.
+pub fn tests(control: &[u8], area: usize, strips: usize, task: u64) -> u8
+    ensures { λ r. ⌜ TestsAre (record { control = length (now (control .entry)); area = area; strips = strips })
         (seen (now (control .entry))) task r ⌝ }
 {
     if control.len() != limits::CONTROL_BYTES {
@@ -30,13 +32,14 @@ pub fn tests(control: &[u8], area: usize, task: u64) -> u8
         return 14;
     }
     let regions = started::regions(control);
-    if regions == 0 {
-        return first_failed(tasks, 14);
-    }
-    if limits::REGIONS < (regions as usize) {
+    // One comparison for both ends of the range: 0 less one is past the largest.
+    if limits::REGIONS <= (num::wrapping_sub_u8(regions, 1) as usize) {
         return first_failed(tasks, 14);
     }
     if area != limits::REGION_BYTES * (regions as usize) {
+        return first_failed(tasks, 2);
+    }
+    if strips != limits::STRIPS_BYTES {
         return first_failed(tasks, 2);
     }
     if (tasks as u64) <= task {

@@ -3,6 +3,5 @@ pub mod Tables
 pub mod Series
 pub mod Sizes
 pub mod LeadingBits
-pub mod BenchSizes
 pub mod BlockUnits
 pub mod Factors

@@ -8,10 +8,10 @@ use native.Mathlib.Decide.{decLe, decLt}
 use lib.Dec.{T, ltb, ltb→lt}
 use lib.ListN.{length, getD}
 use borrow.Author.Tests.{le-leb, lt-leb, lt-ltb, le-ltb, eq-eqb, ne-eqb}
-use Rattle.limits.specs.Limits.{UNIT-BYTES, CLASSES, LARGEST-SIZE}
+use Rattle.limits.specs.Limits.{UNIT-BYTES, CLASSES, LARGEST-SIZE, LARGEST-STRIP}
 use Rattle.classes.specs.Classes.{blockSizes, SMALLEST-SIZE, units, block}
 use Rattle.classes.specs.Sizes.{firstHolding, classOf, choice}
-use Rattle.classes.specs.declared.size.Choice.the-variants.{Class, Refused}
+use Rattle.classes.specs.declared.size.Choice.the-variants.{Class, Strip, Refused}
 use Rattle.classes.proofs.Below.{at}
 use Rattle.classes.proofs.Tables.{rows}
 
@@ -95,11 +95,16 @@ unfolding choice
 refuses-none s e = rw (eq-eqb s 0 e)
 
 -- a size above the largest is refused by 9
-pub refuses-large : (s : ℕ) → LARGEST-SIZE < s → choice s ≡ Refused 9
+pub refuses-large : (s : ℕ) → LARGEST-STRIP < s → choice s ≡ Refused 9
 unfolding choice
-refuses-large s h = rw (ne-eqb s 0 (omega arith), lt-ltb LARGEST-SIZE s h)
+refuses-large s h = rw (ne-eqb s 0 (omega arith), lt-ltb LARGEST-STRIP s h)
+
+-- a size up to that, above the largest of a small block, gets a strip
+pub gets-strip : (s : ℕ) → LARGEST-SIZE < s → s ≤ LARGEST-STRIP → choice s ≡ Strip
+unfolding choice
+gets-strip s l h = rw (ne-eqb s 0 (omega arith), le-ltb LARGEST-STRIP s h, lt-ltb LARGEST-SIZE s l)
 
 -- every other size is served by its class
 pub serves : (s : ℕ) → 1 ≤ s → s ≤ LARGEST-SIZE → choice s ≡ Class (classOf s)
 unfolding choice
-serves s l h = rw (ne-eqb s 0 (omega arith), le-ltb LARGEST-SIZE s h)
+serves s l h = rw (ne-eqb s 0 (omega arith), le-ltb LARGEST-STRIP s (omega arith), le-ltb LARGEST-SIZE s h)

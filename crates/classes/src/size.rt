@@ -1,13 +1,14 @@
 // From a size in bytes to the class that serves it.
 ghost use mathlib.Core.Path.{_≡_};
-ghost use Prim.Native.Nat.{_*_, _≤_};
-ghost use Rattle.limits.specs.Limits.{UNIT-BYTES};
+ghost use Prim.Native.Nat.{_*_, _≤_, _<_};
+ghost use Rattle.limits.specs.Limits.{UNIT-BYTES, LARGEST-SIZE};
 ghost use Rattle.classes.specs.Classes.{LARGEST-UNITS};
 ghost use Rattle.classes.specs.Sizes.{choice, classOf};
 
-// The class that serves a size, or the number that refuses it.
+// The class that serves a size, that a strip does, or the number that refuses it.
 pub enum Choice {
     Class(u8),
+    Strip,
     Refused(u8),
 }
 
@@ -33,7 +34,18 @@ fn class_of(units: usize) -> u8
     (first_class + (next_two >> unread)) as u8
 }
 
-// The class of the smallest block that holds the size; 8 refuses size 0, and 9 a size above the largest.
+// What a size above the largest of a small block is given: a strip, or 9 above the largest strip. Caller: `size_class`.
+fn strip_or_nine(bytes: usize) -> Choice
+    requires { ⌜ LARGEST-SIZE < bytes ⌝ }
+    ensures { λ r. ⌜ r ≡ choice bytes ⌝ }
+{
+    if limits::LARGEST_STRIP < bytes {
+        return Choice::Refused(9);
+    }
+    Choice::Strip
+}
+
+// The class of the smallest block that holds the size, or a strip; 8 refuses size 0, and 9 a size above the largest.
 pub fn size_class(size: u64) -> Choice
     ensures { λ r. ⌜ r ≡ choice size ⌝ }
 {
@@ -42,7 +54,7 @@ pub fn size_class(size: u64) -> Choice
         return Choice::Refused(8);
     }
     if limits::LARGEST_SIZE < bytes {
-        return Choice::Refused(9);
+        return strip_or_nine(bytes);
     }
     let units = (bytes + limits::UNIT_BYTES - 1) / limits::UNIT_BYTES;
     Choice::Class(class_of(units))

@@ -3,16 +3,17 @@
 use Prim.Native.Nat.{ℕ, _+_, _*_}
 use Rattle.control.specs.declared.answer.Answer.{Answer}
 use Rattle.control.specs.declared.answer.Answer.the-variants.{Accepted, Allocated, Freed, Refused}
-use Rattle.control.specs.declared.answer.Answer.the-variants.{NoDescriptor, NoRegion}
+use Rattle.control.specs.declared.answer.Answer.the-variants.{NoDescriptor, NoRegion, NoStrip}
 
--- "Code 0 is accepted or still under way, 20 finished"; "12 no descriptor; 13 no region"; "A refused call answers the
--- number"
+-- "Code 0 is accepted or still under way, 20 finished"; "12 no descriptor; 13 no region"; "16 ends a request exactly if
+-- no aligned free stretch of the rounded size exists"; "A refused call answers the number"
 abbrev pub codeOf : Answer → ℕ
 codeOf Accepted = 0
 codeOf (Allocated u) = 20
 codeOf Freed = 20
 codeOf NoDescriptor = 12
 codeOf NoRegion = 13
+codeOf NoStrip = 16
 codeOf (Refused n) = n
 
 -- "the value is the unit of a finished allocation, else 0"
@@ -22,6 +23,7 @@ valueOf (Allocated u) = u
 valueOf Freed = 0
 valueOf NoDescriptor = 0
 valueOf NoRegion = 0
+valueOf NoStrip = 0
 valueOf (Refused n) = 0
 
 -- every code is below this number
@@ -35,4 +37,5 @@ numberOf (Allocated u) = 20 + CODES * u
 numberOf Freed = 20
 numberOf NoDescriptor = 12
 numberOf NoRegion = 13
+numberOf NoStrip = 16
 numberOf (Refused n) = n

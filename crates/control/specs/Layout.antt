@@ -6,7 +6,7 @@ use Prim.Native.Nat.{ℕ, _+_, _*_, _/_}
 use mathlib.Core.Path.{_≡_}
 use mathlib.Core.List.{List, [], _∷_}
 use lib.ListN.{length}
-use Rattle.limits.specs.Limits.{CONTROL-BYTES, UNITS, TASKS, REGIONS, DESCRIPTORS, LISTS, WORD-MARKS}
+use Rattle.limits.specs.Limits.{CONTROL-BYTES, UNITS, TASKS, REGIONS, DESCRIPTORS, LISTS, WORD-MARKS, SLOTS}
 use Rattle.fields.specs.Columns.{Column, Field, View, Write, view, written}
 
 -- `count` numbers of `width` bytes each, from the byte `start` on
@@ -20,6 +20,10 @@ fieldOf k index = record { column = k .start; index = index }
 -- how many words the marks of all units take, 64 in each
 abbrev pub MARK-WORDS : ℕ
 MARK-WORDS = UNITS / WORD-MARKS
+
+-- how many words the tree of the free pieces of strips takes: two nodes to a slot, 64 in each word
+abbrev pub TREE-WORDS : ℕ
+TREE-WORDS = SLOTS * 2 / WORD-MARKS
 
 -- the caches stand task by task, with room for so many classes of a task
 abbrev pub CACHES-OF-TASK : ℕ
@@ -87,7 +91,7 @@ CacheTop t c = TopOfCache (CACHES-OF-TASK * t + c)
 abbrev pub CacheCount : ℕ → ℕ → Field
 CacheCount t c = CountOfCache (CACHES-OF-TASK * t + c)
 
--- the unit of the block that a task frees
+-- the unit of the block or strip that a task frees
 abbrev pub taskUnits : Column
 taskUnits = column 5504 2 TASKS
 
@@ -136,7 +140,7 @@ taskPlaces = column 5632 1 TASKS
 abbrev pub TaskPlace : ℕ → Field
 TaskPlace = fieldOf taskPlaces
 
--- the class of a task's request
+-- the class of the block that a task's request is for, or the order of its strip
 abbrev pub taskClasses : Column
 taskClasses = column 5640 1 TASKS
 
@@ -220,6 +224,20 @@ startedRegions = column 5945 1 1
 abbrev pub Regions : Field
 Regions = fieldOf startedRegions 0
 
+-- the strips: one bit each for a free piece, 64 nodes of the tree in a word
+abbrev pub freeNodes : Column
+freeNodes = column 6016 8 TREE-WORDS
+
+abbrev pub FreeNodes : ℕ → Field
+FreeNodes = fieldOf freeNodes
+
+-- what begins at a slot: 0 no strip, 1 + k a strip of order k in hand, 9 + k one whose free has begun
+abbrev pub bytesOfSlots : Column
+bytesOfSlots = column 6048 1 SLOTS
+
+abbrev pub SlotByte : ℕ → Field
+SlotByte = fieldOf bytesOfSlots
+
 -- the columns, in the order of their bytes
 abbrev pub layout : List Column
 layout =
@@ -249,6 +267,8 @@ layout =
     ∷ mapEntries
     ∷ startedTasks
     ∷ startedRegions
+    ∷ freeNodes
+    ∷ bytesOfSlots
     ∷ []
 
 -- what stands in each field of a control memory

@@ -83,9 +83,17 @@ F3-EXCHANGE = 32
 abbrev pub F4-CLEAR : ℕ
 F4-CLEAR = 33
 
+-- a strip's request, to take: "Such a request, to take or to free, finishes, or ends with 16, in its first step"
+abbrev pub STRIP-TAKE : ℕ
+STRIP-TAKE = 34
+
+-- a strip's request, to free
+abbrev pub STRIP-GIVE : ℕ
+STRIP-GIVE = 35
+
 -- how many places there are, that of an idle task with them
 abbrev pub PLACES : ℕ
-PLACES = 34
+PLACES = 36
 
 -- the next of a move is so many places past its head read
 abbrev pub TO-NEXT : ℕ

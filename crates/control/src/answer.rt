@@ -8,7 +8,7 @@ pub const CODES: u64 = 256;
 pub enum Answer {
     // Accepted, or still under way.
     Accepted,
-    // An allocation finished with the block at this unit.
+    // An allocation finished with the block or strip at this unit.
     Allocated(u16),
     // A free finished.
     Freed,
@@ -16,6 +16,8 @@ pub enum Answer {
     NoDescriptor,
     // The request ended: no region.
     NoRegion,
+    // The request ended: no aligned stretch is free.
+    NoStrip,
     // The call was refused by this number and changed nothing.
     Refused(u8),
 }
@@ -30,6 +32,7 @@ pub fn number(a: Answer) -> u64
         Answer::Freed => 20,
         Answer::NoDescriptor => 12,
         Answer::NoRegion => 13,
+        Answer::NoStrip => 16,
         Answer::Refused(n) => n as u64,
     }
 }

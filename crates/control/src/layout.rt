@@ -17,7 +17,8 @@ pub const CACHE_TOPS: usize = 4992;
 
 pub const CACHE_COUNTS: usize = 5248;
 
-// What a task has under way: the block that it frees, the one that it moves or carves next, how many are left to move.
+// What a task has under way: the block or strip that it frees, the block that it moves or carves next, how many are
+// left to move.
 pub const TASK_UNITS: usize = 5504;
 
 pub const TASK_INDEXES: usize = 5520;
@@ -60,6 +61,11 @@ pub const MAP_ENTRIES: usize = 5904;
 pub const STARTED_TASKS: usize = 5944;
 
 pub const STARTED_REGIONS: usize = 5945;
+
+// The tree of the free pieces of strips, and what begins at each slot.
+pub const FREE_NODES: usize = 6016;
+
+pub const BYTES_OF_SLOTS: usize = 6048;
 
 // The caches stand task by task, with room for so many classes of a task.
 pub const CACHES_OF_TASK: usize = 16;

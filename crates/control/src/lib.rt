@@ -8,4 +8,5 @@ pub mod notes;
 pub mod places;
 pub mod regions;
 pub mod started;
+pub mod strips;
 pub mod tasks;

@@ -40,7 +40,7 @@ pub fn set_task_anchor(c: &mut [u8], task: usize, value: u64)
     fields::store64(c, layout::TASK_ANCHORS + task * 8, value);
 }
 
-// The unit of the block that a task frees.
+// The unit of the block or strip that a task frees.
 pub fn task_unit(c: &[u8], task: usize) -> u16
     requires { ⌜ Control (now c) × (task < TASKS) ⌝ }
     ensures { λ r. ⌜ r ≡ seen (now (c .entry)) (TaskUnit task) ⌝ }

@@ -50,8 +50,13 @@ pub const F3_EXCHANGE: u8 = 32;
 // Free 4: the map entry is cleared.
 pub const F4_CLEAR: u8 = 33;
 
+// A strip's request, to take and to free.
+pub const STRIP_TAKE: u8 = 34;
+
+pub const STRIP_GIVE: u8 = 35;
+
 // How many places there are, that of an idle task with them.
-pub const PLACES: u8 = 34;
+pub const PLACES: u8 = 36;
 
 // The next and the exchange of a move are so many places past its head read.
 pub const TO_NEXT: u8 = 1;

@@ -24,7 +24,7 @@ pub fn set_task_place(c: &mut [u8], task: usize, value: u8)
     fields::store8(c, layout::TASK_PLACES + task, value);
 }
 
-// The class of a task's request.
+// The class of the block that a task's request is for, or the order of its strip.
 pub fn task_class(c: &[u8], task: usize) -> u8
     requires { ⌜ Control (now c) × (task < TASKS) ⌝ }
     ensures { λ r. ⌜ r ≡ seen (now (c .entry)) (TaskClass task) ⌝ }

@@ -11,20 +11,19 @@ use Rattle.control.specs.Layout.{seen}
 use Rattle.control.specs.Answers.{CODES, codeOf, numberOf}
 use Rattle.control.specs.declared.answer.Answer.{Answer}
 use Rattle.control.specs.declared.answer.Answer.the-variants.{Accepted, Allocated, Freed, NoDescriptor, NoRegion}
-use Rattle.control.specs.declared.answer.Answer.the-variants.{Refused}
+use Rattle.control.specs.declared.answer.Answer.the-variants.{NoStrip, Refused}
 use Rattle.stepped.specs.Outcome.{Outcome, refuse, Effect, effect, Memories}
 use Rattle.stepped.specs.Calls.{effectOf, lengths, lending, control-fails}
 use Rattle.stepped.specs.Calls as Calls
 use Rattle.stepped.proofs.CallTests.{failed}
 use Rattle.agreement.specs.Ends.{Begins, startRefusals, oneOf}
 use Rattle.agreement.specs.Events.{ran, stepped}
-use Rattle.agreement.proofs.Ends.{start-ends}
+use Rattle.agreement.proofs.BeginningEnds.{start-ends}
 use Rattle.agreement.proofs.Lent.{start-elsewhere}
 use Rattle.agreement.proofs.Ways.{fails-or-passes}
 use Rattle.pool.specs.Call.{EffectIs}
-use Rattle.demands.specs.Acts.{Act, on-own, on-other, write, Contract, OtherLength, Happens, afterAct, eventOfAct}
-use Rattle.demands.specs.Acts.{Number}
-use Rattle.demands.specs.Acts.{Answered}
+use Rattle.demands.specs.Acts.{Act, on-own, on-other, write, write-strip, Contract, OtherLength, Happens}
+use Rattle.demands.specs.Acts.{afterAct, eventOfAct, Number, Answered}
 use Rattle.demands.proofs.NumberTells.{code-small, told-as}
 
 -- the stepped run at the event of an act: the memories and the number are the act's
@@ -34,8 +33,9 @@ pub record Shows (a : Act) (s : Memories) : Type 0 where
 
 -- ---- calls on the pool's memories
 
-left-is : {e : Effect} {left : Memories} {r : ℕ} → EffectIs e (left .control) (left .area) r → ran e .0 ≡ left
-left-is C = sym (λ i. record { control = C .control-is i; area = C .area-is i })
+left-is : {e : Effect} {left : Memories} {r : ℕ} → EffectIs e (left .control) (left .area) (left .strips) r
+    → ran e .0 ≡ left
+left-is C = sym (λ i. record { control = C .control-is i; area = C .area-is i; strips = C .strips-is i })
 
 own-shows : (k : Call) (left : Memories) (r : ℕ) (s : Memories) → Contract k s left r → Shows (on-own k left r) s
 own-shows k left r s C = record {
@@ -61,7 +61,7 @@ refused-alike s lent t x y (inr h) =
       F .0,
       (failed x (F .1), ap (λ (k : List ℕ). Calls.tested l (seen k) t y) (h .0) ∙ failed y (F .1)),
     ))
-    (λ T. absurd (⊎-elim (λ g. g (T .area-is)) (λ g. omega (arith, g, T .started)) (h .1)))
+    (λ T. absurd (⊎-elim (λ g. g (T .lengths-are)) (λ g. omega (arith, g, T .started)) (h .1)))
     (fails-or-passes l (seen (s .control)) t)
 
 module _ (s lent left : Memories) (r : ℕ) where
@@ -118,7 +118,7 @@ module _ (s lent left : Memories) (r : ℕ) where
         (start-ends b (lending lent) lent .answers)) in
         record {
           leaves =
-              (λ i. record { control = L .0 i; area = L .1 i })
+              L
               ∙ sym (ap (λ (b : Bool). cond b left s) (ne-eqb r 0 (λ h. z (sym (C .number ∙ ap numberOf q) ∙ h))));
           answers = told-as (e .answer) (e′ .answer) (e .decided) (C .number) (q ∙ sym p) (code-small (start b) lent);
         }
@@ -141,6 +141,7 @@ module _ (s lent left : Memories) (r : ℕ) where
     equal-shows p Freed q b = absurd b
     equal-shows p NoDescriptor q b = absurd b
     equal-shows p NoRegion q b = absurd b
+    equal-shows p NoStrip q b = absurd b
     equal-shows p (Refused n) q b = refused-shows n (ap (λ (z : Effect). z .answer) p ∙ q) q
 
     start-shows : StartShown
@@ -165,3 +166,4 @@ pub shows : (a : Act) (s : Memories) → Happens a s → Shows a s
 shows (on-own k left r) s C = own-shows k left r s C
 shows (on-other k lent left r) s h = other-shows k lent left r s h
 shows (write at b) s h = record { leaves = refl; answers = tt }
+shows (write-strip at b) s h = record { leaves = refl; answers = tt }

@@ -6,23 +6,28 @@ use Prim.Native.Nat.{ℕ, _*_, _/_, _%_, _-_}
 use lib.Dec.{ltb, leb, eqb}
 use lib.ListN.{length}
 use Rattle.limits.specs.Limits.{CONTROL-BYTES, REGION-BYTES, AREA-BYTES, TASKS, REGIONS, CLASSES, DESCRIPTORS}
-use Rattle.limits.specs.Limits.{LARGEST-SIZE, WORD-MARKS}
+use Rattle.limits.specs.Limits.{LARGEST-SIZE, LARGEST-STRIP, WORD-MARKS, UNITS, STRIPS-BYTES}
 use Rattle.control.specs.Places.{IDLE, PLACES}
-use Rattle.fields.specs.Columns.{View}
+use Rattle.fields.specs.Columns.{View, Write}
 use Rattle.words.specs.Anchor.{EMPTY, anchorOf}
 use Rattle.words.specs.Mark.{isSet}
 use Rattle.classes.specs.Geometry.{regionOf, isFirst}
+use Rattle.pieces.specs.StripUnits.{slotOfUnit, isStripUnit}
+use Rattle.strip_tree.specs.SlotStates.{FREE-BEGUN, LAST-BYTE, orderIn}
+use Rattle.strip_tree.specs.TreeMoves.{canBegin}
 use Rattle.plain.specs.Calls.{Start, Lengths}
 use Rattle.stepped.specs.Calls.{Lent, lengths}
 use Rattle.control.specs.Layout.{Anchor, Marks, TaskPlace, TaskClass, DescriptorRegion, DescriptorClass, Map, Tasks}
-use Rattle.control.specs.Layout.{Regions}
+use Rattle.control.specs.Layout.{Regions, SlotByte}
 use Rattle.control.specs.Answers.{numberOf}
-use Rattle.stepped.specs.Outcome.{Outcome, Memories, Effect}
+use Rattle.plain.specs.Moves.{nothing}
+use Rattle.stepped.specs.Outcome.{Outcome, accept, Memories, Effect}
 use Rattle.stepped.specs.Ranges.{oneTo, isAnchor}
+use Rattle.stepped.specs.StripSteps as StripSteps
 use Rattle.stepped.specs.Steps as Steps
 use Rattle.stepped.specs.Calls as Calls
 use Rattle.demands.specs.Tests.{Test, firstFailed, Passes, startTests, callTests, idleTests, sizeTests}
-use Rattle.demands.specs.Tests.{unitTests, requestTests, allocateTests, freeTests, stepTests}
+use Rattle.demands.specs.Tests.{unitTests, stripTests, requestTests, allocateTests, freeTests, stepTests}
 
 -- a test, and one that is asked the other way round, by the numbers of the two ways on
 module _ {A : Type 0} (f : A → ℕ) where
@@ -33,6 +38,11 @@ module _ {A : Type 0} (f : A → ℕ) where
   fails : (b : Bool) {m n : ℕ} (y x : A) → f y ≡ n → f x ≡ m → f (cond b y x) ≡ cond (not b) m n
   fails true y x q p = q
   fails false y x q p = p
+
+  -- two tests by one number
+  twice : (a b : Bool) {m n : ℕ} (x y : A) → f x ≡ m → f y ≡ n → f (cond (a && b) x y) ≡ cond a (cond b m n) n
+  twice true b x y p q = passes b x y p q
+  twice false b x y p q = q
 
 -- the number of an outcome
 abbrev numbered : Outcome → ℕ
@@ -47,7 +57,7 @@ module _ (lent : Lengths) (v : View) (t : ℕ) where
       (passes numbered (leb (v Tasks) TASKS) _ _
       (fails numbered (eqb (v Tasks) 0) _ _ refl
       (passes numbered (oneTo REGIONS (v Regions)) _ _
-      (passes numbered (eqb (lent .area) (REGION-BYTES * v Regions)) _ _
+      (twice numbered (eqb (lent .area) (REGION-BYTES * v Regions)) (eqb (lent .strips) STRIPS-BYTES) _ _
       (passes numbered (ltb t (v Tasks)) _ _ p refl)
       refl)
       refl))
@@ -60,12 +70,20 @@ module _ (lent : Lengths) (v : View) (t : ℕ) where
   when-idle ts k x p =
       passes numbered (ltb (v (TaskPlace t)) PLACES) _ _ (passes numbered (eqb (v (TaskPlace t)) IDLE) _ _ p refl) refl
 
+  -- an accepted beginning answers 0, whichever of the two it is
+  begun : (b : Bool) (x y : List Write)
+      → numbered (cond b (accept nothing x []) (accept nothing y [])) ≡ 0
+  begun true x y = refl
+  begun false x y = refl
+
   sized : (size : ℕ) → numbered (Calls.beginAllocate t size) ≡ firstFailed (sizeTests size) 0
   unfolding Calls.beginAllocate
-  sized size = fails numbered (eqb size 0) _ _ refl (fails numbered (ltb LARGEST-SIZE size) _ _ refl refl)
+  sized size =
+      fails numbered (eqb size 0) _ _ refl
+      (fails numbered (ltb LARGEST-STRIP size) _ _ refl (begun (ltb LARGEST-SIZE size) _ _))
 
-  unit : (u : ℕ) → numbered (Calls.beginFree v (v Regions) t u) ≡ firstFailed (unitTests v u) 0
-  unfolding Calls.beginFree Calls.freeEntry Calls.freeBy Calls.freeOpen Calls.freeMarked
+  unit : (u : ℕ) → numbered (Calls.beginFreeSmall v (v Regions) t u) ≡ firstFailed (unitTests v u) 0
+  unfolding Calls.beginFreeSmall Calls.freeEntry Calls.freeBy Calls.freeOpen Calls.freeMarked
   unit u =
       let r = regionOf u in
       let entry = v (Map r) in
@@ -88,6 +106,30 @@ module _ (lent : Lengths) (v : View) (t : ℕ) where
       refl))
       refl
 
+  strip : (u : ℕ) → numbered (StripSteps.beginFreeStrip v t u) ≡ firstFailed (stripTests v u) 0
+  unfolding StripSteps.beginFreeStrip StripSteps.beginFreeAt
+  strip u =
+      let s = slotOfUnit u in
+      let x = v (SlotByte s) in
+      passes numbered (isStripUnit u) _ _
+      (fails numbered (eqb x 0) _ _ refl
+      (twice numbered (leb x LAST-BYTE) (canBegin s (orderIn x)) _ _
+      (fails numbered (leb FREE-BEGUN x) _ _ refl refl)
+      refl))
+      refl
+
+  -- a small block's tests, or a strip's, by the unit
+  either : (u : ℕ) → numbered (Calls.beginFree v (v Regions) t u)
+      ≡ firstFailed (cond (ltb u UNITS) (unitTests v u) (stripTests v u)) 0
+  unfolding Calls.beginFree
+  either u = by (ltb u UNITS)
+    where
+      by : (b : Bool)
+          → numbered (cond b (Calls.beginFreeSmall v (v Regions) t u) (StripSteps.beginFreeStrip v t u))
+          ≡ firstFailed (cond b (unitTests v u) (stripTests v u)) 0
+      by true = unit u
+      by false = strip u
+
   pub allocate-first : (size : ℕ) → numbered (Calls.allocateOutcome lent v t size)
       ≡ firstFailed (allocateTests lent v t size) 0
   unfolding Calls.allocateOutcome
@@ -96,7 +138,9 @@ module _ (lent : Lengths) (v : View) (t : ℕ) where
   pub free-first : (u : ℕ) → numbered (Calls.freeOutcome lent v t u)
       ≡ firstFailed (freeTests lent v t u) 0
   unfolding Calls.freeOutcome
-  free-first u = after-tests (idleTests v t ++ unitTests v u) 0 _ (when-idle (unitTests v u) 0 _ (unit u))
+  free-first u =
+      let ts = cond (ltb u UNITS) (unitTests v u) (stripTests v u) in
+      after-tests (idleTests v t ++ ts) 0 _ (when-idle ts 0 _ (either u))
 
   pub step-first : (link : ℕ → ℕ)
       → numbered (Calls.stepOutcome lent v link t)
@@ -128,6 +172,7 @@ unfolding Calls.startIn
 start-first b lent s =
     let bytes = length (lent .area) in
     passes answered (eqb (lent .control) CONTROL-BYTES) _ _
-    (passes answered (eqb (bytes % REGION-BYTES) 0 && oneTo AREA-BYTES bytes) _ _
+    (twice answered (eqb (bytes % REGION-BYTES) 0 && oneTo AREA-BYTES bytes)
+    (eqb (length (lent .strips)) STRIPS-BYTES) _ _
     (passes answered (oneTo TASKS (b .tasks)) _ _ refl refl) refl)
     refl

@@ -1,25 +1,35 @@
--- What a finished allocation hands out, of the exported functions: "every block of 16 bytes or more to start at a
--- multiple of 16" (the request for the new processor), and "A size gets the smallest class that holds it" (the
--- demands).
-use mathlib.Core.Path.{_≡_, sym, ap, subst, _∙_}
+-- What a finished request gives, of the exported functions: "every block of 16 bytes or more to start at a multiple of
+-- 16" (the request for the new processor), "A size gets the smallest class that holds it" (the demands), and "A size is
+-- rounded up to a power of two, at least 512" (the request for strips).
+use mathlib.Core.Path.{_≡_, sym, ap, subst, subst⁻¹, _∙_}
 use mathlib.Core.Logic.{⊎-elim}
-use Prim.Native.Nat.{ℕ, _/_, _%_}
+use Prim.Native.Nat.{ℕ, _/_, _%_, _≤_, _<_}
 use native.Mathlib.Omega.{arith}
+use Rattle.limits.specs.Limits.{LARGEST-SIZE, UNITS}
 use Rattle.fields.specs.Columns.{View}
 use Rattle.links.specs.Link.{link}
-use Rattle.plain.specs.Calls.{Pool, Lengths, step}
+use Rattle.plain.specs.State.{Mem}
+use Rattle.plain.specs.Moves as Moves
+use Rattle.plain.specs.Steps.{stepOf}
+use Rattle.plain.specs.Calls.{Pool, Lengths, step, StartedLengths}
+use Rattle.plain.specs.Calls as Plain
+use Rattle.plain.proofs.CallTests.{passed}
 use Rattle.control.specs.Layout.{seen, TaskPlace, TaskClass, Regions}
 use Rattle.control.specs.Places.{A1}
 use Rattle.control.specs.Answers.{CODES, numberOf}
+use Rattle.control.specs.declared.answer.Answer.{Answer}
 use Rattle.control.specs.declared.answer.Answer.the-variants.{Allocated, Freed}
 use Rattle.stepped.specs.Outcome.{Outcome, Memories}
-use Rattle.stepped.specs.Calls.{lending, lengths, stepOutcome}
+use Rattle.stepped.specs.Calls.{Tested, lending, lengths, stepOutcome}
+use Rattle.agreement.specs.Events.{whole}
+use Rattle.agreement.specs.Ends.{IsEnd}
 use Rattle.agreement.specs.Reached.{History, Reached}
-use Rattle.agreement.specs.Asked.{Asked, for-bytes, asked}
-use Rattle.agreement.specs.Handed.{AlignedBlock, Handed, Gives}
+use Rattle.agreement.specs.Asked.{Asked, for-bytes, for-free, asked}
+use Rattle.agreement.specs.Handed.{AlignedBlock, Handed, StripHanded, StripGiven, Gives}
 use Rattle.agreement.proofs.Ends.{step-ends, ends-by}
 use Rattle.agreement.proofs.Handed.{hands-out, handed, freed}
-use Rattle.demands.specs.Acts.{Contract}
+use Rattle.agreement.proofs.Reaching.{reached-tied}
+use Rattle.demands.specs.Acts.{Contract, eventOfCall}
 use Rattle.demands.proofs.NumberTells.{finish-told}
 
 module _ (s left : Memories) (r t : ℕ) (C : Contract (step t) s left r) (finished : r % CODES ≡ 20) where
@@ -49,15 +59,59 @@ module _ (s left : Memories) (r t : ℕ) (C : Contract (step t) s left r) (finis
   -- task's request, whatever the memories hold.
   pub class-handed : v (TaskPlace t) ≡ A1 → AlignedBlock (v Regions) (v (TaskClass t)) value
   class-handed here =
-      of-value (AlignedBlock (v Regions) (v (TaskClass t))) (hands-out long v (link (s .area)) t)
-      (λ f. absurd (omega (arith, here, ends-by long v (link (s .area)) t Freed tt f .1)))
+      of-value (AlignedBlock (v Regions) (v (TaskClass t))) (λ u. hands-out long v (link (s .area)) t u here)
+      (λ f. absurd
+      (⊎-elim (λ k. omega (arith, here, k)) (λ k. omega (arith, here, k))
+      (ends-by long v (link (s .area)) t Freed tt f .1)))
 
-  -- Wherever a run has come, a step that finishes a request finishes what its task has asked for last: for `size` bytes
-  -- it hands out an aligned block, in the area, of the smallest class that holds them; of a free the value is 0.
-  pub asked-given : {h : History} {p : Pool} → Reached h s p → Gives (p .regions) (asked t h) value
-  asked-given {h} {p} R = of-value (Gives (p .regions) (asked t h)) (handed R long t) (freed R long t)
+  module _ {h : History} {p : Pool} (R : Reached h s p) where
+    -- the plain pool's memory after the step
+    abbrev pub after : Mem
+    after = whole (eventOfCall (step t) s) p .0 .mem
 
-  -- the same of an allocation
-  pub size-handed : {h : History} {p : Pool} → Reached h s p → (size : ℕ) → asked t h ≡ for-bytes size
-      → Handed (p .regions) size value
-  size-handed {p = p} R size a = subst (λ (b : Asked). Gives (p .regions) b value) a (asked-given R)
+    -- a step that passes the tests makes the move of the plain pool
+    after-is : Tested long v t → after ≡ stepOf t (p .mem) .0
+    unfolding Plain.plainCall
+    after-is T =
+        let D = reached-tied R in
+        let k : 1 ≤ p .tasks = omega (arith, D .tasks, T .started) in
+        ap (λ (x : Pool × Moves.Answer). x .0 .mem)
+        (passed (stepOf t (p .mem))
+        (record {
+          control-is = T .control-is;
+          started = k;
+          lengths = subst (StartedLengths long) (D .regions k) (T .lengths-are);
+          below = omega (arith, D .tasks, T .below);
+        }))
+
+    -- Wherever a run has come, a step that finishes a request finishes what its task has asked for last. For `size`
+    -- bytes up to 256 it hands out an aligned block, in the area, of the smallest class that holds them; for more an
+    -- aligned strip, in the strips' memory, at least as large and less than twice as large, from the smallest
+    -- sufficient free piece at the lowest place. Of a free the value is 0, and a strip is joined with the free halves
+    -- beside it.
+    pub asked-given : Gives (p .regions) (p .mem) after t (asked t h) value
+    asked-given =
+        let G : Mem → ℕ → Type 0 = λ m u. Gives (p .regions) (p .mem) m t (asked t h) u in
+        let ended : (a : Answer) → IsEnd a → o .answer ≡ a → after ≡ stepOf t (p .mem) .0 =
+        λ a i e. after-is (ends-by long v (link (s .area)) t a i e .0) in
+        of-value (G after)
+        (λ u e. subst⁻¹ (λ m. G m u) (ended (Allocated u) tt e) (handed R long t u e))
+        (λ e. subst⁻¹ (λ m. G m 0) (ended Freed tt e) (freed R long t e))
+
+    -- what was asked for last is given
+    given : (a : Asked) → asked t h ≡ a → Gives (p .regions) (p .mem) after t a value
+    given a e = subst (λ (b : Asked). Gives (p .regions) (p .mem) after t b value) e asked-given
+
+    -- the same of an allocation of a small block: "A size gets the smallest class that holds it"
+    pub size-handed : (size : ℕ) → asked t h ≡ for-bytes size → size ≤ LARGEST-SIZE → Handed (p .regions) size value
+    size-handed size e = given (for-bytes size) e .0
+
+    -- the same of a strip: "A size is rounded up to a power of two, at least 512"
+    pub strip-handed : (size : ℕ) → asked t h ≡ for-bytes size → LARGEST-SIZE < size
+        → StripHanded (p .mem .strips) (after .strips) size value
+    strip-handed size e = given (for-bytes size) e .1
+
+    -- the same of a strip's free: "Freed halves join whenever both are free"
+    pub strip-given : (unit : ℕ) → asked t h ≡ for-free unit → UNITS ≤ unit
+        → StripGiven (p .mem .strips) (after .strips) t unit
+    strip-given unit e = given (for-free unit) e .1

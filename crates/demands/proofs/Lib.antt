@@ -4,5 +4,6 @@ pub mod Failing
 pub mod Acting
 pub mod ReachingByActs
 pub mod Backing
+pub mod EndingSteps
 pub mod HandedOut
 pub mod Demands

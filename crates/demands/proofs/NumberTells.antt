@@ -14,14 +14,15 @@ use Rattle.control.specs.Layout.{seen}
 use Rattle.control.specs.Answers.{CODES, codeOf, valueOf, numberOf}
 use Rattle.control.specs.declared.answer.Answer.{Answer}
 use Rattle.control.specs.declared.answer.Answer.the-variants.{Accepted, Allocated, Freed, NoDescriptor, NoRegion}
-use Rattle.control.specs.declared.answer.Answer.the-variants.{Refused}
+use Rattle.control.specs.declared.answer.Answer.the-variants.{NoStrip, Refused}
 use Rattle.agreement.specs.Ends.{oneOf, Begins, StepAnswers, IsEnd, startRefusals, allocateRefusals, freeRefusals}
 use Rattle.agreement.specs.Ends.{stepRefusals}
 use Rattle.control.proofs.AnswerNumber.{number-is}
 use Rattle.stepped.specs.Outcome.{Memories}
 use Rattle.stepped.specs.Calls.{effectOf, lending, lengths}
 use Rattle.stepped.proofs.Conjunction.{left-true, right-true}
-use Rattle.agreement.proofs.Ends.{start-ends, allocate-ends, free-ends, step-ends}
+use Rattle.agreement.proofs.Ends.{step-ends}
+use Rattle.agreement.proofs.BeginningEnds.{start-ends, allocate-ends, free-ends}
 use Rattle.demands.specs.AnswerKinds.{Refusal, EndsRequest}
 use Rattle.demands.specs.Acts.{Number}
 
@@ -50,6 +51,7 @@ answer-small ns s (Allocated u) h = omega arith
 answer-small ns s Freed h = omega arith
 answer-small ns s NoDescriptor h = omega arith
 answer-small ns s NoRegion h = omega arith
+answer-small ns s NoStrip h = omega arith
 answer-small ns s (Refused n) h = among ns n s (h n refl)
 
 begins-small : (ns : List ℕ) → small ns ≡ true → (a : Answer) → Begins ns a → codeOf a < CODES
@@ -87,6 +89,7 @@ refused (Allocated u) h = absurd (omega (arith, h .0, h .1))
 refused Freed h = absurd (omega (arith, h .0, h .1))
 refused NoDescriptor h = absurd (h .2 refl)
 refused NoRegion h = absurd (h .3 refl)
+refused NoStrip h = absurd (omega (arith, h .1))
 refused (Refused n) h = (n, refl)
 
 -- the number 0 tells that a beginning is accepted, if no 0 is among the numbers that refuse it
@@ -96,36 +99,46 @@ accepted ns h (Allocated u) b e = absurd b
 accepted ns h Freed b e = absurd b
 accepted ns h NoDescriptor b e = absurd b
 accepted ns h NoRegion b e = absurd b
+accepted ns h NoStrip b e = absurd b
 accepted ns h (Refused n) b e = absurd (h (ap (oneOf ns) (sym e) ∙ b))
 
 -- no other number than those of its tests refuses a step
 not-among : {n : ℕ} (m : ℕ) → oneOf stepRefusals n ≡ true → oneOf stepRefusals m ≡ false → n ≡ m → ⊥
 not-among m g h e = false≢true (sym h ∙ ap (oneOf stepRefusals) (sym e) ∙ g)
 
--- the numbers 12 and 13 tell that a step found no descriptor and no region: neither is among the numbers that refuse it
+-- the numbers 12, 13 and 16 tell that a step found no descriptor, no region, no strip: none is among the numbers that
+-- refuse it
 pub ends-told : (a : Answer) → StepAnswers stepRefusals a
-    → (numberOf a ≡ 12 → a ≡ NoDescriptor) × (numberOf a ≡ 13 → a ≡ NoRegion)
-ends-told Accepted g = (λ e. absurd (omega arith), λ e. absurd (omega arith))
-ends-told (Allocated u) g = (λ e. absurd (omega arith), λ e. absurd (omega arith))
-ends-told Freed g = (λ e. absurd (omega arith), λ e. absurd (omega arith))
-ends-told NoDescriptor g = (λ e. refl, λ e. absurd (omega arith))
-ends-told NoRegion g = (λ e. absurd (omega arith), λ e. refl)
-ends-told (Refused n) g = (λ e. absurd (not-among 12 g refl e), λ e. absurd (not-among 13 g refl e))
+    → (numberOf a ≡ 12 → a ≡ NoDescriptor) × (numberOf a ≡ 13 → a ≡ NoRegion) × (numberOf a ≡ 16 → a ≡ NoStrip)
+ends-told Accepted g = (λ e. absurd (omega arith), λ e. absurd (omega arith), λ e. absurd (omega arith))
+ends-told (Allocated u) g = (λ e. absurd (omega arith), λ e. absurd (omega arith), λ e. absurd (omega arith))
+ends-told Freed g = (λ e. absurd (omega arith), λ e. absurd (omega arith), λ e. absurd (omega arith))
+ends-told NoDescriptor g = (λ e. refl, λ e. absurd (omega arith), λ e. absurd (omega arith))
+ends-told NoRegion g = (λ e. absurd (omega arith), λ e. refl, λ e. absurd (omega arith))
+ends-told NoStrip g = (λ e. absurd (omega arith), λ e. absurd (omega arith), λ e. refl)
+ends-told (Refused n) g = (
+  λ e. absurd (not-among 12 g refl e),
+  λ e. absurd (not-among 13 g refl e),
+  λ e. absurd (not-among 16 g refl e),
+)
 
 -- the numbers of a request's end tell that it has ended
 pub end-told : (a : Answer) → StepAnswers stepRefusals a → EndsRequest (numberOf a) → IsEnd a
 unfolding small
-end-told Accepted g e =
-    ⊎-elim (λ h. absurd (omega (arith, h)))
-    (λ f. ⊎-elim (λ h. absurd (omega (arith, h))) (λ h. absurd (omega (arith, h))) f) e
+end-told Accepted g (inl e) = absurd (omega (arith, e))
+end-told Accepted g (inr (inl e)) = absurd (omega (arith, e))
+end-told Accepted g (inr (inr (inl e))) = absurd (omega (arith, e))
+end-told Accepted g (inr (inr (inr e))) = absurd (omega (arith, e))
 end-told (Allocated u) g e = tt
 end-told Freed g e = tt
 end-told NoDescriptor g e = tt
 end-told NoRegion g e = tt
-end-told (Refused n) g e =
-    ⊎-elim (not-among 12 g refl)
-    (λ f. ⊎-elim (not-among 13 g refl)
-    (λ h. not-among {n = n} 20 g refl (omega (arith, h, among stepRefusals n refl g))) f) e
+end-told NoStrip g e = tt
+end-told (Refused n) g (inl e) = not-among 12 g refl e
+end-told (Refused n) g (inr (inl e)) = not-among 13 g refl e
+end-told (Refused n) g (inr (inr (inl e))) = not-among 16 g refl e
+end-told (Refused n) g (inr (inr (inr e))) =
+    not-among {n = n} 20 g refl (omega (arith, e, among stepRefusals n refl g))
 
 -- the number of a finish tells that an allocation has handed out a unit, its value, or that a free is done
 pub finish-told : (a : Answer) → StepAnswers stepRefusals a → numberOf a % CODES ≡ 20
@@ -136,5 +149,6 @@ finish-told (Allocated u) g e = inl (u, refl, omega arith)
 finish-told Freed g e = inr refl
 finish-told NoDescriptor g e = absurd (omega (arith, e))
 finish-told NoRegion g e = absurd (omega (arith, e))
+finish-told NoStrip g e = absurd (omega (arith, e))
 finish-told (Refused n) g e =
     absurd (not-among {n = n} 20 g refl (omega (arith, e, among stepRefusals n refl g)))

@@ -1,24 +1,27 @@
 -- docs/POOL.md, "Calls and refusals"
--- What the demands say of a call's answer: refusals, a request's end, the class that a size gets.
+-- What the demands say of a call's answer: refusals, a request's end, the class or the order that a size gets.
 use mathlib.Core.Path.{_≡_}
 use mathlib.Core.Logic.{_≢_, _⊎_}
-use mathlib.Core.List.{List, [], _∷_}
+use mathlib.Core.List.{[], _∷_}
 use Prim.Native.Nat.{ℕ, _%_, _≤_, _<_}
 use Rattle.limits.specs.Limits.{CLASSES}
-use Rattle.control.specs.Places.{A1}
+use Rattle.control.specs.Places.{A1, STRIP-TAKE}
 use Rattle.control.specs.Answers.{CODES}
 use Rattle.fields.specs.Columns.{_:=_}
 use Rattle.classes.specs.Classes.{block}
+use Rattle.pieces.specs.StripSizes.{RoundsTo}
 use Rattle.control.specs.Layout.{changed, TaskPlace, TaskClass}
 use Rattle.plain.specs.Calls.{Call, start, allocate, free, step}
+use Rattle.stepped.specs.Outcome.{Memories}
 
--- "A refused call answers the number": 1 to 14, but for 12 and 13, which "refuse no call".
+-- "A refused call answers the number": 1 to 14, but for 12 and 13, which "refuse no call". 16 is past them: it "ends a
+-- request" (the request for strips), and refuses no call either.
 abbrev pub Refusal : ℕ → Type 0
 Refusal r = (1 ≤ r) × (r ≤ 14) × (r ≢ 12) × (r ≢ 13)
 
--- "12 and 13 .. are a request's end", and so is "20 finished"
+-- "12 and 13 .. are a request's end"; "16 ends a request" (the request for strips); and so does "20 finished"
 abbrev pub EndsRequest : ℕ → Type 0
-EndsRequest r = (r ≡ 12) ⊎ ((r ≡ 13) ⊎ (r % CODES ≡ 20))
+EndsRequest r = (r ≡ 12) ⊎ ((r ≡ 13) ⊎ ((r ≡ 16) ⊎ (r % CODES ≡ 20)))
 
 -- a call of another task than u; a start is a call of none
 abbrev pub OfAnother : ℕ → Call → Type 0
@@ -27,12 +30,25 @@ OfAnother u (allocate t size) = u ≢ t
 OfAnother u (free t unit) = u ≢ t
 OfAnother u (step t) = u ≢ t
 
--- "A size gets the smallest class that holds it": the beginning of an allocation has set the task's place and its
--- class, the smallest whose block holds the size, and changed no other byte.
-pub record Begun (t size : ℕ) (control area control′ area′ : List ℕ) : Type 0 where
+-- "Beginning a request does no step": that of an allocation has set the task's place and its class, or order, and
+-- changed no other byte.
+pub record Begun (t place class : ℕ) (before after : Memories) : Type 0 where
+  pub control-is : after .control ≡ changed (TaskPlace t := place ∷ TaskClass t := class ∷ []) (before .control)
+  pub area-is : after .area ≡ before .area
+  pub strips-is : after .strips ≡ before .strips
+
+-- "A size gets the smallest class that holds it": the allocation of a small block has begun, of the smallest class
+-- whose block holds the size.
+pub record BegunBlock (t size : ℕ) (before after : Memories) : Type 0 where
   pub class : ℕ
   pub is-class : class < CLASSES
   pub holds : size ≤ block class
   pub smallest : (c : ℕ) → c < class → block c < size
-  pub control-is : control′ ≡ changed (TaskPlace t := A1 ∷ TaskClass t := class ∷ []) control
-  pub area-is : area′ ≡ area
+  pub begun : Begun t A1 class before after
+
+-- "A size is rounded up to a power of two, at least 512" (the request for strips): the allocation of a strip has begun,
+-- of the smallest order whose strip holds the size.
+pub record BegunStrip (t size : ℕ) (before after : Memories) : Type 0 where
+  pub order : ℕ
+  pub rounds : RoundsTo size order
+  pub begun : Begun t STRIP-TAKE order before after

@@ -26,7 +26,8 @@ UNIT-BYTES = 8
 abbrev pub REGION-UNITS : ℕ
 REGION-UNITS = 512
 
--- "a block is named by its first unit, 0 to 8,191"; in a cache's links 8,192 is the bottom
+-- how many units the area has: "a block is named by its first unit, 0 to 8,191"; in a cache's links 8,192 is the
+-- bottom. The units of strips go on from here, up to BOTH-UNITS
 abbrev pub UNITS : ℕ
 UNITS = 8192
 
@@ -54,9 +55,41 @@ MOST-BLOCKS = 512
 abbrev pub TAGS : ℕ
 TAGS = 4294967296
 
--- the largest size: "9 size above 256"
+-- the largest size of a small block: "blocks of 1 to 256 bytes"
 abbrev pub LARGEST-SIZE : ℕ
 LARGEST-SIZE = 256
+
+-- "A second lent area of 65,536 bytes holds them" (the request for strips)
+abbrev pub STRIPS-BYTES : ℕ
+STRIPS-BYTES = 65536
+
+-- the smallest strip: "A size is rounded up to a power of two, at least 512"; a slot is a place for one
+abbrev pub SLOT-BYTES : ℕ
+SLOT-BYTES = 512
+
+-- how many slots the strips' memory has
+abbrev pub SLOTS : ℕ
+SLOTS = 128
+
+-- a slot's units
+abbrev pub SLOT-UNITS : ℕ
+SLOT-UNITS = 64
+
+-- a strip of order k has 2^k slots; that of the whole memory has this order
+abbrev pub WHOLE-ORDER : ℕ
+WHOLE-ORDER = 7
+
+-- how many orders there are
+abbrev pub ORDERS : ℕ
+ORDERS = 8
+
+-- the largest size of a strip: "9 now means above 65,536"
+abbrev pub LARGEST-STRIP : ℕ
+LARGEST-STRIP = 65536
+
+-- "Its units run from 8,192 to 16,383": how many units both areas have
+abbrev pub BOTH-UNITS : ℕ
+BOTH-UNITS = 16384
 
 -- The lists by number: that of a class's partial descriptors has the class's number, then comes that of the spare
 -- descriptors.

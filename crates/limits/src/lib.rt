@@ -23,10 +23,28 @@ pub const WORD_MARKS: usize = 64;
 // 1 to 8 tasks.
 pub const TASKS: usize = 8;
 
-// The classes of blocks, and the largest size.
+// The classes of small blocks, and the largest size of one.
 pub const CLASSES: usize = 13;
 
 pub const LARGEST_SIZE: usize = 256;
+
+// The strips' memory: 128 slots of 512 bytes, each of 64 units, behind those of the area.
+pub const STRIPS_BYTES: usize = 65536;
+
+pub const SLOT_BYTES: usize = 512;
+
+pub const SLOTS: usize = 128;
+
+pub const SLOT_UNITS: usize = 64;
+
+pub const BOTH_UNITS: usize = 16384;
+
+// A strip of order k has 2^k slots: the order of the whole memory, how many orders there are, and the largest size.
+pub const WHOLE_ORDER: usize = 7;
+
+pub const ORDERS: usize = 8;
+
+pub const LARGEST_STRIP: usize = 65536;
 
 // There are 64 descriptors.
 pub const DESCRIPTORS: usize = 64;

@@ -4,7 +4,7 @@ use mathlib.Core.Logic.{_≢_}
 use Prim.Native.Nat.{ℕ, zero, suc, _+_, _≤_, _<_}
 use native.Mathlib.Omega.{arith}
 use native.Mathlib.Decide.{ℕ-discrete, decLt}
-use Rattle.limits.specs.Limits.{TASKS, CLASSES, DESCRIPTORS, LARGEST-SIZE}
+use Rattle.limits.specs.Limits.{WHOLE-ORDER, TASKS, CLASSES, DESCRIPTORS, LARGEST-SIZE, LARGEST-STRIP, SLOTS}
 use Rattle.rows.specs.Comparisons.{Equality, same, other, same?}
 use Rattle.rows.specs.Branch.{both}
 use Rattle.rows.specs.Weights.{when, one}
@@ -13,9 +13,18 @@ use Rattle.rows.specs.Totals.{total}
 use Rattle.rows.proofs.Weights.{when-same, when-other, when-max, when-zero, weight-update}
 use Rattle.rows.proofs.Totals.{total-le, total-one}
 use Rattle.classes.specs.Geometry.{regionOf, BlockOf}
+use Rattle.classes.specs.Sizes.{classOf}
 use Rattle.classes.proofs.Sizes.{is-class}
-use Rattle.plain.specs.State.{idle, f1, Task, Mem, working}
-use Rattle.plain.specs.Calls.{beginAllocate, Opens, opens?, First, first?, freeIn, freeEntry}
+use Rattle.pieces.specs.Pieces.{free, held, begun, Pieces}
+use Rattle.pieces.specs.Strips.{StripStart, nowhere, here, stripStarts, freeBegun}
+use Rattle.pieces.specs.StripSizes.{orderOf}
+use Rattle.pieces.proofs.PieceLengths.{some}
+use Rattle.pieces.proofs.StripGiving.{strip-fits}
+use Rattle.pieces.proofs.StripSizes.{rounds}
+use Rattle.plain.specs.State.{idle, a1, f1, strip-take, strip-give, Work, Task, Mem, working, setStrips}
+use Rattle.plain.specs.Calls.{beginAllocate, firstPlace, Opens, opens?, First, first?, freeIn, freeEntry}
+use Rattle.plain.specs.Calls.{freeStripAt}
+use Rattle.plain.specs.Steps.{atPlace}
 use Rattle.plain.specs.Blocks.{countBlock}
 use Rattle.plain.specs.ByState.{IsOpen}
 use Rattle.plain.specs.Held.{classAt, underWay}
@@ -29,6 +38,7 @@ use Rattle.plain.proofs.Homes.{inside-open}
 use Rattle.plain.proofs.NotesKept.{as-before}
 use Rattle.plain.proofs.Turn.{Turn, fewer, as-mapped, turn-inv}
 use Rattle.plain.proofs.PlaceAlone.{taskOf, turnAt, placed-empty}
+use Rattle.plain.proofs.StripChanges.{strips-aside}
 
 -- What a task has for a class, it has.
 class-block : (c v : ℕ) (T : Task) → c < CLASSES → blockClassWeight c v 0 T ≤ blockWeight v 0 T
@@ -106,8 +116,20 @@ module _ {area : ℕ} {m : Mem} (t : ℕ) (l : t < TASKS) (I : Invariant area m)
   pub allocate-inv : (size : ℕ) → KeepsInvariant area (beginAllocate t size m)
   allocate-inv size =
       either (KeepsInvariant area) (ℕ-discrete size 0) _ _ (λ a. I)
-      (λ a. either (KeepsInvariant area) (decLt LARGEST-SIZE size) _ _ (λ b. I)
-      (λ b. placed-empty turn _ refl refl (is-class size (omega arith)) tt))
+      (λ a. either (KeepsInvariant area) (decLt LARGEST-STRIP size) _ _ (λ b. I)
+      (λ b. either (λ w. Invariant area (atPlace t (m .task t .cache) (working w) m)) (decLt LARGEST-SIZE size) _ _
+      (λ c. placed-empty turn _ refl refl (omega (arith, rounds size (omega arith) .within)) tt)
+      (λ c. placed-empty turn _ refl refl (is-class size (omega arith)) tt)))
+
+  -- The beginning of a strip's free keeps it.
+  pub free-strip-inv : (s : ℕ) (x : StripStart) → stripStarts (m .strips) s ≡ x
+      → KeepsInvariant area (freeStripAt x t s m)
+  free-strip-inv s nowhere e′ = I
+  free-strip-inv s (here k free) e′ = I
+  free-strip-inv s (here k held) e′ =
+      strips-aside (freeBegun t s (m .strips)) (placed-empty turn (working (strip-give s)) refl refl
+      (omega (arith, strip-fits (m .strips) s k held e′, some k)) tt)
+  free-strip-inv s (here k (begun u)) e′ = I
 
   -- The beginning of a free keeps the invariant: the block leaves the user's hands and is under way.
   pub free-inv : (d u : ℕ) → d < DESCRIPTORS → KeepsInvariant area (freeIn (m .descriptor d) t u m)

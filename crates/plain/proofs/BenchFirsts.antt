@@ -3,7 +3,7 @@ use mathlib.Core.Path.{_≡_, refl}
 use mathlib.Core.List.{List, _∷_, map, []}
 use Prim.Native.Nat.{ℕ, zero, suc}
 use native.Mathlib.Decide.{ℕ-discrete, decLt, decLe}
-use Rattle.limits.specs.Limits.{CONTROL-BYTES, REGION-BYTES}
+use Rattle.limits.specs.Limits.{CONTROL-BYTES, REGION-BYTES, STRIPS-BYTES}
 use Rattle.rows.specs.Branch.{both}
 use Rattle.rows.specs.Update.{update}
 use Rattle.classes.specs.Classes.{units, perRegion}
@@ -12,9 +12,9 @@ use Rattle.plain.specs.Moves.{Answer, going, finished, nothing}
 use Rattle.plain.specs.Steps.{stepOf}
 use Rattle.plain.specs.Calls.{Pool, start, allocate, startMem, rising, unstarted, plainCall, Lengths, step}
 
--- the control memory, and an area of one region
+-- the control memory, an area of one region, and the strips' memory
 abbrev lent : Lengths
-lent = record { control = CONTROL-BYTES; area = REGION-BYTES }
+lent = record { control = CONTROL-BYTES; area = REGION-BYTES; strips = STRIPS-BYTES }
 
 -- the answer of the last of n steps of task 0, in a pool of one region
 abbrev last : ℕ → Pool → Answer

@@ -6,18 +6,22 @@ use mathlib.Core.List.{List}
 use Prim.Native.Nat.{ℕ, zero, suc, _*_, _≤_, _<_}
 use native.Mathlib.Omega.{arith}
 use native.Mathlib.Decide.{ℕ-discrete, decLt}
-use Rattle.limits.specs.Limits.{CONTROL-BYTES, REGION-BYTES, LARGEST-SIZE, SPARE-DESCRIPTORS}
+use Rattle.limits.specs.Limits.{CONTROL-BYTES, UNITS, LARGEST-STRIP, SPARE-DESCRIPTORS}
 use Rattle.rows.specs.Branch.{both}
 use Rattle.rows.proofs.Branch.{if-yes}
 use Rattle.rows.proofs.Update.{update-same}
 use Rattle.classes.specs.Geometry.{regionOf}
 use Rattle.plain.specs.State.{read, spare, region, back, Place, idle, pushing, Task, Mem, working}
-use Rattle.plain.specs.Moves.{found-empty, pushed, Answer, ended, refused}
-use Rattle.plain.specs.Steps.{Result, popRead, pushPut, stepAt, stepOf, whenWorking}
+use Rattle.plain.specs.Moves.{found-empty, pushed, no-strip, Answer, ended, refused}
+use Rattle.plain.specs.Steps.{Result, popRead, pushPut, stripTakeStep, stepAt, stepOf, whenWorking}
 use Rattle.plain.specs.Calls.{Pool, Call, start, allocate, free, startMem, opens?}
-use Rattle.plain.specs.Calls.{first?, freeEntry}
+use Rattle.plain.specs.Calls.{first?, freeEntry, stripUnit?, freeStripAt, StartedLengths}
+use Rattle.pieces.specs.Pieces.{free as free-piece, held, begun}
+use Rattle.pieces.specs.Strips.{StripTaken, StripStart, nowhere, here, stripStarts}
+use Rattle.pieces.specs.StripUnits.{slotOfUnit}
 use Rattle.plain.specs.Calls.{whenIdle, refuse, became, tested, plainCall, Lengths, step}
-use Rattle.plain.specs.Codes.{StepCode, under-way, no-request, no-descriptor, no-region, finishes, ReadsNoSpare}
+use Rattle.plain.specs.Codes.{StepCode, under-way, no-request, no-descriptor, no-region, no-stretch, finishes}
+use Rattle.plain.specs.Codes.{ReadsNoSpare, FindsNoStrip, EndsBy16}
 use Rattle.plain.specs.Codes.{PushesBack, ReadsNoRegion, CallIs, starts, begins, steps, EndsBy12, EndsBy13}
 use Rattle.plain.specs.Codes.{AtMost}
 use Rattle.plain.proofs.CallTests.{either, by-tests, passed, start-numbers, by-start-tests}
@@ -52,6 +56,14 @@ always-back t m c d r =
     ∙ ap (λ (q : List ℕ). popRead t k (region c d) q m .0 .task t .place) (r .row)
     ∙ ap (λ (T : Task). T .place) (update-same (m .task) t _)
 
+-- A step that is to take a strip, where there is none, ends the request with 16.
+pub always-16 : (t : ℕ) (m : Mem) → FindsNoStrip t m → stepOf t m .1 ≡ ended 16 no-strip
+unfolding stepOf
+always-16 t m r =
+    let k = m .task t .cache in
+    ap (λ (p : Place). whenWorking p (λ w. stepAt t k w m) m .1) (r .place)
+    ∙ ap (λ (x : StripTaken). stripTakeStep t k x m .1) (r .none)
+
 -- ---- what a call is
 
 module _ (c : Call) (s : Pool) where
@@ -79,6 +91,12 @@ module _ (c : Call) (s : Pool) where
       (λ b. small 11 (omega arith)) (λ b. (omega arith, λ ℓ. refl)))
       (λ a. small 10 (omega arith))
 
+  small-strip : (x : StripStart) (t n : ℕ) → Small (freeStripAt x t n (s .mem))
+  small-strip nowhere t n = small 10 (omega arith)
+  small-strip (here k free-piece) t n = small 10 (omega arith)
+  small-strip (here k held) t n = (omega arith, λ ℓ. refl)
+  small-strip (here k (begun u)) t n = small 11 (omega arith)
+
   -- the tests of a call that is no start
   tested-is : (t : ℕ) (lent : Lengths) (x : Result) → (t < s .tasks → CallIs c s (became s x))
       → CallIs c s (tested t lent s x)
@@ -97,22 +115,26 @@ call-is (allocate t size) lent s =
     let c = allocate t size in
     tested-is c s t lent _ (λ l. begins-is c s _ (small-idle c s (s .mem .task t .place) _
     (either (Small c s) (ℕ-discrete size 0) _ _ (λ a. small c s 8 (omega arith))
-    (λ a. either (Small c s) (decLt LARGEST-SIZE size) _ _
+    (λ a. either (Small c s) (decLt LARGEST-STRIP size) _ _
     (λ b. small c s 9 (omega arith)) (λ b. (omega arith, λ ℓ. refl))))))
 call-is (free t u) lent s =
     let c = free t u in
     tested-is c s t lent _ (λ l. begins-is c s _ (small-idle c s (s .mem .task t .place) _
-    (either (Small c s) (decLt (regionOf u) (s .regions)) _ _
-    (λ a. small-free c s (s .mem .map (regionOf u)) t u) (λ a. small c s 10 (omega arith)))))
+    (either (Small c s) (decLt u UNITS) _ _
+    (λ z. either (Small c s) (decLt (regionOf u) (s .regions)) _ _
+    (λ a. small-free c s (s .mem .map (regionOf u)) t u) (λ a. small c s 10 (omega arith)))
+    (λ z. either (Small c s) (stripUnit? u) _ _
+    (λ a. small-strip c s (stripStarts (s .mem .strips) (slotOfUnit u)) t (slotOfUnit u))
+    (λ a. small c s 10 (omega arith))))))
 call-is (step t) lent s =
     tested-is (step t) s t lent (stepOf t (s .mem)) (λ l. steps t refl l refl)
 
 -- A step call that passes the tests is a step of its task.
 pub step-is-step : (t : ℕ) (lent : Lengths) (s : Pool) → t < s .tasks → lent .control ≡ CONTROL-BYTES
-    → lent .area ≡ REGION-BYTES * s .regions → plainCall (step t) lent s ≡ became s (stepOf t (s .mem))
+    → StartedLengths lent (s .regions) → plainCall (step t) lent s ≡ became s (stepOf t (s .mem))
 unfolding plainCall
 step-is-step t lent s l c e =
-    passed (stepOf t (s .mem)) (record { control-is = c; started = omega arith; area-is = e; below = l })
+    passed (stepOf t (s .mem)) (record { control-is = c; started = omega arith; lengths = e; below = l })
 
 -- ---- what follows
 
@@ -127,6 +149,7 @@ step-not-14 n under-way e = absurd (omega arith)
 step-not-14 n no-request e = absurd (omega arith)
 step-not-14 n no-descriptor e = absurd (omega arith)
 step-not-14 n no-region e = absurd (omega arith)
+step-not-14 n no-stretch e = absurd (omega arith)
 step-not-14 n finishes e = absurd (omega arith)
 
 -- A start, a refusal and a beginning answer 11 at most: a call with a larger code is a step.
@@ -181,3 +204,11 @@ only-13 c lent s e =
       pushes = r .1;
       decided = ap (λ (x : Pool × Answer). x .1 .decided) h ∙ r .2;
     })
+
+-- A call answers 16 only if it is a step that is to take a strip, where there is none.
+pub only-16 : (c : Call) (lent : Lengths) (s : Pool) → plainCall c lent s .1 .code ≡ 16
+    → EndsBy16 s (plainCall c lent s .1)
+only-16 c lent s e =
+    past-11 c lent s (omega arith) e (λ t l h.
+    let r = step-facts t (s .mem) .sixteen (answer-code s h e) in
+    record { t = t; fits = l; finds = r .0; decided = ap (λ (x : Pool × Answer). x .1 .decided) h ∙ r .1 })

@@ -14,13 +14,14 @@ use Rattle.classes.specs.Classes.{perRegion}
 use Rattle.classes.specs.Geometry.{regionOf}
 use Rattle.plain.specs.State.{State, EMPTY, PARTIAL, FULL, Phase, read, next, exchange, Pop, partial, spare}
 use Rattle.plain.specs.State.{region, Push, retire, back, release, offer, Place, idle, a1, popping, pushing, a4}
-use Rattle.plain.specs.State.{a8, f3-read, f3-link, f4-clear, Task, Mem, working, Note}
-use Rattle.plain.specs.Moves.{Decided, nothing, lost, Answer, going, finished, refused}
+use Rattle.plain.specs.State.{a8, f3-read, f3-link, f4-clear, strip-take, strip-give, Task, Mem, working, Note}
+use Rattle.pieces.specs.Strips.{StripTaken, none-found, strip-at, takeStrip}
+use Rattle.plain.specs.Moves.{Decided, nothing, lost, Answer, going, finishedBy, refused}
 use Rattle.plain.specs.Steps.{popList, pushList, f6, f5, moving, whenPopped, asNoted?, cached, popRead, popTake}
 use Rattle.plain.specs.Steps.{pushPut, a1Step, a3Read, closed, f2Step, f3Read, f3Won, stepAt, atWork, popStep}
-use Rattle.plain.specs.Steps.{pushStep, a3Exchange, a7Step, a8Step, f1Step, f3Exchange}
+use Rattle.plain.specs.Steps.{pushStep, a3Exchange, a7Step, a8Step, f1Step, f3Exchange, stripTakeStep}
 use Rattle.plain.specs.Codes.{StepCode, under-way, no-request, no-descriptor, no-region, finishes, WayBack, stays}
-use Rattle.plain.specs.Codes.{comes, StepFacts}
+use Rattle.plain.specs.Codes.{comes, StepFacts, no-stretch}
 use Rattle.plain.specs.Noted.{Noted, unnoted, pop-noted, push-noted, anchor-noted, entry-noted, noted}
 use Rattle.plain.proofs.CallTests.{either}
 
@@ -70,20 +71,20 @@ popped-back (region c d) x = refl
 one-more : (f : ℕ → ℕ) (i j : ℕ) → update f i (f i + 1) j ≤ f j + 1
 one-more f i = update-all (λ j n. n ≤ f j + 1) f i (f i + 1) (omega arith) (λ j d. omega arith)
 
--- ---- results that are no end by 12 or 13
+-- ---- results that are no end by 12, 13 or 16
 
--- the code is neither 12 nor 13
+-- the code is neither 12 nor 13 nor 16
 abbrev Plain : ℕ → Type 0
-Plain n = (n ≢ 12) × (n ≢ 13)
+Plain n = (n ≢ 12) × (n ≢ 13) × (n ≢ 16)
 
 plain-0 : Plain 0
-plain-0 = (λ e. absurd (omega arith), λ e. absurd (omega arith))
+plain-0 = (λ e. absurd (omega arith), λ e. absurd (omega arith), λ e. absurd (omega arith))
 
 plain-7 : Plain 7
-plain-7 = (λ e. absurd (omega arith), λ e. absurd (omega arith))
+plain-7 = (λ e. absurd (omega arith), λ e. absurd (omega arith), λ e. absurd (omega arith))
 
 plain-20 : Plain 20
-plain-20 = (λ e. absurd (omega arith), λ e. absurd (omega arith))
+plain-20 = (λ e. absurd (omega arith), λ e. absurd (omega arith), λ e. absurd (omega arith))
 
 module _ (t : ℕ) (m : Mem) where
   -- the place after a step that sets the task
@@ -97,6 +98,7 @@ module _ (t : ℕ) (m : Mem) where
     code = s;
     twelve = λ h. absurd (p .0 h);
     thirteen = λ h. absurd (p .1 h);
+    sixteen = λ h. absurd (p .2 h);
     wayBack = λ c d φ h.
         absurd (omega (arith, b, ap backAt (sym (ap (λ f. f t .place) e ∙ placed-at (m .task) T) ∙ h)));
     won = w;
@@ -108,9 +110,9 @@ module _ (t : ℕ) (m : Mem) where
   goes {x} {e} T h b w = on x (going e) T h under-way plain-0 b w
 
   -- A step that sets the task to T, wins at most one exchange of a list, goes to no push back and finishes.
-  done : {x : Mem} {v : ℕ} (T : Task) → x .task ≡ update (m .task) t T → backAt (T .place) ≡ 0
-      → ((ℓ : ℕ) → x .won ℓ ≤ m .won ℓ + 1) → StepFacts t m (x, finished v)
-  done {x} {v} T h b w = on x (finished v) T h finishes plain-20 b w
+  done : {x : Mem} {e : Decided} {v : ℕ} (T : Task) → x .task ≡ update (m .task) t T → backAt (T .place) ≡ 0
+      → ((ℓ : ℕ) → x .won ℓ ≤ m .won ℓ + 1) → StepFacts t m (x, finishedBy e v)
+  done {x} {e} {v} T h b w = on x (finishedBy e v) T h finishes plain-20 b w
 
   -- A step that changes nothing, at a place that is no push back.
   nothing-done : (a : Answer) → StepCode (a .code) → Plain (a .code) → backAt (m .task t .place) ≡ 0
@@ -119,6 +121,7 @@ module _ (t : ℕ) (m : Mem) where
     code = s;
     twelve = λ h. absurd (p .0 h);
     thirteen = λ h. absurd (p .1 h);
+    sixteen = λ h. absurd (p .2 h);
     wayBack = λ c d φ h. absurd (omega (arith, ap backAt h));
     won = λ ℓ. omega arith;
   }
@@ -147,6 +150,7 @@ module _ (t : ℕ) (k : ℕ → List ℕ) (m : Mem) where
     code = no-descriptor;
     twelve = λ i. (record { c = c; place = h; row = e }, refl);
     thirteen = λ i. absurd (omega arith);
+    sixteen = λ i. absurd (omega arith);
     wayBack = λ c d φ i. absurd (omega (arith, ap backAt (sym (placed-at t m (m .task) _) ∙ i)));
     won = none-won;
   }
@@ -154,6 +158,7 @@ module _ (t : ℕ) (k : ℕ → List ℕ) (m : Mem) where
     code = under-way;
     twelve = λ i. absurd (omega arith);
     thirteen = λ i. absurd (omega arith);
+    sixteen = λ i. absurd (omega arith);
     wayBack = λ c′ d′ φ i.
         to-back t m (sym (placed-at t m (m .task) _) ∙ i) (comes (record { place = h; row = e }));
     won = none-won;
@@ -173,6 +178,7 @@ module _ (t : ℕ) (k : ℕ → List ℕ) (m : Mem) where
     code = under-way;
     twelve = λ i. absurd (omega arith);
     thirteen = λ i. absurd (omega arith);
+    sixteen = λ i. absurd (omega arith);
     wayBack = λ c′ d′ χ i. to-back t m (sym (placed-at t m (m .task) _) ∙ i) (stays φ h);
     won = none-won;
   }
@@ -186,6 +192,7 @@ module _ (t : ℕ) (k : ℕ → List ℕ) (m : Mem) where
     code = no-region;
     twelve = λ i. absurd (omega arith);
     thirteen = λ i. (d, record { c = c; n = n; place = h; won = e }, refl);
+    sixteen = λ i. absurd (omega arith);
     wayBack = λ c d φ i. absurd (omega (arith, ap backAt (sym (placed-at t m (m .task) _) ∙ i)));
     won = one-more (m .won) SPARE-DESCRIPTORS;
   }
@@ -272,6 +279,21 @@ module _ (t : ℕ) (k : ℕ → List ℕ) (m : Mem) where
 
   pub facts-f4 : (c u d : ℕ) (w : State) (r : ℕ) → StepFacts t m (stepAt t k (f4-clear c u d w r) m)
   facts-f4 c u d w r = goes t m _ refl refl none-won
+
+  pub facts-take : (j : ℕ) (x : StripTaken) → takeStrip j (m .strips) ≡ x → m .task t .place ≡ working (strip-take j)
+      → StepFacts t m (stripTakeStep t k x m)
+  facts-take j none-found e h = record {
+    code = no-stretch;
+    twelve = λ i. absurd (omega arith);
+    thirteen = λ i. absurd (omega arith);
+    sixteen = λ i. (record { order = j; place = h; none = e }, refl);
+    wayBack = λ c d φ i. absurd (omega (arith, ap backAt (sym (placed-at t m (m .task) _) ∙ i)));
+    won = none-won;
+  }
+  facts-take j (strip-at s p) e h = done t m _ refl refl none-won
+
+  pub facts-give : (s : ℕ) → StepFacts t m (stepAt t k (strip-give s) m)
+  facts-give s = done t m _ refl refl none-won
 
   -- An idle task makes no step.
   pub facts-idle : m .task t .place ≡ idle → StepFacts t m (m, refused 7)

@@ -21,6 +21,8 @@ pub mod Returns
 pub mod Codes
 pub mod Steps
 pub mod Requests
+pub mod StripChanges
+pub mod StripInvariant
 pub mod StartInvariant
 pub mod Begins
 pub mod Always

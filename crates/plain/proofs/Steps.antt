@@ -8,13 +8,15 @@ use Rattle.rows.proofs.Weights.{when-same}
 use Rattle.limits.specs.Limits.{TASKS}
 use Rattle.classes.specs.Geometry.{regionOf}
 use Rattle.plain.specs.State.{Place, idle, a1, popping, pushing, a3-read, a3-exchange, a4, a7, a8, f1, f2}
-use Rattle.plain.specs.State.{f3-read, f3-link, f3-exchange, f4-clear, Mem, Work, working}
-use Rattle.plain.specs.Steps.{f3Read, stepAt, stepOf, whenWorking}
+use Rattle.plain.specs.State.{f3-read, f3-link, f3-exchange, f4-clear, strip-take, strip-give, Mem, Work}
+use Rattle.plain.specs.State.{working}
+use Rattle.pieces.specs.Strips.{StripTaken, none-found, strip-at, takeStrip, giveStrip}
+use Rattle.plain.specs.Steps.{f3Read, stripTakeStep, stepAt, stepOf, whenWorking}
 use Rattle.plain.specs.Invariant.{Invariant}
 use Rattle.plain.specs.Codes.{StepFacts}
 use Rattle.plain.proofs.CallTests.{KeepsInvariant}
 use Rattle.plain.proofs.Turn.{Turn}
-use Rattle.plain.proofs.PlaceAlone.{taskOf, turnAt, placeHolds, placed, noteHolds}
+use Rattle.plain.proofs.PlaceAlone.{taskOf, turnAt, placeHolds, placed, placed-empty, noteHolds}
 use Rattle.plain.proofs.Caches.{a1-inv, a4-inv, a8-inv, f1-inv, f2-inv}
 use Rattle.plain.proofs.ListSteps.{pop-inv, push-inv}
 use Rattle.plain.proofs.Takes.{a3-read-inv, a3-exchange-inv}
@@ -23,7 +25,8 @@ use Rattle.plain.proofs.GroupFits.{Grouped, group-fits}
 use Rattle.plain.proofs.Returns.{f3-exchange-inv}
 use Rattle.plain.proofs.Codes.{facts-a1, facts-pop, facts-push, facts-a3, facts-a3-exchange, facts-a4, facts-a7}
 use Rattle.plain.proofs.Codes.{facts-a8, facts-f1, facts-f2, facts-f3, facts-f3-link, facts-f3-exchange}
-use Rattle.plain.proofs.Codes.{facts-f4, facts-idle}
+use Rattle.plain.proofs.Codes.{facts-f4, facts-take, facts-give, facts-idle}
+use Rattle.plain.proofs.StripChanges.{strips-aside}
 
 module _ {area : ℕ} {m : Mem} {t : ℕ} (k : ℕ → List ℕ) where
   -- The anchor read of a free; where the map names no descriptor nothing happens.
@@ -37,6 +40,12 @@ module _ {area : ℕ} {m : Mem} {t : ℕ} (k : ℕ → List ℕ) where
       placed w _ refl
       (o .0, o .1, o .2, omega (arith, group-fits w group, length-append g (m .descriptor d .chain)))
       (omega (arith, when-same y 1), e)
+
+  -- The step that takes a strip changes nothing else but the task's place.
+  take-step : (j : ℕ) (x : StripTaken) → Turn area m t (taskOf (working (strip-take j)) k)
+      → KeepsInvariant area (stripTakeStep t k x m)
+  take-step j none-found w = placed-empty w idle refl refl tt tt
+  take-step j (strip-at s p) w = strips-aside p (placed-empty w idle refl refl tt tt)
 
 module _ (t : ℕ) (k : ℕ → List ℕ) (m : Mem) where
   -- what is shown of the step of a task at the place w
@@ -72,6 +81,14 @@ module _ (t : ℕ) (k : ℕ → List ℕ) (m : Mem) where
       record { facts = λ h. facts-f3-exchange t k m c u y g d n; kept = λ area T. f3-exchange-inv T }
   step-at (f4-clear c u d s r) =
       record { facts = λ h. facts-f4 t k m c u d s r; kept = λ area T. clear-inv c u d s r T }
+  step-at (strip-take j) = record {
+    facts = facts-take t k m j (takeStrip j (m .strips)) refl;
+    kept = λ area T. take-step k j (takeStrip j (m .strips)) T;
+  }
+  step-at (strip-give s) = record {
+    facts = λ h. facts-give t k m s;
+    kept = λ area T. strips-aside (giveStrip s (m .strips)) (placed-empty T idle refl refl tt tt);
+  }
 
   -- Every step; an idle task makes none.
   facts-of : (p : Place) → m .task t .place ≡ p → StepFacts t m (whenWorking p (λ w. stepAt t k w m) m)

@@ -7,7 +7,8 @@ use Rattle.rows.specs.Counting.{count}
 use Rattle.classes.specs.Classes.{perRegion}
 use Rattle.plain.specs.State.{State, EMPTY, PARTIAL, FULL, partial, spare, region, retire, back, release, offer}
 use Rattle.plain.specs.State.{Place, idle, a1, popping, pushing, a3-read, a3-exchange, a4, a7, a8, f1, f2}
-use Rattle.plain.specs.State.{f3-read, f3-link, f3-exchange, f4-clear, Work, working, Pop, Push}
+use Rattle.plain.specs.State.{f3-read, f3-link, f3-exchange, f4-clear, strip-take, strip-give, Work, working}
+use Rattle.plain.specs.State.{Pop, Push}
 use Rattle.plain.specs.Blocks.{blocksFrom}
 
 -- What a task has under way beside its caches: blocks, all of one class; descriptors held as spare, which are
@@ -45,7 +46,7 @@ pushHeld (release c u d w r) = hold c (u ∷ []) [] (owed w d) (r ∷ [])
 pushHeld (offer c u d) = hold c (u ∷ []) [] (d ∷ []) []
 
 -- What each place has under way. The blocks are a taken chain, those still to be carved, the block being freed,
--- and a group.
+-- and a group. A strip's request has no small block, no descriptor and no region.
 abbrev pub heldAt : Work → Held
 heldAt (a1 c) = hold c [] [] [] []
 heldAt (popping p φ) = popHeld p
@@ -62,6 +63,8 @@ heldAt (f3-link c u y g d n) = hold c (u ∷ y ∷ g) [] [] []
 heldAt (f3-exchange c u y g d n) = hold c (u ∷ y ∷ g) [] [] []
 heldAt (f4-clear c u d w r) =
     record { class = c; blocks = u ∷ []; spares = []; listed = owed w d; regions = []; closing = r ∷ [] }
+heldAt (strip-take k) = hold 0 [] [] [] []
+heldAt (strip-give s) = hold 0 [] [] [] []
 
 -- what a task has under way at its place: an idle one has nothing
 abbrev pub held : Place → Held

@@ -10,6 +10,8 @@ use Rattle.rows.specs.Weights.{one, below}
 use Rattle.rows.specs.Counting.{count}
 use Rattle.rows.specs.Totals.{total}
 use Rattle.classes.specs.Classes.{perRegion}
+use Rattle.pieces.specs.Pieces.{begun, Joined}
+use Rattle.pieces.specs.Strips.{here, stripStarts}
 use Rattle.plain.specs.State.{State, EMPTY, PARTIAL, FULL, Descriptor, Mem}
 use Rattle.plain.specs.Calls.{Pool, Call, plainCall, Lengths}
 use Rattle.plain.specs.Blocks.{countBlock}
@@ -18,6 +20,7 @@ use Rattle.plain.specs.HolderWeights.{rowWeight, insideWeight, insideCla
 use Rattle.plain.specs.HolderWeights.{openWeight, fullWeight, blockWeight, blockClassWeight, descriptorWeight}
 use Rattle.plain.specs.HolderWeights.{descriptorClassWeight, spareWeight, regionWeight, unmappedWeight}
 use Rattle.plain.specs.TaskHolds.{TaskHolds}
+use Rattle.plain.specs.Requests.{freesStrip}
 
 -- how many blocks a chain has in each state, where a region has n
 abbrev pub ChainLength : State → ℕ → ℕ → Type 0
@@ -76,12 +79,24 @@ pub record Invariant (area : ℕ) (m : Mem) : Type 0 where
   -- what holds of each task at its place
   pub tasks : (t : ℕ) → t < TASKS → TaskHolds m (m .task t)
 
--- the invariant of the pool: at most 8 tasks, and, once it is started, at most 16 regions, and its memory's
--- invariant
+-- the strips of the pool's memory
+pub record StripsHold (m : Mem) : Type 0 where
+  -- "Freed halves join whenever both are free"
+  pub joined : Joined (m .strips)
+  -- a strip whose free a task has begun is the one that this task frees
+  pub freed-by : (s k t : ℕ) → stripStarts (m .strips) s ≡ here k (begun t)
+      → (t < TASKS) × (freesStrip (m .task t .place) ≡ suc s)
+  -- the strip that a task frees is one whose free this task has begun
+  pub begun-by : (t s : ℕ) → t < TASKS → freesStrip (m .task t .place) ≡ suc s
+      → (k : ℕ) × (stripStarts (m .strips) s ≡ here k (begun t))
+
+-- the invariant of the pool: at most 8 tasks, and, once it is started, at most 16 regions, its memory's invariant, and
+-- that of its strips
 pub record Good (s : Pool) : Type 0 where
   pub few : s .tasks ≤ TASKS
   pub small : 1 ≤ s .tasks → s .regions ≤ REGIONS
   pub inv : 1 ≤ s .tasks → Invariant (s .regions) (s .mem)
+  pub strips : 1 ≤ s .tasks → StripsHold (s .mem)
 
 -- the pool after a list of calls, each with the lengths that it is lent
 unfoldable pub run : List (Call × Lengths) → Pool → Pool

@@ -2,7 +2,8 @@
 -- What a task has noted at each place.
 use Prim.Native.Nat.{ℕ}
 use Rattle.plain.specs.State.{Note, Phase, Pop, Push, Work, a1, popping, pushing, a3-read, a3-exchange, a4, a7}
-use Rattle.plain.specs.State.{a8, f1, f2, f3-read, f3-link, f3-exchange, f4-clear, Place, idle, working}
+use Rattle.plain.specs.State.{a8, f1, f2, f3-read, f3-link, f3-exchange, f4-clear, strip-take, strip-give}
+use Rattle.plain.specs.State.{Place, idle, working}
 
 -- "what it noted": of a list, by the phase of its move, which has noted nothing yet at the head read; or of an anchor
 pub data Noted : Type 0 where
@@ -31,6 +32,8 @@ notedAt (f3-read c u y g) = unnoted
 notedAt (f3-link c u y g d n) = entry-noted y d n
 notedAt (f3-exchange c u y g d n) = entry-noted y d n
 notedAt (f4-clear c u d w r) = unnoted
+notedAt (strip-take k) = unnoted
+notedAt (strip-give s) = unnoted
 
 -- an idle task has noted nothing
 abbrev pub noted : Place → Noted

@@ -2,7 +2,9 @@
 -- What the plain pool keeps: rows and plain numbers, no links and no head words.
 use mathlib.Core.List.{List}
 use Prim.Native.Nat.{ℕ, _+_}
+use Rattle.limits.specs.Limits.{WHOLE-ORDER}
 use Rattle.rows.specs.Update.{update}
+use Rattle.pieces.specs.Pieces.{Pieces}
 
 -- an anchor's "state .. (0 EMPTY, 1 PARTIAL, 2 FULL)"
 pub data State : Type 0 where
@@ -76,6 +78,10 @@ pub data Work : Type 0 where
   f3-link : (c u y : ℕ) (g : List ℕ) (d : ℕ) (n : Note) → Work
   f3-exchange : (c u y : ℕ) (g : List ℕ) (d : ℕ) (n : Note) → Work
   f4-clear : (c u d : ℕ) (w : State) (r : ℕ) → Work
+  -- a strip of order k is to be taken
+  strip-take : (k : ℕ) → Work
+  -- the strip at the slot s, whose free has begun, is to be given back
+  strip-give : (s : ℕ) → Work
 
 -- "each task's request": none, or one that it is at work on
 pub data Place : Type 0 where
@@ -88,7 +94,8 @@ pub record Task : Type 0 where
   pub cache : ℕ → List ℕ
 
 -- "each list as a row from the top, with the number of its won exchanges since the start, never wrapping; .. the map;
--- the caches as rows; the blocks in users' hands", with the descriptors and the tasks above
+-- the caches as rows; the blocks in users' hands", with the descriptors and the tasks above, and the strips' memory in
+-- pieces: "each unit of that area is in exactly one strip or free piece" (the request for strips)
 pub record Mem : Type 0 where
   pub row : ℕ → List ℕ
   pub won : ℕ → ℕ
@@ -98,6 +105,7 @@ pub record Mem : Type 0 where
   -- 1 for a block in a user's hands, by its unit, else 0
   pub hands : ℕ → ℕ
   pub task : ℕ → Task
+  pub strips : Pieces WHOLE-ORDER
 
 -- the task t is now T
 abbrev pub setTask : ℕ → Task → Mem → Mem
@@ -108,6 +116,7 @@ setTask t T m = record {
   map = m .map;
   hands = m .hands;
   task = update (m .task) t T;
+  strips = m .strips;
 }
 
 -- a won exchange of the list ℓ, after which its row is q: "takes or puts the top item and adds one"
@@ -119,6 +128,7 @@ setRow ℓ q m = record {
   map = m .map;
   hands = m .hands;
   task = m .task;
+  strips = m .strips;
 }
 
 -- the descriptor d is now D
@@ -130,6 +140,7 @@ setDescriptor d D m = record {
   map = m .map;
   hands = m .hands;
   task = m .task;
+  strips = m .strips;
 }
 
 -- the map's entry of the region r is now z
@@ -141,6 +152,7 @@ setMap r z m = record {
   map = update (m .map) r z;
   hands = m .hands;
   task = m .task;
+  strips = m .strips;
 }
 
 -- the block of the unit u is now in a user's hands, where b is 1, or no longer, where it is 0
@@ -152,4 +164,17 @@ setHands u b m = record {
   map = m .map;
   hands = update (m .hands) u b;
   task = m .task;
+  strips = m .strips;
+}
+
+-- the pieces of the strips' memory are now p
+abbrev pub setStrips : Pieces WHOLE-ORDER → Mem → Mem
+setStrips p m = record {
+  row = m .row;
+  won = m .won;
+  descriptor = m .descriptor;
+  map = m .map;
+  hands = m .hands;
+  task = m .task;
+  strips = p;
 }

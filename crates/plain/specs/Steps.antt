@@ -11,13 +11,16 @@ use Rattle.rows.specs.Branch.{if, both}
 use Rattle.rows.specs.Update.{update}
 use Rattle.classes.specs.Classes.{perRegion}
 use Rattle.classes.specs.Geometry.{unitOf, regionOf}
+use Rattle.pieces.specs.Strips.{StripTaken, none-found, strip-at, takeStrip, giveStrip}
+use Rattle.pieces.specs.StripUnits.{stripUnit}
 use Rattle.plain.specs.State.{State, EMPTY, PARTIAL, FULL, stateNumber, Descriptor, Note, Phase, read, next}
 use Rattle.plain.specs.State.{exchange, Pop, partial, spare, region, Push, retire, back, release, offer, Place}
 use Rattle.plain.specs.State.{idle, a1, popping, pushing, a3-read, a3-exchange, a4, a7, a8, f1, f2, f3-read}
 use Rattle.plain.specs.State.{f3-link, f3-exchange, f4-clear, Mem, setTask, setRow, setDescriptor, setMap}
-use Rattle.plain.specs.State.{setHands, Work, working}
+use Rattle.plain.specs.State.{setHands, Work, working, strip-take, strip-give, setStrips}
 use Rattle.plain.specs.Moves.{Decided, nothing, found-empty, popped, pushed, lost, anchor-empty, took, gave}
-use Rattle.plain.specs.Moves.{anchor-lost, Answer, going, finished, ended, refused}
+use Rattle.plain.specs.Moves.{anchor-lost, strip-taken, strip-given, no-strip, Answer, going, finished}
+use Rattle.plain.specs.Moves.{finishedBy, ended, refused}
 
 -- a step gives the pool after it and the answer
 abbrev pub Result : Type 0
@@ -244,6 +247,15 @@ module _ (t : ℕ) (k : ℕ → List ℕ) where
       (f3Won (ℕ-discrete (length (y ∷ (g ++ D .chain))) (perRegion c)) c u y g d (n .state) m)
       (atWork (f3-read c u y g) m, going (anchor-lost d))
 
+  -- the request for a strip: "finishes, or ends with 16, in its first step, which is one move of the whole run"
+  abbrev pub stripTakeStep : StripTaken → Mem → Result
+  stripTakeStep none-found m = (atPlace idle m, ended 16 no-strip)
+  stripTakeStep (strip-at s p) m = (atPlace idle (setStrips p m), finishedBy (strip-taken s) (stripUnit s))
+
+  -- the free of the strip at the slot s: "Freed halves join whenever both are free"
+  abbrev pub stripGiveStep : ℕ → Mem → Result
+  stripGiveStep s m = (atPlace idle (setStrips (giveStrip s (m .strips)) m), finishedBy (strip-given s) 0)
+
   -- the step list, by place
   abbrev pub stepAt : Work → Mem → Result
   stepAt (a1 c) m = a1Step c (k c) m
@@ -261,6 +273,8 @@ module _ (t : ℕ) (k : ℕ → List ℕ) where
   stepAt (f3-exchange c u y g d n) m = f3Exchange c u y g d n m
   -- free, step 4: "one step clears the map entry of the group's region"
   stepAt (f4-clear c u d w r) m = (atWork (pushing (release c u d w r) read) (setMap r 0 m), going nothing)
+  stepAt (strip-take order) m = stripTakeStep (takeStrip order (m .strips)) m
+  stepAt (strip-give s) m = stripGiveStep s m
 
 -- "7 step without one": a task that is idle makes no step
 abbrev pub whenWorking : Place → (Work → Result) → Mem → Result

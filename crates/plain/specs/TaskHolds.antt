@@ -4,13 +4,13 @@ use mathlib.Core.Path.{_≡_}
 use mathlib.Core.List.{List, _∷_, []}
 use Prim.Native.Nat.{ℕ, suc, _+_, _≤_, _<_}
 use lib.ListN.{length}
-use Rattle.limits.specs.Limits.{CLASSES}
+use Rattle.limits.specs.Limits.{CLASSES, ORDERS, SLOTS}
 use Rattle.rows.specs.Counting.{count}
 use Rattle.classes.specs.Classes.{perRegion}
 use Rattle.classes.specs.Geometry.{regionOf}
 use Rattle.plain.specs.State.{stateNumber, Phase, read, next, exchange, retire, back, release, offer, Place, idle}
 use Rattle.plain.specs.State.{a1, popping, pushing, a3-read, a3-exchange, a4, a7, a8, f1, f2, f3-read, f3-link}
-use Rattle.plain.specs.State.{f3-exchange, f4-clear, Task, Mem, Work, working, Push}
+use Rattle.plain.specs.State.{f3-exchange, f4-clear, strip-take, strip-give, Task, Mem, Work, working, Push}
 use Rattle.plain.specs.Steps.{popList, pushList}
 use Rattle.plain.specs.Held.{popHeld, Held, blockIn, descriptorIn, held}
 use Rattle.plain.specs.Noted.{Noted, unnoted, pop-noted, push-noted, anchor-noted, entry-noted, noted}
@@ -43,7 +43,7 @@ PushHolds k (offer c u d) = RoomInCache k c
 -- step 7, its cache is empty; an anchor that is to be exchanged was not noted as EMPTY; the taken chain and the cache
 -- have fewer than n blocks; as many blocks are cached as carved. In a free, group and cache are not both empty, and
 -- have at most n blocks; the group lies in one region, and has at most n blocks with the chain that was noted; after
--- its return the cache has fewer than n.
+-- its return the cache has fewer than n. The order and the slot of a strip's request are one of the orders and slots.
 abbrev pub HoldsAt : (ℕ → List ℕ) → Work → Type 0
 HoldsAt k (a1 c) = c < CLASSES
 HoldsAt k (popping p φ) = EmptyCache k (popHeld p .class)
@@ -64,6 +64,8 @@ HoldsAt k (f3-exchange c u y g d n) =
     (c < CLASSES) × (length (k c) + suc (length g) ≤ perRegion c) × Together y g
     × (n .length + suc (length g) ≤ perRegion c)
 HoldsAt k (f4-clear c u d w r) = RoomInCache k c
+HoldsAt k (strip-take j) = j < ORDERS
+HoldsAt k (strip-give s) = s < SLOTS
 
 -- What holds of the caches k at a place: of an idle task nothing is asked.
 abbrev pub PlaceHolds : (ℕ → List ℕ) → Place → Type 0

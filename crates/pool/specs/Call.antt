@@ -8,16 +8,17 @@ use Rattle.control.specs.Answers.{numberOf}
 use Rattle.stepped.specs.Outcome.{Effect}
 use Rattle.stepped.specs.Calls.{effectOf}
 
--- "For every input, the answer and each byte of both memories afterwards": the answer as one number, and the two
--- memories, are those of the definition's effect.
-pub record EffectIs (e : Effect) (control area : List ℕ) (r : ℕ) : Type 0 where
+-- "For every input, the answer and each byte of both memories afterwards", and of the strips' memory: the answer as one
+-- number, and the three memories, are those of the definition's effect.
+pub record EffectIs (e : Effect) (control area strips : List ℕ) (r : ℕ) : Type 0 where
   pub number : r ≡ numberOf (e .answer)
   pub control-is : control ≡ e .control
   pub area-is : area ≡ e .area
+  pub strips-is : strips ≡ e .strips
 
--- What each exported function ensures: the call k, lent the bytes `control` and `area`, leaves control′ and area′ and
--- answers r, as the definitions of the stepped pool say. "exported start, begin and step functions on numbers and byte
--- slices": pool_start, pool_begin_allocate, pool_begin_free and pool_step.
-abbrev pub Ensures : Call → List ℕ → List ℕ → List ℕ → List ℕ → ℕ → Type 0
-Ensures k control area control′ area′ r =
-    EffectIs (effectOf k (record { control = control; area = area })) control′ area′ r
+-- What each exported function ensures: the call k, lent the bytes `control`, `area` and `strips`, leaves control′,
+-- area′ and strips′ and answers r, as the definitions of the stepped pool say. "exported start, begin and step
+-- functions on numbers and byte slices": pool_start, pool_begin_allocate, pool_begin_free and pool_step.
+abbrev pub Ensures : Call → List ℕ → List ℕ → List ℕ → List ℕ → List ℕ → List ℕ → ℕ → Type 0
+Ensures k control area strips control′ area′ strips′ r =
+    EffectIs (effectOf k (record { control = control; area = area; strips = strips })) control′ area′ strips′ r

@@ -1,5 +1,6 @@
-// The functions that firmware calls. Each takes the two memories as byte slices, and answers one number: the code, and
-// 256 times the value. No call asks anything of its caller: any bytes and any numbers are answered.
+// The functions that firmware calls. Each takes the three memories as byte slices, and answers one number: the code,
+// and 256 times the value. Of the strips' memory only the length is asked. No call asks anything of its caller: any
+// bytes and any numbers are answered.
 use begins::allocate;
 use begins::free;
 use begins::tests;
@@ -9,12 +10,12 @@ use steps::step;
 ghost use Rattle.plain.specs.Calls.{start, allocate as allocated, free as freed, step as stepped};
 ghost use Rattle.pool.specs.Call.{Ensures};
 
-// Begins a new run with so many tasks, on any bytes: it fills the control memory, and leaves the area as it is.
+// Begins a new run with so many tasks, on any bytes: it fills the control memory, and leaves the others as they are.
 #[no_mangle]
-pub extern "C" fn pool_start(control: &mut [u8], area: &[u8], tasks: u64) -> u64
+pub extern "C" fn pool_start(control: &mut [u8], area: &[u8], strips: &[u8], tasks: u64) -> u64
     ensures { λ r.
-        ⌜ Ensures (start (record { tasks = tasks })) (now (control .entry)) (now (area .entry)) (now (control .exit))
-        (now (area .entry)) r ⌝ }
+        ⌜ Ensures (start (record { tasks = tasks })) (now (control .entry)) (now (area .entry)) (now (strips .entry))
+        (now (control .exit)) (now (area .entry)) (now (strips .entry)) r ⌝ }
 {
     if control.len() != limits::CONTROL_BYTES {
         return 1;
@@ -29,6 +30,9 @@ pub extern "C" fn pool_start(control: &mut [u8], area: &[u8], tasks: u64) -> u64
     if limits::AREA_BYTES < bytes {
         return 2;
     }
+    if strips.len() != limits::STRIPS_BYTES {
+        return 2;
+    }
     if tasks < 1 {
         return 3;
     }
@@ -39,29 +43,41 @@ pub extern "C" fn pool_start(control: &mut [u8], area: &[u8], tasks: u64) -> u64
     0
 }
 
-// Begins an allocation of so many bytes for a task. It does no step.
+// Begins an allocation of so many bytes for a task, of a block or of a strip. It does no step.
 #[no_mangle]
-pub extern "C" fn pool_begin_allocate(control: &mut [u8], area: &[u8], task: u64, size: u64) -> u64
+pub extern "C" fn pool_begin_allocate(
+    control: &mut [u8],
+    area: &[u8],
+    strips: &[u8],
+    task: u64,
+    size: u64,
+) -> u64
     ensures { λ r.
-        ⌜ Ensures (allocated task size) (now (control .entry)) (now (area .entry)) (now (control .exit))
-        (now (area .entry))
-        r ⌝ }
+        ⌜ Ensures (allocated task size) (now (control .entry)) (now (area .entry)) (now (strips .entry))
+        (now (control .exit)) (now (area .entry)) (now (strips .entry)) r ⌝ }
 {
-    let refused = tests::tests(control, area.len(), task);
+    let refused = tests::tests(control, area.len(), strips.len(), task);
     if refused != 0 {
         return refused as u64;
     }
     answer::number(allocate::begin(control, task as usize, size))
 }
 
-// Begins the free of the block at this unit, by any task: its mark is cleared. It does no step.
+// Begins the free of the block or strip at this unit, by any task: the mark of a block is cleared, and the byte of a
+// strip's slot says that its free has begun. It does no step.
 #[no_mangle]
-pub extern "C" fn pool_begin_free(control: &mut [u8], area: &[u8], task: u64, unit: u64) -> u64
+pub extern "C" fn pool_begin_free(
+    control: &mut [u8],
+    area: &[u8],
+    strips: &[u8],
+    task: u64,
+    unit: u64,
+) -> u64
     ensures { λ r.
-        ⌜ Ensures (freed task unit) (now (control .entry)) (now (area .entry)) (now (control .exit)) (now (area .entry))
-        r ⌝ }
+        ⌜ Ensures (freed task unit) (now (control .entry)) (now (area .entry)) (now (strips .entry))
+        (now (control .exit)) (now (area .entry)) (now (strips .entry)) r ⌝ }
 {
-    let refused = tests::tests(control, area.len(), task);
+    let refused = tests::tests(control, area.len(), strips.len(), task);
     if refused != 0 {
         return refused as u64;
     }
@@ -71,12 +87,12 @@ pub extern "C" fn pool_begin_free(control: &mut [u8], area: &[u8], task: u64, un
 
 // One step of the request that a task has in hand.
 #[no_mangle]
-pub extern "C" fn pool_step(control: &mut [u8], area: &mut [u8], task: u64) -> u64
+pub extern "C" fn pool_step(control: &mut [u8], area: &mut [u8], strips: &[u8], task: u64) -> u64
     ensures { λ r.
-        ⌜ Ensures (stepped task) (now (control .entry)) (now (area .entry)) (now (control .exit)) (now (area .exit))
-        r ⌝ }
+        ⌜ Ensures (stepped task) (now (control .entry)) (now (area .entry)) (now (strips .entry))
+        (now (control .exit)) (now (area .exit)) (now (strips .entry)) r ⌝ }
 {
-    let refused = tests::tests(control, area.len(), task);
+    let refused = tests::tests(control, area.len(), strips.len(), task);
     if refused != 0 {
         return refused as u64;
     }

@@ -1,7 +1,8 @@
 -- docs/POOL.md, "Below the pool"
--- Tests of numbers that hand on the fact they found, for use in a proof by cases.
-use mathlib.Core.Path.{_≡_}
+-- Tests that hand on the fact they found, for use in a proof by cases.
+use mathlib.Core.Path.{_≡_, refl}
 use mathlib.Core.Logic.{_≢_}
+use mathlib.Core.Bool.{Bool, true, false}
 use Prim.Native.Nat.{ℕ, _≤_, _<_}
 use native.Mathlib.Omega.{arith}
 use native.Mathlib.Decide.{ℕ-discrete, decLt}
@@ -23,3 +24,13 @@ pub data Order (u v : ℕ) : Type 0 where
 -- Whether one number is below another.
 pub order? : (u v : ℕ) → Order u v
 order? u v = elim (decLt u v) [ yes l ↦ before l | no n ↦ after (omega arith) ]
+
+-- A test holds, or it fails.
+pub data Truth (b : Bool) : Type 0 where
+  holds : b ≡ true → Truth b
+  fails : b ≡ false → Truth b
+
+-- Whether a test holds.
+pub true? : (b : Bool) → Truth b
+true? true = holds refl
+true? false = fails refl

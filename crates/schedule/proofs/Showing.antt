@@ -7,6 +7,11 @@ use Rattle.schedule.specs.Stand.{lineOf, treated, shown}
 use Rattle.schedule.specs.Bytes.{onBytes, Does}
 
 -- whoever treats a record has its line
-pub shows : (e : Entry) {c a c′ a′ : List ℕ} {r : ℕ} → Does (treated onBytes (e .body)) c a c′ a′ r
-    → Does (shown onBytes e) c a c′ a′ (lineOf e r)
-shows e D = record { control-is = D .control-is; area-is = D .area-is; answer = ap (lineOf e) (D .answer) }
+pub shows : (e : Entry) {c a u c′ a′ u′ : List ℕ} {r : ℕ} → Does (treated onBytes (e .body)) c a u c′ a′ u′ r
+    → Does (shown onBytes e) c a u c′ a′ u′ (lineOf e r)
+shows e D = record {
+  control-is = D .control-is;
+  area-is = D .area-is;
+  strips-is = D .strips-is;
+  answer = ap (lineOf e) (D .answer);
+}

@@ -3,7 +3,7 @@
 use Prim.Native.Nat.{ℕ, _+_, _*_}
 use mathlib.Core.Bool.{cond}
 use lib.Dec.{eqb, ltb}
-use Rattle.limits.specs.Limits.{CONTROL-BYTES, REGION-BYTES}
+use Rattle.limits.specs.Limits.{CONTROL-BYTES, REGION-BYTES, STRIPS-BYTES}
 use Rattle.plain.specs.Calls.{Pool, Call}
 use Rattle.plain.specs.Calls as Calls
 use Rattle.plain.specs.Moves.{Answer}
@@ -15,10 +15,10 @@ use Rattle.schedule.specs.Stand.{Lends, named, as-started}
 abbrev pub answerNumber : Answer → ℕ
 answerNumber y = y .code + CODES * y .value
 
--- a call that is lent the control memory and so many bytes of the area, and its answer as one number
+-- a call that is lent the control memory, so many bytes of the area, and the strips' memory; its answer as one number
 abbrev pub feeding : Call → ℕ → Pool → Pool × ℕ
 feeding k area p =
-    let x = Calls.plainCall k (record { control = CONTROL-BYTES; area = area }) p in
+    let x = Calls.plainCall k (record { control = CONTROL-BYTES; area = area; strips = STRIPS-BYTES }) p in
     (x .0, answerNumber (x .1))
 
 -- how many regions the last accepted start was lent: none before the first

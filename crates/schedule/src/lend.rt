@@ -1,4 +1,4 @@
-// The calls on the stand's two memories. A start is lent the regions that it names; every other call the area of the
+// The calls on the stand's three memories. A start is lent the regions that it names; every other call the area of the
 // last accepted start, none before the first.
 use control::started;
 ghost use mathlib.Core.Path.{_≡_};
@@ -30,46 +30,45 @@ fn lent(control: &[u8]) -> usize
 }
 
 // A start with so many tasks and regions: "more than 4 regions is 2".
-pub fn start(control: &mut [u8], area: &mut [u8], tasks: u8, regions: u8) -> u64
-    requires { ⌜ StandMemories (now control) (now area) ⌝ }
+pub fn start(control: &mut [u8], area: &mut [u8], strips: &[u8], tasks: u8, regions: u8) -> u64
+    requires { ⌜ StandMemories (now control) (now area) (now strips) ⌝ }
     ensures { λ r.
         ⌜ Does (onBytes (started (record { tasks = tasks })) (named regions)) (now (control .entry)) (now (area .entry))
-        (now (control .exit)) (now (area .exit)) r ⌝ }
+        (now (strips .entry)) (now (control .exit)) (now (area .exit)) (now (strips .entry)) r ⌝ }
 {
     if STAND_REGIONS < (regions as usize) {
         return 2;
     }
     let n = limits::REGION_BYTES * (regions as usize);
-    pool::pool_start(control, &area[0..n], tasks as u64)
+    pool::pool_start(control, &area[0..n], strips, tasks as u64)
 }
 
-pub fn allocate(control: &mut [u8], area: &mut [u8], task: u8, size: u16) -> u64
-    requires { ⌜ StandMemories (now control) (now area) ⌝ }
+pub fn allocate(control: &mut [u8], area: &mut [u8], strips: &[u8], task: u8, size: u16) -> u64
+    requires { ⌜ StandMemories (now control) (now area) (now strips) ⌝ }
     ensures { λ r.
         ⌜ Does (onBytes (allocated task size) as-started) (now (control .entry)) (now (area .entry))
-        (now (control .exit))
-        (now (area .exit)) r ⌝ }
+        (now (strips .entry)) (now (control .exit)) (now (area .exit)) (now (strips .entry)) r ⌝ }
 {
     let n = lent(control);
-    pool::pool_begin_allocate(control, &area[0..n], task as u64, size as u64)
+    pool::pool_begin_allocate(control, &area[0..n], strips, task as u64, size as u64)
 }
 
-pub fn free(control: &mut [u8], area: &mut [u8], task: u8, unit: u16) -> u64
-    requires { ⌜ StandMemories (now control) (now area) ⌝ }
+pub fn free(control: &mut [u8], area: &mut [u8], strips: &[u8], task: u8, unit: u16) -> u64
+    requires { ⌜ StandMemories (now control) (now area) (now strips) ⌝ }
     ensures { λ r.
-        ⌜ Does (onBytes (freed task unit) as-started) (now (control .entry)) (now (area .entry)) (now (control .exit))
-        (now (area .exit)) r ⌝ }
+        ⌜ Does (onBytes (freed task unit) as-started) (now (control .entry)) (now (area .entry))
+        (now (strips .entry)) (now (control .exit)) (now (area .exit)) (now (strips .entry)) r ⌝ }
 {
     let n = lent(control);
-    pool::pool_begin_free(control, &area[0..n], task as u64, unit as u64)
+    pool::pool_begin_free(control, &area[0..n], strips, task as u64, unit as u64)
 }
 
-pub fn step(control: &mut [u8], area: &mut [u8], task: u8) -> u64
-    requires { ⌜ StandMemories (now control) (now area) ⌝ }
+pub fn step(control: &mut [u8], area: &mut [u8], strips: &[u8], task: u8) -> u64
+    requires { ⌜ StandMemories (now control) (now area) (now strips) ⌝ }
     ensures { λ r.
-        ⌜ Does (onBytes (stepped task) as-started) (now (control .entry)) (now (area .entry)) (now (control .exit))
-        (now (area .exit)) r ⌝ }
+        ⌜ Does (onBytes (stepped task) as-started) (now (control .entry)) (now (area .entry))
+        (now (strips .entry)) (now (control .exit)) (now (area .exit)) (now (strips .entry)) r ⌝ }
 {
     let n = lent(control);
-    pool::pool_step(control, &mut area[0..n], task as u64)
+    pool::pool_step(control, &mut area[0..n], strips, task as u64)
 }

@@ -1,5 +1,5 @@
-// The stand's work: the records of a schedule, the calls on the stand's two memories, the treatment of each record, and
-// the tally.
+// The stand's work: the records of a schedule, the calls on the stand's three memories, the treatment of each record,
+// and the tally.
 pub mod lend;
 pub mod record;
 pub mod tallied;

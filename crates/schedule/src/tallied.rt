@@ -16,16 +16,22 @@ pub fn count_in(tally: &mut Tally, code: u64)
     *tally = tally::count(*tally, code);
 }
 
-// The treatment of a record, which is handed the tally and counts the record in it by its code: its line, the two
+// The treatment of a record, which is handed the tally and counts the record in it by its code: its line, the three
 // memories and the tally afterwards.
-pub fn treat_counted(control: &mut [u8], area: &mut [u8], entry: Entry, tally: &mut Tally) -> Line
-    requires { ⌜ StandMemories (now control) (now area) ⌝ }
+pub fn treat_counted(
+    control: &mut [u8],
+    area: &mut [u8],
+    strips: &[u8],
+    entry: Entry,
+    tally: &mut Tally,
+) -> Line
+    requires { ⌜ StandMemories (now control) (now area) (now strips) ⌝ }
     ensures { λ r.
-        ⌜ Does (shown onBytes entry) (now (control .entry)) (now (area .entry)) (now (control .exit)) (now (area .exit))
-        r
+        ⌜ Does (shown onBytes entry) (now (control .entry)) (now (area .entry)) (now (strips .entry))
+        (now (control .exit)) (now (area .exit)) (now (strips .entry)) r
         × (now (tally .exit) ≡ counted (now (tally .entry)) (r .code)) ⌝ }
 {
-    let line = treat::show(control, area, entry);
+    let line = treat::show(control, area, strips, entry);
     count_in(tally, line.code);
     line
 }
@@ -38,14 +44,21 @@ pub struct Treated {
 }
 
 // The treatment of a record with a tally by value: a copy of it is lent to the treatment, and returned.
-pub fn treat_with(control: &mut [u8], area: &mut [u8], entry: Entry, tally: Tally) -> Treated
-    requires { ⌜ StandMemories (now control) (now area) ⌝ }
+pub fn treat_with(
+    control: &mut [u8],
+    area: &mut [u8],
+    strips: &[u8],
+    entry: Entry,
+    tally: Tally,
+) -> Treated
+    requires { ⌜ StandMemories (now control) (now area) (now strips) ⌝ }
     ensures { λ r.
-        ⌜ Does (shown onBytes entry) (now (control .entry)) (now (area .entry)) (now (control .exit)) (now (area .exit))
-        (r .line) × (r .tally ≡ counted tally (r .line .code)) ⌝ }
+        ⌜ Does (shown onBytes entry) (now (control .entry)) (now (area .entry)) (now (strips .entry))
+        (now (control .exit)) (now (area .exit)) (now (strips .entry)) (r .line)
+        × (r .tally ≡ counted tally (r .line .code)) ⌝ }
 {
     let mut lent = tally;
-    let line = treat_counted(control, area, entry, &mut lent);
+    let line = treat_counted(control, area, strips, entry, &mut lent);
     Treated {
         line: line,
         tally: lent,

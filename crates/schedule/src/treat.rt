@@ -15,16 +15,16 @@ pub struct Line {
 }
 
 // "5 run .. stops at a finish, an end or a refusal (most 0: code 0, no call made)". It answers as the last call.
-fn run(control: &mut [u8], area: &mut [u8], task: u8, most: u16) -> u64
-    requires { ⌜ StandMemories (now control) (now area) ⌝ }
+fn run(control: &mut [u8], area: &mut [u8], strips: &[u8], task: u8, most: u16) -> u64
+    requires { ⌜ StandMemories (now control) (now area) (now strips) ⌝ }
     ensures { λ r.
-        ⌜ Does (runs onBytes 0 task most) (now (control .entry)) (now (area .entry)) (now (control .exit))
-        (now (area .exit)) r ⌝ }
+        ⌜ Does (runs onBytes 0 task most) (now (control .entry)) (now (area .entry))
+        (now (strips .entry)) (now (control .exit)) (now (area .exit)) (now (strips .entry)) r ⌝ }
 {
     let mut left = most;
     let mut answer: u64 = 0;
     while 0 < left {
-        answer = lend::step(control, area, task);
+        answer = lend::step(control, area, strips, task);
         if answer == 0 {
             left -= 1;
         } else {
@@ -34,33 +34,32 @@ fn run(control: &mut [u8], area: &mut [u8], task: u8, most: u16) -> u64
     answer
 }
 
-// What a record does to the two memories, and what it answers: the code, and `CODES` times the value.
-pub fn treat(control: &mut [u8], area: &mut [u8], body: Record) -> u64
-    requires { ⌜ StandMemories (now control) (now area) ⌝ }
+// What a record does to the three memories, and what it answers: the code, and `CODES` times the value.
+pub fn treat(control: &mut [u8], area: &mut [u8], strips: &[u8], body: Record) -> u64
+    requires { ⌜ StandMemories (now control) (now area) (now strips) ⌝ }
     ensures { λ r.
-        ⌜ Does (treated onBytes body) (now (control .entry)) (now (area .entry)) (now (control .exit))
-        (now (area .exit))
-        r ⌝ }
+        ⌜ Does (treated onBytes body) (now (control .entry)) (now (area .entry))
+        (now (strips .entry)) (now (control .exit)) (now (area .exit)) (now (strips .entry)) r ⌝ }
 {
     match body {
-        Record::Start(tasks, regions) => lend::start(control, area, tasks, regions),
-        Record::Allocate(task, size) => lend::allocate(control, area, task, size),
-        Record::Free(task, unit) => lend::free(control, area, task, unit),
-        Record::Step(task) => lend::step(control, area, task),
-        Record::Run(task, most) => run(control, area, task, most),
+        Record::Start(tasks, regions) => lend::start(control, area, strips, tasks, regions),
+        Record::Allocate(task, size) => lend::allocate(control, area, strips, task, size),
+        Record::Free(task, unit) => lend::free(control, area, strips, task, unit),
+        Record::Step(task) => lend::step(control, area, strips, task),
+        Record::Run(task, most) => run(control, area, strips, task, most),
         Record::Bad => 15,
     }
 }
 
-// What a record does to the two memories, and its line.
-pub fn show(control: &mut [u8], area: &mut [u8], entry: Entry) -> Line
-    requires { ⌜ StandMemories (now control) (now area) ⌝ }
+// What a record does to the three memories, and its line.
+pub fn show(control: &mut [u8], area: &mut [u8], strips: &[u8], entry: Entry) -> Line
+    requires { ⌜ StandMemories (now control) (now area) (now strips) ⌝ }
     ensures { λ r.
-        ⌜ Does (shown onBytes entry) (now (control .entry)) (now (area .entry)) (now (control .exit)) (now (area .exit))
-        r ⌝ }
+        ⌜ Does (shown onBytes entry) (now (control .entry)) (now (area .entry))
+        (now (strips .entry)) (now (control .exit)) (now (area .exit)) (now (strips .entry)) r ⌝ }
 {
     let body = entry.body;
-    let number = treat(control, area, body);
+    let number = treat(control, area, strips, body);
     Line {
         number: entry.number,
         kind: entry.kind,

@@ -8,7 +8,7 @@ use native.Mathlib.Decide.{ℕ-discrete}
 use borrow.Author.Tests.{eq-eqb, ne-eqb, le-ltb}
 use borrow.Rule.Slice.PartMut.{midOf}
 use lib.ListN.{length}
-use Rattle.limits.specs.Limits.{CONTROL-BYTES, REGION-BYTES, TAGS}
+use Rattle.limits.specs.Limits.{REGION-BYTES, STRIPS-BYTES, TAGS}
 use Rattle.fields.specs.Columns.{View}
 use Rattle.links.specs.Link.{link}
 use Rattle.links.proofs.Links.{length-linked}
@@ -19,7 +19,7 @@ use Rattle.plain.specs.Calls as Calls
 use Rattle.plain.proofs.CallAnswers.{most}
 use Rattle.control.specs.Layout.{Tasks, seen}
 use Rattle.control.specs.Answers.{numberOf}
-use Rattle.stepped.specs.Outcome.{Effect, Memories}
+use Rattle.stepped.specs.Outcome.{Effect, Memories, memoriesAfter}
 use Rattle.stepped.specs.Calls.{effectOf, lending, lengths}
 use Rattle.stepped.specs.Calls as Stepped
 use Rattle.agreement.specs.Events.{stepped, whole, Premise}
@@ -35,16 +35,18 @@ use Rattle.schedule.specs.Stand.{as-started}
 use Rattle.schedule.specs.Bytes.{lentRegions, onPart, onBytes}
 use Rattle.schedule.specs.Plain.{answerNumber, feeding, regionsFed, onPlain}
 use Rattle.stand_agreement.proofs.LentArea.{part-length, part-back, back-length}
-use Rattle.stand_agreement.proofs.Fed.{SameStart, allocate-keeps, free-keeps, step-keeps, same-regions}
+use Rattle.stand_agreement.proofs.Fed.{standLengths, SameStart, allocate-keeps, free-keeps, step-keeps}
+use Rattle.stand_agreement.proofs.Fed.{same-regions}
 
 -- the memories that a call is lent with n regions
 abbrev pub partOf : ℕ → Memories → Memories
-partOf n s = record { control = s .control; area = midOf 0 (REGION-BYTES * n) (s .area) }
+partOf n s = record { control = s .control; area = midOf 0 (REGION-BYTES * n) (s .area); strips = s .strips }
 
 -- The stand's memories beside the plain pool: a run reaches the part of them that is lent, and no list has won more
 -- than n exchanges.
 pub record Beside (n : ℕ) (s : Memories) (p : Pool) : Type 0 where
   pub area-is : length (s .area) ≡ STAND-AREA
+  pub strips-is : length (s .strips) ≡ STRIPS-BYTES
   pub few : regionsFed p ≤ STAND-REGIONS
   pub history : History
   pub reached : Reached history (partOf (regionsFed p) s) p
@@ -59,6 +61,7 @@ pub later : {n m : ℕ} {s : Memories} {p : Pool} → n ≤ m → Beside n s p �
 later h B =
     record {
       area-is = B .area-is;
+      strips-is = B .strips-is;
       few = B .few;
       history = B .history;
       reached = B .reached;
@@ -102,29 +105,28 @@ module _ {n : ℕ} {s : Memories} {p : Pool} (B : Beside n s p) (small : n < TAG
 
   -- what the plain pool is fed
   abbrev fed : Lengths
-  fed = record { control = CONTROL-BYTES; area = REGION-BYTES * regions }
+  fed = standLengths regions
 
   as-fed : (q : Call) → whole (eventOfCall q lent) p ≡ Calls.plainCall q fed p
   as-fed q =
-      ap (λ (k : ℕ). Calls.plainCall q (record { control = k; area = length (lent .area) }) p) (tied B .length)
-      ∙ ap (λ (k : ℕ). Calls.plainCall q (record { control = CONTROL-BYTES; area = k }) p) part-is
+      λ i. Calls.plainCall q (record { control = tied B .length i; area = part-is i; strips = B .strips-is i }) p
 
   -- ---- a call that is no start, by its own effect
 
   module _ (q : Call) (premise : Premise (eventOfCall q lent) p)
-      (long : length (effectOf q lent .area) ≡ length (lent .area))
+      (long : length (effectOf q lent .area) ≡ length (lent .area)) (same : effectOf q lent .strips ≡ s .strips)
       (keeps : SameStart p (Calls.plainCall q fed p .0)) where
     abbrev e : Effect
     e = effectOf q lent
 
     abbrev left : Memories
-    left = record { control = e .control; area = e .area }
+    left = memoriesAfter e
 
     same-call : SameAnswer (suc n) (onPart q (REGION-BYTES * regions) s) (feeding q (REGION-BYTES * regions) p)
     same-call =
         let S =
         shows (on-own q left (numberOf (e .answer))) lent
-        (record { number = refl; control-is = refl; area-is = refl }) in
+        (record { number = refl; control-is = refl; area-is = refl; strips-is = refl }) in
         let H = happened (eventOfCall q lent) lent p ∷ B .history in
         let A = reached-agrees (B .history) lent p (B .reached) (eventOfCall q lent) premise in
         let p′ = Calls.plainCall q fed p .0 in
@@ -135,6 +137,7 @@ module _ {n : ℕ} {s : Memories} {p : Pool} (B : Beside n s p) (small : n < TAG
           control = e .control;
           area = part-back (REGION-BYTES * regions) (s .area) (e .area)
               (long ∙ part-is) i;
+          strips = e .strips;
         } in
         record {
           number = sum (S .answers) ∙ ap answerNumber (A .0 .says) ∙ ap (λ x. answerNumber (x .1)) (as-fed q);
@@ -142,6 +145,7 @@ module _ {n : ℕ} {s : Memories} {p : Pool} (B : Beside n s p) (small : n < TAG
             area-is =
                 back-length (REGION-BYTES * regions) (s .area) (e .area) (omega (arith, B .few, B .area-is))
                 (long ∙ part-is) ∙ B .area-is;
+            strips-is = ap length same ∙ B .strips-is;
             few = omega (arith, B .few, r);
             history = H;
             reached =
@@ -174,15 +178,15 @@ module _ {n : ℕ} {s : Memories} {p : Pool} (B : Beside n s p) (small : n < TAG
   pub same-allocate : (t size : ℕ) → SameAnswer (suc n) (onBytes (allocate t size) as-started s)
       (onPlain (allocate t size) as-started p)
   same-allocate t size =
-      same-lent (allocate t size) tt (length-linked (Stepped.allocateOutcome long v t size .links) (lent .area))
+      same-lent (allocate t size) tt (length-linked (Stepped.allocateOutcome long v t size .links) (lent .area)) refl
       (allocate-keeps fed t p size)
 
   pub same-free : (t u : ℕ) → SameAnswer (suc n) (onBytes (free t u) as-started s) (onPlain (free t u) as-started p)
   same-free t u =
-      same-lent (free t u) tt (length-linked (Stepped.freeOutcome long v t u .links) (lent .area))
+      same-lent (free t u) tt (length-linked (Stepped.freeOutcome long v t u .links) (lent .area)) refl
       (free-keeps fed t p u)
 
   pub same-step : (t : ℕ) → SameAnswer (suc n) (onBytes (step t) as-started s) (onPlain (step t) as-started p)
   same-step t =
       same-lent (step t) (near t) (length-linked (Stepped.stepOutcome long v (link (lent .area)) t .links) (lent .area))
-      (step-keeps fed t p)
+      refl (step-keeps fed t p)

@@ -10,20 +10,20 @@ use borrow.Author.Tests.{eq-eqb, ne-eqb, lt-ltb, le-ltb}
 use borrow.Rule.Slice.PartMut.{putMid, put-same}
 use lib.Dec.{eqb}
 use lib.ListN.{length}
-use Rattle.limits.specs.Limits.{CONTROL-BYTES, REGION-BYTES}
+use Rattle.limits.specs.Limits.{REGION-BYTES}
 use Rattle.plain.specs.Moves.{Answer}
 use Rattle.plain.specs.Calls.{Pool, Start, start, Lengths}
 use Rattle.plain.specs.Calls as Calls
 use Rattle.plain.proofs.CallAnswers.{most}
 use Rattle.control.specs.Answers.{codeOf, numberOf}
 use Rattle.control.specs.declared.answer.Answer.the-variants.{Accepted, Allocated, Freed, NoDescriptor, NoRegion}
-use Rattle.control.specs.declared.answer.Answer.the-variants.{Refused}
+use Rattle.control.specs.declared.answer.Answer.the-variants.{NoStrip, Refused}
 use Rattle.control.specs.declared.answer.Answer as A
-use Rattle.stepped.specs.Outcome.{Effect, Memories}
+use Rattle.stepped.specs.Outcome.{Effect, Memories, memoriesAfter}
 use Rattle.stepped.specs.Calls.{effectOf, lending}
 use Rattle.agreement.specs.Ends.{Begins, startRefusals}
 use Rattle.agreement.specs.Events.{stepped, whole}
-use Rattle.agreement.proofs.Ends.{start-ends}
+use Rattle.agreement.proofs.BeginningEnds.{start-ends}
 use Rattle.agreement.proofs.Lent.{start-leaves}
 use Rattle.agreement.specs.Reached.{History, happened, Reached, by-event}
 use Rattle.agreement.proofs.Theorem.{reached-agrees}
@@ -34,7 +34,7 @@ use Rattle.schedule.specs.Stand.{named}
 use Rattle.schedule.specs.Bytes.{onPart, onBytes}
 use Rattle.schedule.specs.Plain.{answerNumber, feeding, regionsFed, onPlain}
 use Rattle.stand_agreement.proofs.LentArea.{part-length, part-back, back-length}
-use Rattle.stand_agreement.proofs.Fed.{StartIs, accepted, refused, start-is}
+use Rattle.stand_agreement.proofs.Fed.{standLengths, StartIs, accepted, refused, start-is}
 use Rattle.stand_agreement.proofs.Beside.{partOf, Beside, tied, later, sum, SameAnswer}
 
 -- a number that is 0 has the code 0, and the code of a beginning tells its number
@@ -48,6 +48,7 @@ number-code (Allocated u) b = absurd b
 number-code Freed b = absurd b
 number-code NoDescriptor b = absurd b
 number-code NoRegion b = absurd b
+number-code NoStrip b = absurd b
 number-code (Refused n) b = refl
 
 refusal : (a : A.Answer) → Begins startRefusals a → numberOf a ≢ 0 → (n : ℕ) × (a ≡ Refused n)
@@ -56,6 +57,7 @@ refusal (Allocated u) b h = absurd b
 refusal Freed b h = absurd b
 refusal NoDescriptor b h = absurd b
 refusal NoRegion b h = absurd b
+refusal NoStrip b h = absurd b
 refusal (Refused n) b h = (n, refl)
 
 module _ {n : ℕ} {s : Memories} {p : Pool} (B : Beside n s p) (b : Start) (regions : ℕ)
@@ -70,27 +72,28 @@ module _ {n : ℕ} {s : Memories} {p : Pool} (B : Beside n s p) (b : Start) (reg
   r = numberOf (e .answer)
 
   abbrev left : Memories
-  left = record { control = e .control; area = e .area }
+  left = memoriesAfter e
 
   abbrev before : Memories
   before = partOf (regionsFed p) s
 
   abbrev lengths : Lengths
-  lengths = record { control = CONTROL-BYTES; area = REGION-BYTES * regions }
+  lengths = standLengths regions
 
   part-is : length (lent .area) ≡ REGION-BYTES * regions
   part-is = part-length (REGION-BYTES * regions) (s .area) (omega (arith, few, B .area-is))
 
   fed : whole (eventOfCall (start b) lent) p ≡ Calls.plainCall (start b) lengths p
   fed =
-      ap (λ (k : ℕ). Calls.plainCall (start b) (record { control = k; area = length (lent .area) }) p) (tied B .length)
-      ∙ ap (λ (k : ℕ). Calls.plainCall (start b) (record { control = CONTROL-BYTES; area = k }) p) part-is
+      λ i. Calls.plainCall (start b) (record { control = tied B .length i; area = part-is i; strips = B .strips-is i })
+      p
 
   -- what the stepped run and the whole run have of it
   number-same : r ≡ answerNumber (Calls.plainCall (start b) lengths p .1)
   number-same =
       let S =
-      shows (on-other (start b) lent left r) before (record { number = refl; control-is = refl; area-is = refl }, tt) in
+      shows (on-other (start b) lent left r) before
+      (record { number = refl; control-is = refl; area-is = refl; strips-is = refl }, tt) in
       let A = reached-agrees (B .history) before p (B .reached) (eventOfCall (start b) lent) tt in
       sum (S .answers) ∙ ap answerNumber (A .0 .says) ∙ ap (λ x. answerNumber (x .1)) fed
 
@@ -100,7 +103,8 @@ module _ {n : ℕ} {s : Memories} {p : Pool} (B : Beside n s p) (b : Start) (reg
   reached-after : Reached H (cond (eqb r 0) left before) (Calls.plainCall (start b) lengths p .0)
   reached-after =
       let S =
-      shows (on-other (start b) lent left r) before (record { number = refl; control-is = refl; area-is = refl }, tt) in
+      shows (on-other (start b) lent left r) before
+      (record { number = refl; control-is = refl; area-is = refl; strips-is = refl }, tt) in
       subst (λ (z : Memories). Reached H z (Calls.plainCall (start b) lengths p .0)) (S .leaves)
       (subst (λ x. Reached H (stepped (eventOfCall (start b) lent) before .0) (x .0)) fed
       (by-event (B .reached) (eventOfCall (start b) lent) tt))
@@ -116,17 +120,20 @@ module _ {n : ℕ} {s : Memories} {p : Pool} (B : Beside n s p) (b : Start) (reg
 
   accepted-beside : r ≡ 0 → 1 ≤ p′ .tasks → p′ .regions ≡ regions → Beside (suc n) s′ p′
   accepted-beside h k g =
-      let kept : e .area ≡ lent .area =
-      start-leaves b (lending lent) lent
-      (sym (number-code (e .answer) answers) ∙ h) in
-      let long : length (e .area) ≡ REGION-BYTES * regions = ap length kept ∙ part-is in
+      let kept = start-leaves b (lending lent) lent (sym (number-code (e .answer) answers) ∙ h) in
+      let long : length (e .area) ≡ REGION-BYTES * regions = ap length (kept .0) ∙ part-is in
       let q : regionsFed p′ ≡ regions =
       ap (λ (b : Bool). cond b 0 (p′ .regions)) (ne-eqb (p′ .tasks) 0 (λ z. omega arith)) ∙ g in
       let back : partOf regions s′ ≡ left =
-      λ i. record { control = e .control; area = part-back (REGION-BYTES * regions) (s .area) (e .area) long i } in
+      λ i. record {
+        control = e .control;
+        area = part-back (REGION-BYTES * regions) (s .area) (e .area) long i;
+        strips = e .strips;
+      } in
       record {
         area-is =
             back-length (REGION-BYTES * regions) (s .area) (e .area) (omega (arith, few, B .area-is)) long ∙ B .area-is;
+        strips-is = ap length (kept .1) ∙ B .strips-is;
         few = omega (arith, few, q);
         history = H;
         reached =
@@ -139,11 +146,20 @@ module _ {n : ℕ} {s : Memories} {p : Pool} (B : Beside n s p) (b : Start) (reg
   refused-beside : r ≢ 0 → p′ ≡ p → Beside (suc n) s′ p′
   refused-beside h k =
       let R = refusal (e .answer) answers h in
-      let L =
-      start-ends b (lending lent) lent .leaves (R .0) (R .1) in
+      let L = start-ends b (lending lent) lent .leaves (R .0) (R .1) in
+      let back : Memories → Memories =
+      λ m. record {
+        control = m .control;
+        area = putMid 0 (REGION-BYTES * regions) (s .area) (m .area);
+        strips = m .strips;
+      } in
       let same : s ≡ s′ =
-      sym ((λ i. record { control = L .0 i; area = putMid 0 (REGION-BYTES * regions) (s .area) (L .1 i) })
-      ∙ (λ i. record { control = s .control; area = put-same 0 (REGION-BYTES * regions) (s .area) i })) in
+      sym (ap back L
+      ∙ (λ i. record {
+        control = s .control;
+        area = put-same 0 (REGION-BYTES * regions) (s .area) i;
+        strips = s .strips;
+      })) in
       subst (λ (z : Memories). Beside (suc n) z p′) same
       (subst (λ (z : Pool). Beside (suc n) s z) (sym k) (later (omega arith) B))
 

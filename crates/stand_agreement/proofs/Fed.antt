@@ -3,13 +3,17 @@ use Prim.Native.Nat.{ℕ, _*_, _≤_}
 use mathlib.Core.Path.{_≡_, refl}
 use mathlib.Core.Logic.{_≢_}
 use native.Mathlib.Omega.{arith}
-use Rattle.limits.specs.Limits.{CONTROL-BYTES, REGION-BYTES}
+use Rattle.limits.specs.Limits.{CONTROL-BYTES, REGION-BYTES, STRIPS-BYTES}
 use Rattle.plain.specs.Moves.{Answer}
 use Rattle.plain.specs.Steps.{Result}
 use Rattle.plain.specs.Calls.{Pool, Start, Lengths}
 use Rattle.plain.specs.Calls as Calls
 use Rattle.plain.proofs.CallTests.{by-tests, start-numbers, by-start-tests}
 use Rattle.schedule.specs.Plain.{answerNumber, regionsFed}
+
+-- the lengths of what the stand lends with so many regions
+abbrev pub standLengths : ℕ → Lengths
+standLengths regions = record { control = CONTROL-BYTES; area = REGION-BYTES * regions; strips = STRIPS-BYTES }
 
 -- the two pools were started with the same numbers of tasks and regions
 abbrev pub SameStart : Pool → Pool → Type 0
@@ -43,10 +47,9 @@ pub data StartIs (regions : ℕ) (p : Pool) (x : Pool × Answer) : Type 0 where
   refused : x .1 .code ≢ 0 → x .0 ≡ p → StartIs regions p x
 
 pub start-is : (b : Start) (regions : ℕ) (p : Pool)
-    → StartIs regions p
-    (Calls.plainCall (Calls.start b) (record { control = CONTROL-BYTES; area = REGION-BYTES * regions }) p)
+    → StartIs regions p (Calls.plainCall (Calls.start b) (standLengths regions) p)
 unfolding Calls.plainCall
 start-is b regions p =
-    by-start-tests (StartIs regions p) b (record { control = CONTROL-BYTES; area = REGION-BYTES * regions }) p
+    by-start-tests (StartIs regions p) b (standLengths regions) p
     (λ n F. refused (λ e. absurd (omega (arith, start-numbers F, e))) refl)
     (λ T. accepted refl (T .tasks .0) (omega arith))

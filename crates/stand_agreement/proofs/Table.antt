@@ -7,7 +7,7 @@ use native.Mathlib.Decide.{ℕ-discrete, decLt}
 use borrow.Author.Tests.{eq-eqb, ne-eqb, lt-ltb, le-ltb, leb-true}
 use lib.Dec.{eqb, leb}
 use lib.ListN.{length, getD, length-replicate}
-use Rattle.limits.specs.Limits.{CONTROL-BYTES, TAGS}
+use Rattle.limits.specs.Limits.{CONTROL-BYTES, STRIPS-BYTES, TAGS}
 use Rattle.fields.specs.Little.{Bytes, getLE}
 use Rattle.fields.proofs.Little.{getLE-lt}
 use Rattle.plain.specs.Calls.{Pool, step, unstarted}
@@ -164,6 +164,7 @@ zeros-beside : Beside 0 zeros unstarted
 unfolding unstarted
 zeros-beside = record {
   area-is = length-replicate {A = ℕ} STAND-AREA 0;
+  strips-is = length-replicate {A = ℕ} STRIPS-BYTES 0;
   few = omega arith;
   history = [];
   reached =

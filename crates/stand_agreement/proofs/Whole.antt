@@ -16,7 +16,7 @@ pub output-is-plain : (input : List ℕ) → Bytes input → length input ≤ IN
 unfolding output plainOutput
 output-is-plain input b l = ap tableText (stand-table input b l)
 
--- What the stand's program ensures of the two memories (`play` of crates/stand/src/main.rt) holds of the plain pool:
+-- What the stand's program ensures of the three memories (`play` of crates/stand/src/main.rt) holds of the plain pool:
 -- the table that it writes is that of the plain pool fed the same records. The input is any bytes, at most 65,536, and
 -- there is no other premise.
 pub play-is-plain : {out out′ : List ℕ} {r : ℕ} (input : List ℕ) → Bytes input → length input ≤ INPUT-BYTES

@@ -7,7 +7,9 @@ use lib.ListN.{length, drop, replicate, drop-of-length-le}
 use Rattle.limits.specs.Limits.{CONTROL-BYTES, UNITS, DESCRIPTORS, SPARE-DESCRIPTORS, SPARE-REGIONS}
 use Rattle.fields.specs.Columns.{Field, Write, _:=_}
 use Rattle.fields.proofs.Layouts.{length-written}
+use Rattle.strip_tree.specs.Trees.{WHOLE-FREE}
 use Rattle.control.specs.Layout.{CACHES, layout, changed, Head, Tasks, Regions, DescriptorNext, RegionNext, TopOfCache}
+use Rattle.control.specs.Layout.{FreeNodes}
 use Rattle.stepped.specs.Start.{fill, nextUp, startWrites, startImage}
 use Rattle.start.specs.Filled.{filled}
 
@@ -66,24 +68,32 @@ pub with-value : (f : Field) {w : ℕ} (x : ℕ) (b : List ℕ) {after : List �
 with-value f x b e h = h ∙ ap (λ (y : ℕ). changed (f := y ∷ []) b) e
 
 -- the writes of a start one after the other, beginning with zeros
-pub image-is : (tasks regions n : ℕ) {b₀ b₁ b₂ b₃ b₄ b₅ b₆ b₇ : List ℕ} → n ≡ CONTROL-BYTES → b₀ ≡ replicate n 0
+pub image-is : (tasks regions n : ℕ) {b₀ b₁ b₂ b₃ b₄ b₅ b₆ b₇ b₈ : List ℕ} → n ≡ CONTROL-BYTES → b₀ ≡ replicate n 0
     → b₁ ≡ changed (Tasks := tasks ∷ []) b₀
     → b₂ ≡ changed (Regions := regions ∷ []) b₁
     → b₃ ≡ changed (Head SPARE-DESCRIPTORS := 1 ∷ []) b₂
     → b₄ ≡ changed (Head SPARE-REGIONS := 1 ∷ []) b₃
-    → b₅ ≡ filled DescriptorNext (nextUp DESCRIPTORS) DESCRIPTORS b₄
-    → b₆ ≡ filled RegionNext (nextUp regions) regions b₅
-    → b₇ ≡ filled TopOfCache (λ i. UNITS) CACHES b₆ → b₇ ≡ startImage (record { tasks = tasks }) regions
+    → b₅ ≡ changed (FreeNodes 0 := WHOLE-FREE ∷ []) b₄
+    → b₆ ≡ filled DescriptorNext (nextUp DESCRIPTORS) DESCRIPTORS b₅
+    → b₇ ≡ filled RegionNext (nextUp regions) regions b₆
+    → b₈ ≡ filled TopOfCache (λ i. UNITS) CACHES b₇ → b₈ ≡ startImage (record { tasks = tasks }) regions
 unfolding startImage startWrites filled
-image-is tasks regions n e h₀ h₁ h₂ h₃ h₄ h₅ h₆ h₇ =
+image-is tasks regions n e h₀ h₁ h₂ h₃ h₄ h₅ h₆ h₇ h₈ =
     let ds = fill DescriptorNext (nextUp DESCRIPTORS) DESCRIPTORS in
     let rs = fill RegionNext (nextUp regions) regions in
     let ts = fill TopOfCache (λ i. UNITS) CACHES in
     let zeros : List ℕ = replicate CONTROL-BYTES 0 in
-    let heads = Tasks := tasks ∷ Regions := regions ∷ Head SPARE-DESCRIPTORS := 1 ∷ Head SPARE-REGIONS := 1 ∷ [] in
-    h₇
-    ∙ ap (changed ts) (h₆ ∙ ap (changed rs) (h₅ ∙ ap (changed ds)
+    let heads =
+    Tasks := tasks
+    ∷ Regions := regions
+    ∷ Head SPARE-DESCRIPTORS := 1
+    ∷ Head SPARE-REGIONS := 1
+    ∷ FreeNodes 0 := WHOLE-FREE
+    ∷ [] in
+    h₈
+    ∙ ap (changed ts) (h₇ ∙ ap (changed rs) (h₆ ∙ ap (changed ds)
+    (h₅ ∙ ap (changed (FreeNodes 0 := WHOLE-FREE ∷ []))
     (h₄ ∙ ap (changed (Head SPARE-REGIONS := 1 ∷ [])) (h₃ ∙ ap (changed (Head SPARE-DESCRIPTORS := 1 ∷ []))
     (h₂ ∙ ap (changed (Regions := regions ∷ [])) (h₁
-    ∙ ap (changed (Tasks := tasks ∷ [])) (h₀ ∙ ap (λ (k : ℕ). replicate k 0) e)))))))
+    ∙ ap (changed (Tasks := tasks ∷ [])) (h₀ ∙ ap (λ (k : ℕ). replicate k 0) e))))))))
     ∙ sym (changed-append ds (rs ++ ts) (changed heads zeros) ∙ changed-append rs ts (changed ds (changed heads zeros)))

@@ -3,6 +3,8 @@ use control::caches;
 use control::layout;
 use control::lists;
 use control::started;
+use control::strips;
+use strip_tree::tree;
 use words::head::Head;
 ghost use mathlib.Core.Path.{_≡_};
 ghost use Prim.Native.Nat.{_*_, _<_, _≤_};
@@ -88,6 +90,7 @@ pub fn image(control: &mut [u8], tasks: u8, regions: u8)
     let word = first.word();
     lists::set_head(control, limits::SPARE_DESCRIPTORS, word);
     lists::set_head(control, limits::SPARE_REGIONS, word);
+    strips::set_free_nodes(control, 0, tree::WHOLE_FREE);
     chain_descriptors(control);
     chain_regions(control, regions);
     empty_caches(control);

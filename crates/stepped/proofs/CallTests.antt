@@ -6,15 +6,16 @@ use native.Mathlib.Omega.{arith}
 use borrow.Author.Tests.{eq-eqb, ne-eqb, le-leb, lt-leb, lt-ltb, le-ltb, eqb-true, leb-true}
 use lib.Dec.{eqb, leb}
 use lib.ListN.{length}
-use Rattle.limits.specs.Limits.{CONTROL-BYTES, REGIONS, REGION-BYTES, AREA-BYTES, TASKS}
+use Rattle.limits.specs.Limits.{CONTROL-BYTES, REGIONS, REGION-BYTES, AREA-BYTES, TASKS, STRIPS-BYTES}
 use Rattle.fields.specs.Columns.{View}
-use Rattle.plain.specs.Calls.{Start, Lengths, StartArea, StartTested, StartFails, start-control, start-area}
-use Rattle.plain.specs.Calls.{start-tasks}
+use Rattle.plain.specs.Calls.{Start, Lengths, StartLengths, StartedLengths, StartTested, StartFails, start-control}
+use Rattle.plain.specs.Calls.{start-lengths, start-tasks}
 use Rattle.control.specs.Layout.{Tasks, Regions}
 use Rattle.stepped.specs.Outcome.{Outcome, refuse, effect, Memories}
 use Rattle.stepped.specs.Ranges.{oneTo}
 use Rattle.stepped.specs.Calls.{tested, Tested, FirstFails, Lent, lengths, startIn, startEffect}
-use Rattle.stepped.specs.Calls.{control-fails, tasks-fail, not-started, regions-fail, area-fails, task-fails}
+use Rattle.stepped.specs.Calls.{isStartedLengths, isStartLengths}
+use Rattle.stepped.specs.Calls.{control-fails, tasks-fail, not-started, regions-fail, lengths-fail, task-fails}
 use Rattle.stepped.proofs.Conjunction.{both}
 
 -- a test that does not pass fails
@@ -30,6 +31,13 @@ one-to most n h =
 
 -- ---- the tests 1, 4, 2, 5 of a call that is no start
 
+-- lengths that pass test 2
+pub lengths-started : (lent : Lengths) (regions : ℕ) → isStartedLengths lent regions ≡ true
+    → StartedLengths lent regions
+lengths-started lent regions h =
+    let b = both (eqb (lent .area) (REGION-BYTES * regions)) (eqb (lent .strips) STRIPS-BYTES) h in
+    (eqb-true (lent .area) (REGION-BYTES * regions) (b .0), eqb-true (lent .strips) STRIPS-BYTES (b .1))
+
 module _ {lent : Lengths} {v : View} {t : ℕ} (x : Outcome) where
   -- a call that fails one of them is refused
   pub failed : {n : ℕ} → FirstFails lent v t n → tested lent v t x ≡ refuse n
@@ -44,13 +52,13 @@ module _ {lent : Lengths} {v : View} {t : ℕ} (x : Outcome) where
     ne-eqb (v Tasks) 0 (omega (arith, T .1)),
     not-true (oneTo REGIONS (v Regions)) (λ e. h (one-to REGIONS (v Regions) e)),
   )
-  failed (area-fails T R h) = rw (
+  failed (lengths-fail T R h) = rw (
     eq-eqb (lent .control) CONTROL-BYTES (T .0),
     le-leb (v Tasks) TASKS (T .2),
     ne-eqb (v Tasks) 0 (omega (arith, T .1)),
     le-leb 1 (v Regions) (R .0),
     le-leb (v Regions) REGIONS (R .1),
-    ne-eqb (lent .area) (REGION-BYTES * v Regions) h,
+    not-true (isStartedLengths lent (v Regions)) (λ e. h (lengths-started lent (v Regions) e)),
   )
   failed (task-fails T R a h) = rw (
     eq-eqb (lent .control) CONTROL-BYTES (T .0),
@@ -58,7 +66,8 @@ module _ {lent : Lengths} {v : View} {t : ℕ} (x : Outcome) where
     ne-eqb (v Tasks) 0 (omega (arith, T .1)),
     le-leb 1 (v Regions) (R .0),
     le-leb (v Regions) REGIONS (R .1),
-    eq-eqb (lent .area) (REGION-BYTES * v Regions) a,
+    eq-eqb (lent .area) (REGION-BYTES * v Regions) (a .0),
+    eq-eqb (lent .strips) STRIPS-BYTES (a .1),
     le-ltb t (v Tasks) h,
   )
 
@@ -71,17 +80,21 @@ module _ {lent : Lengths} {v : View} {t : ℕ} (x : Outcome) where
     ne-eqb (v Tasks) 0 (omega (arith, T .started)),
     le-leb 1 (v Regions) (T .some),
     le-leb (v Regions) REGIONS (T .regions),
-    eq-eqb (lent .area) (REGION-BYTES * v Regions) (T .area-is),
+    eq-eqb (lent .area) (REGION-BYTES * v Regions) (T .lengths-are .0),
+    eq-eqb (lent .strips) STRIPS-BYTES (T .lengths-are .1),
     lt-ltb t (v Tasks) (T .below),
   )
 
 -- ---- the tests 1, 2, 3 of a start
 
--- an area that passes test 2
-area-fits : (bytes : ℕ) → (eqb (bytes % REGION-BYTES) 0 && oneTo AREA-BYTES bytes) ≡ true → StartArea bytes
-area-fits bytes h =
-    let b = both (eqb (bytes % REGION-BYTES) 0) (oneTo AREA-BYTES bytes) h in
-    (eqb-true (bytes % REGION-BYTES) 0 (b .0), one-to AREA-BYTES bytes (b .1))
+-- lengths that pass test 2
+lengths-fit : (lent : Lengths) → isStartLengths lent ≡ true → StartLengths lent
+lengths-fit lent h =
+    let a = both _ (eqb (lent .strips) STRIPS-BYTES) h in
+    let b = both (eqb (lent .area % REGION-BYTES) 0) (oneTo AREA-BYTES (lent .area)) (a .0) in (
+      (eqb-true (lent .area % REGION-BYTES) 0 (b .0), one-to AREA-BYTES (lent .area) (b .1)),
+      eqb-true (lent .strips) STRIPS-BYTES (a .1),
+    )
 
 module _ (b : Start) (lent : Lent) (s : Memories) where
   abbrev bytes : ℕ
@@ -91,15 +104,16 @@ module _ (b : Start) (lent : Lent) (s : Memories) where
   pub start-failed : {n : ℕ} → StartFails b (lengths lent) n → startIn b lent s ≡ effect (refuse n) s
   unfolding startIn
   start-failed (start-control h) = rw (ne-eqb (lent .control) CONTROL-BYTES h)
-  start-failed (start-area c h) = rw (
+  start-failed (start-lengths c h) = rw (
     eq-eqb (lent .control) CONTROL-BYTES c,
-    not-true (eqb (bytes % REGION-BYTES) 0 && oneTo AREA-BYTES bytes) (λ e. h (area-fits bytes e)),
+    not-true (isStartLengths (lengths lent)) (λ e. h (lengths-fit (lengths lent) e)),
   )
   start-failed (start-tasks c a h) = rw (
     eq-eqb (lent .control) CONTROL-BYTES c,
-    eq-eqb (bytes % REGION-BYTES) 0 (a .0),
-    le-leb 1 bytes (a .1 .0),
-    le-leb bytes AREA-BYTES (a .1 .1),
+    eq-eqb (bytes % REGION-BYTES) 0 (a .0 .0),
+    le-leb 1 bytes (a .0 .1 .0),
+    le-leb bytes AREA-BYTES (a .0 .1 .1),
+    eq-eqb (length (lent .strips)) STRIPS-BYTES (a .1),
     not-true (oneTo TASKS (b .tasks)) (λ e. h (one-to TASKS (b .tasks) e)),
   )
 
@@ -108,9 +122,10 @@ module _ (b : Start) (lent : Lent) (s : Memories) where
   unfolding startIn
   start-passed T = rw (
     eq-eqb (lent .control) CONTROL-BYTES (T .control-is),
-    eq-eqb (bytes % REGION-BYTES) 0 (T .area .0),
-    le-leb 1 bytes (T .area .1 .0),
-    le-leb bytes AREA-BYTES (T .area .1 .1),
+    eq-eqb (bytes % REGION-BYTES) 0 (T .lengths .0 .0),
+    le-leb 1 bytes (T .lengths .0 .1 .0),
+    le-leb bytes AREA-BYTES (T .lengths .0 .1 .1),
+    eq-eqb (length (lent .strips)) STRIPS-BYTES (T .lengths .1),
     le-leb 1 (b .tasks) (T .tasks .0),
     le-leb (b .tasks) TASKS (T .tasks .1),
   )

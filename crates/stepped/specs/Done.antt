@@ -32,13 +32,13 @@ pub record Done (o : Outcome) (before after : List ℕ) (r : Answer) : Type 0 wh
   pub control : after ≡ changed (o .writes) before
   pub links : o .links ≡ []
 
--- A function that is handed both memories.
+-- A function that is handed the control memory and the area.
 pub record DoneIn (o : Outcome) (c a c′ a′ : List ℕ) (r : Answer) : Type 0 where
   pub answer : r ≡ o .answer
   pub control : c′ ≡ changed (o .writes) c
   pub area : a′ ≡ withLinks (o .links) a
 
--- A function that is handed both memories, and answers by one number.
+-- A function that is handed the control memory and the area, and answers by one number.
 pub record NumberIn (o : Outcome) (c a c′ a′ : List ℕ) (r : ℕ) : Type 0 where
   pub number : r ≡ numberOf (o .answer)
   pub control : c′ ≡ changed (o .writes) c

@@ -4,6 +4,7 @@ pub mod Ranges
 pub mod Lists
 pub mod Allocate
 pub mod Free
+pub mod StripSteps
 pub mod Steps
 pub mod Start
 pub mod Calls

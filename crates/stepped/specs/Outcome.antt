@@ -33,23 +33,30 @@ accept e ws ls = record { answer = Accepted; decided = e; writes = ws; links = l
 abbrev pub over : Answer → Decided → List Write → List LinkWrite → Outcome
 over a e ws ls = record { answer = a; decided = e; writes = ws; links = ls }
 
--- the two memories that a call is lent, as bytes
+-- the three memories that a call is lent, as bytes
 pub record Memories : Type 0 where
   pub control : List ℕ
   pub area : List ℕ
+  pub strips : List ℕ
 
--- "For every input, the answer and each byte of both memories afterwards"
+-- "For every input, the answer and each byte of both memories afterwards", and of the strips' memory
 pub record Effect : Type 0 where
   pub answer : Answer
   pub decided : Decided
   pub control : List ℕ
   pub area : List ℕ
+  pub strips : List ℕ
 
--- what an outcome makes of the memories s
+-- the memories that an effect leaves
+abbrev pub memoriesAfter : Effect → Memories
+memoriesAfter e = record { control = e .control; area = e .area; strips = e .strips }
+
+-- what an outcome makes of the memories s; the strips' memory is for the users alone
 abbrev pub effect : Outcome → Memories → Effect
 effect o s = record {
   answer = o .answer;
   decided = o .decided;
   control = changed (o .writes) (s .control);
   area = withLinks (o .links) (s .area);
+  strips = s .strips;
 }

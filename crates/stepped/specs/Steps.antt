@@ -15,6 +15,7 @@ use Rattle.stepped.specs.Outcome.{Outcome, refuse, bad}
 use Rattle.stepped.specs.Lists.{popRead, popNext, popExchange, pushRead, pushNext, pushExchange}
 use Rattle.stepped.specs.Allocate.{a1, a3Read, a3Exchange, a4, a7, a8}
 use Rattle.stepped.specs.Free.{f1, f2, f3Read, f3Link, f3Exchange, f4Clear}
+use Rattle.stepped.specs.StripSteps.{stripTake, stripGive}
 
 module _ (v : View) (link : ℕ → ℕ) (regions t c : ℕ) where
   -- the step at each place, in the order of the table of places; idle has "7 step without one"
@@ -54,13 +55,15 @@ module _ (v : View) (link : ℕ → ℕ) (regions t c : ℕ) where
       ∷ f3Link v link regions t c
       ∷ f3Exchange v link regions t c
       ∷ f4Clear v link regions t c
+      ∷ stripTake v t c
+      ∷ stripGive v t
       ∷ []
 
   -- the step at a place; a place past the list is outside its range
   unfoldable pub stepAt : ℕ → Outcome
   stepAt place = getD stepList place bad
 
--- one step of the task t: at a place other than idle the class of its request is read, too
+-- one step of the task t: at a place other than idle the class of its request is read, too, or the order of its strip
 unfoldable pub stepOf : View → (ℕ → ℕ) → ℕ → ℕ → Outcome
 stepOf v link regions t =
     let place = v (TaskPlace t) in

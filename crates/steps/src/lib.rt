@@ -3,3 +3,4 @@ mod allocate;
 mod free;
 mod moves;
 pub mod step;
+mod strips;

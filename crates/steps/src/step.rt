@@ -2,6 +2,7 @@
 use crate::allocate;
 use crate::free;
 use crate::moves;
+use crate::strips;
 use control::answer;
 use control::answer::Answer;
 use control::places;
@@ -36,7 +37,10 @@ fn later(
     if place < places::F1 {
         return allocate::fill(control, area, regions, task, class, place);
     }
-    free::empty(control, area, regions, task, class, place)
+    if place < places::STRIP_TAKE {
+        return free::empty(control, area, regions, task, class, place);
+    }
+    strips::step(control, regions, task, class, place)
 }
 
 // The step at a place. The first step of either request is asked for first, since most calls are that, and its answer

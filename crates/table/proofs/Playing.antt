@@ -15,7 +15,7 @@ use Rattle.schedule.specs.declared.treat.Line.{Line}
 use Rattle.schedule.specs.Records.{INPUT-BYTES, recordAt, entryAt, endOf}
 use Rattle.schedule.specs.Tally.{noneCounted, counted}
 use Rattle.schedule.specs.Stand.{shown, table}
-use Rattle.schedule.specs.Bytes.{onBytes, Does}
+use Rattle.schedule.specs.Bytes.{onBytes, together, Does}
 use Rattle.text.specs.Texts.{Appended}
 use Rattle.text.specs.Lines.{LINE-BYTES, columnsText, lineText, totalText}
 use Rattle.text.proofs.Digits.{short-line}
@@ -89,7 +89,7 @@ module _ (input : List ℕ) where
 
   -- the line of one of the first 100,000 records is short
   pub short : (at n : ℕ) {e : Entry} → e ≡ entryAt input at n → n < 10 ^ 5
-      → {control area control′ area′ : List ℕ} {line : Line} → Does (shown onBytes e) control area control′ area′ line
+      → {c a u c′ a′ u′ : List ℕ} {line : Line} → Does (shown onBytes e) c a u c′ a′ u′ line
       → line .kind < 256 → line .value < 2 ^ 64 → length (textOf line) ≤ LINE-BYTES
   short at n {e} is few {line = line} D kind value =
       short-line (line .number) (line .kind) (line .code) (line .value)
@@ -102,15 +102,15 @@ module _ (input : List ℕ) where
   module _ {s₀ s : Memories} {used at n : ℕ} {y : Tally} {out : List ℕ} (A : TableAhead s₀ used at n y s out)
       (h : at < length input) where
     pub goes-on : {e : Entry} → e ≡ entryAt input at n
-        → {control area : List ℕ} {line : Line} → Does (shown onBytes e) (s .control) (s .area) control area line
+        → {c a u : List ℕ} {line : Line} → Does (shown onBytes e) (s .control) (s .area) (s .strips) c a u line
         → {out′ : List ℕ} {used′ : ℕ}
         → Appended out out′ used (textOf line) used′ × (length (textOf line) ≤ LINE-BYTES)
         → {next : ℕ} {z : Tally} → z ≡ counted y (line .code) → next ≡ endOf (e .body) at (length input)
-        → TableAhead s₀ used′ next (n + 1) z (record { control = control; area = area }) out′
-    goes-on {e} is {control} {area} {line} D {out′} {used′} w {next} {z} counts end = by (A .fuel) (A .enough) (A .said)
+        → TableAhead s₀ used′ next (n + 1) z (together c a u) out′
+    goes-on {e} is {c} {a} {u} {line} D {out′} {used′} w {next} {z} counts end = by (A .fuel) (A .enough) (A .said)
       where
         by : (f : ℕ) → length input - at ≤ f → output input s₀ ≡ take used out ++ ahead f at n y s
-            → TableAhead s₀ used′ next (n + 1) z (record { control = control; area = area }) out′
+            → TableAhead s₀ used′ next (n + 1) z (together c a u) out′
         by zero l q = absurd (omega arith)
         by (suc f) l q = record {
           fuel = f;
@@ -122,7 +122,7 @@ module _ (input : List ℕ) where
               let x = shown onBytes (entryAt input at n) s in
               let rest =
               ahead f (endOf (recordAt input at) at (length input)) (n + 1) (counted y (x .1 .code)) (x .0) in
-              rw (end, counts, D .answer, D .control-is, D .area-is, is)
+              rw (end, counts, D .answer, D .control-is, D .area-is, D .strips-is, is)
               (q
               ∙ ap (λ (t : List ℕ). take used out ++ t) (treats f at n y s h)
               ∙ sym (append-assoc (take used out) (textOf (x .1)) rest)

@@ -28,12 +28,12 @@ rowsText (l ∷ ls) y = lineText (l .number) (l .kind) (l .code) (l .value) ++ r
 unfoldable pub tableText : List Line × Tally → List ℕ
 tableText t = columnsText ++ rowsText (t .0) (t .1)
 
--- the whole output for an input, with two memories before the first record
+-- the whole output for an input, with three memories before the first record
 unfoldable pub output : List ℕ → Memories → List ℕ
 output input s = tableText (table onBytes (length input) input 0 0 noneCounted s)
 
 -- What the stand's program ensures of its buffer, which is `out` before and `out′` after: the first r bytes of `out′`,
--- which it hands to its one write call, are the output for its input on its two memories, which are zero at first.
+-- which it hands to its one write call, are the output for its input on its three memories, which are zero at first.
 abbrev pub Plays : (input out out′ : List ℕ) → ℕ → Type 0
 Plays input out out′ r = Appended out out′ 0 (output input zeros) r
 

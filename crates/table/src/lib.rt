@@ -5,7 +5,7 @@ use schedule::tally;
 ghost use Prim.Native.Nat.{_≤_};
 ghost use lib.ListN.{length};
 ghost use Rattle.schedule.specs.Records.{INPUT-BYTES};
-ghost use Rattle.schedule.specs.Bytes.{StandMemories};
+ghost use Rattle.schedule.specs.Bytes.{StandMemories, together};
 ghost use Rattle.text.specs.Texts.{Appended};
 ghost use Rattle.table.specs.Output.{TABLE-BYTES, output};
 
@@ -14,11 +14,17 @@ ghost use Rattle.table.specs.Output.{TABLE-BYTES, output};
 pub const TABLE_BYTES: usize = 2293888;
 
 // Has the records treated one after the other, and puts the table's text at the start of `out`.
-pub fn write(control: &mut [u8], area: &mut [u8], input: &[u8], out: &mut [u8]) -> usize
-    requires { ⌜ StandMemories (now control) (now area) × (length (now input) ≤ INPUT-BYTES)
+pub fn write(
+    control: &mut [u8],
+    area: &mut [u8],
+    strips: &[u8],
+    input: &[u8],
+    out: &mut [u8],
+) -> usize
+    requires { ⌜ StandMemories (now control) (now area) (now strips) × (length (now input) ≤ INPUT-BYTES)
         × (TABLE-BYTES ≤ length (now out)) ⌝ }
     ensures { λ r. ⌜ Appended (now (out .entry)) (now (out .exit)) 0
-        (output (now (input .entry)) (record { control = now (control .entry); area = now (area .entry) })) r ⌝ }
+        (output (now (input .entry)) (together (now (control .entry)) (now (area .entry)) (now (strips .entry)))) r ⌝ }
 {
     let mut used = text::columns(out);
     let mut counts = tally::empty();
@@ -26,7 +32,7 @@ pub fn write(control: &mut [u8], area: &mut [u8], input: &[u8], out: &mut [u8]) 
     let mut at = 0;
     while at < input.len() {
         let entry = record::numbered(input, at, number);
-        let treated = tallied::treat_with(control, area, entry, counts);
+        let treated = tallied::treat_with(control, area, strips, entry, counts);
         let line = treated.line;
         used += text::line(
             &mut out[used..],

@@ -6,7 +6,7 @@ use Rattle.pool.proofs.pool_begin_allocate.Statement.{statement}
 use Rattle.pool.proofs.pool_begin_allocate.Tie as tie
 
 returns : tie.Need-returns
-returns c = allocate-refused _ _ _ _ (c .before .tests .ensures) _ (λ e. omega arith)
+returns c = allocate-refused _ _ _ _ _ (c .before .tests .ensures) _ (λ e. omega arith)
 
 begin-requires : tie.Need-begin-requires
 begin-requires c κs =
@@ -16,7 +16,7 @@ begin-requires c κs =
 returns-2 : tie.Need-returns-2
 returns-2 c =
     let began = c .before .before .before in
-    allocate-does _ _ _ _ (began .before .before .before .tests .ensures) _ (omega arith) (began .begin .ensures)
+    allocate-does _ _ _ _ _ (began .before .before .before .tests .ensures) _ (omega arith) (began .begin .ensures)
     (c .number .ensures)
 
 pub pool-begin-allocate-spec : {M : Type 1} → statement M

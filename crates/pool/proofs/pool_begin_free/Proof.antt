@@ -6,7 +6,7 @@ use Rattle.pool.proofs.pool_begin_free.Statement.{statement}
 use Rattle.pool.proofs.pool_begin_free.Tie as tie
 
 returns : tie.Need-returns
-returns c = free-refused _ _ _ _ (c .before .tests .ensures) _ (λ e. omega arith)
+returns c = free-refused _ _ _ _ _ (c .before .tests .ensures) _ (λ e. omega arith)
 
 regions-requires : tie.Need-regions-requires
 regions-requires c κs = control-is _ _ _ _ (c .before .before .tests .ensures) (omega arith)
@@ -23,7 +23,7 @@ returns-2 : tie.Need-returns-2
 returns-2 c =
     let began = c .before .before .before in
     let read = began .before .before in
-    free-does _ _ _ _ (read .before .before .before .tests .ensures) _ _ (omega arith) (read .regions .ensures)
+    free-does _ _ _ _ _ (read .before .before .before .tests .ensures) _ _ (omega arith) (read .regions .ensures)
     (began .begin .ensures) (c .number .ensures)
 
 pub pool-begin-free-spec : {M : Type 1} → statement M

@@ -6,7 +6,7 @@ use Rattle.pool.proofs.pool_step.Statement.{statement}
 use Rattle.pool.proofs.pool_step.Tie as tie
 
 returns : tie.Need-returns
-returns c = step-refused _ _ _ _ (c .before .tests .ensures) (λ e. omega arith)
+returns c = step-refused _ _ _ _ _ (c .before .tests .ensures) (λ e. omega arith)
 
 regions-requires : tie.Need-regions-requires
 regions-requires c κs = control-is _ _ _ _ (c .before .before .tests .ensures) (omega arith)
@@ -27,7 +27,7 @@ returns-2 : tie.Need-returns-2
 returns-2 c =
     let stepped = c .before .before .before .before in
     let read = stepped .before .before .before in
-    step-does _ _ _ _ (read .before .before .before .tests .ensures) _ (omega arith) (read .regions .ensures)
+    step-does _ _ _ _ _ (read .before .before .before .tests .ensures) _ (omega arith) (read .regions .ensures)
     (stepped .step .ensures)
 
 pub pool-step-spec : {M : Type 1} → statement M

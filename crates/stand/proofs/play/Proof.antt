@@ -1,4 +1,4 @@
--- The two memories that are lent are zero.
+-- The three memories that are lent are zero.
 use borrow.Author.Needs.{needs}
 use Rattle.stand.proofs.play.Statement.{statement}
 use Rattle.stand.proofs.play.Tie as tie
@@ -8,6 +8,9 @@ slice-aggregate-write c = search needs
 
 slice-aggregate-write-2 : tie.Need-slice-aggregate-write-2
 slice-aggregate-write-2 c = search needs
+
+slice-aggregate-write-3 : tie.Need-slice-aggregate-write-3
+slice-aggregate-write-3 c = search needs
 
 write-requires : tie.Need-write-requires
 write-requires c κs = search needs
@@ -21,4 +24,4 @@ returns c = c .before .before .before .before .write .ensures
 pub play-spec : {M : Type 1} → statement M
 play-spec =
     tie.close
-    (tie.spec slice-aggregate-write slice-aggregate-write-2 write-requires same-length returns)
+    (tie.spec slice-aggregate-write slice-aggregate-write-2 slice-aggregate-write-3 write-requires same-length returns)

@@ -11,7 +11,8 @@ returns c =
     let caches = c .before .before in
     let regions = caches .before .before .before .before in
     let descriptors = regions .before .before .before .before in
-    let head2 = descriptors .before .before .before .before in
+    let nodes = descriptors .before .before .before .before in
+    let head2 = nodes .before .before .before .before in
     let head = head2 .before .before .before .before in
     let started2 = head .before .before .before .before .before in
     let started = started2 .before .before .before .before in
@@ -21,12 +22,14 @@ returns c =
     (started2 .set-regions .ensures)
     (with-value (Head SPARE-DESCRIPTORS) 1 _ first (head .set-head .ensures))
     (with-value (Head SPARE-REGIONS) 1 _ first (head2 .set-head2 .ensures))
+    (nodes .set-free-nodes .ensures)
     (descriptors .chain-descriptors .ensures) (regions .chain-regions .ensures) (caches .empty-caches .ensures)
 
 pub image-spec : {M : Type 1} → statement M
 image-spec =
     tie.close
     (tie.spec
+    (λ c κs. search needs)
     (λ c κs. search needs)
     (λ c κs. search needs)
     (λ c κs. search needs)

@@ -5,19 +5,20 @@ use native.Mathlib.Omega.{arith}
 use lib.ListN.{length}
 use borrow.Author.Needs.{needs}
 use borrow.Rule.Slice.PartMut.{mid-len}
+use Rattle.schedule.specs.Bytes.{together}
 use Rattle.text.proofs.TextWriting.{at-part}
 use Rattle.table.proofs.Playing.{TableAhead, within, begins, short, goes-on, ends, further}
 use Rattle.table.proofs.write.Statement.{statement}
 use Rattle.table.proofs.write.Tie as tie
 
 abbrev Inv-loop : tie.InvT-loop
-Inv-loop control₀ area₀ input out₀ used₀ counts₀ number₀ at₀ control area out used counts number at =
-    TableAhead input (record { control = control₀; area = area₀ }) used at number counts
-    (record { control = control; area = area }) out
+Inv-loop control₀ area₀ strips input out₀ used₀ counts₀ number₀ at₀ control area out used counts number at =
+    TableAhead input (together control₀ area₀ strips) used at number counts (together control area strips) out
     × (length control ≡ length control₀) × (length area ≡ length area₀) × (length out ≡ length out₀)
 
 abbrev μ-loop : tie.MeasureT-loop
-μ-loop control₀ area₀ input out₀ used₀ counts₀ number₀ at₀ control area out used counts number at = length input - at
+μ-loop control₀ area₀ strips input out₀ used₀ counts₀ number₀ at₀ control area out used counts number at =
+    length input - at
 
 columns-requires : tie.Need-columns-requires Inv-loop μ-loop
 columns-requires c κs = search needs
@@ -34,14 +35,18 @@ numbered-requires c κs = search needs
 treat-with-requires : tie.Need-treat-with-requires Inv-loop μ-loop
 treat-with-requires c κs =
     let at-loop = c .before .before .before .before in
-    let K = at-loop .before .before .before .before .before .before .before .before .before .before .pre .0 in
-    record { control-is = at-loop .loop .inv .1 ∙ K .control-is; area-is = at-loop .loop .inv .2 ∙ K .area-is }
+    let K = at-loop .before .before .before .before .before .before .before .before .before .before .before .pre .0 in
+    record {
+      control-is = at-loop .loop .inv .1 ∙ K .control-is;
+      area-is = at-loop .loop .inv .2 ∙ K .area-is;
+      strips-is = K .strips-is;
+    }
 
 sub-line : tie.Need-sub-line Inv-loop μ-loop
 sub-line c =
     let at-loop = c .before .before .before .before .before .before .before .before .before .before in
     let begun = at-loop .before .before .before .before in
-    let start = begun .before .before .before .before .before .before in
+    let start = begun .before .before .before .before .before .before .before in
     within _ (at-loop .loop .inv .0) (start .pre .1)
     (omega (arith, at-loop .loop .inv .3, begun .columns .ensures .same-length, start .pre .2))
 
@@ -49,7 +54,7 @@ part-line-start : tie.Need-part-line-start Inv-loop μ-loop
 part-line-start c =
     let at-loop = c .before .before .before .before .before .before .before .before .before .before in
     let begun = at-loop .before .before .before .before in
-    let start = begun .before .before .before .before .before .before in
+    let start = begun .before .before .before .before .before .before .before in
     within _ (at-loop .loop .inv .0) (start .pre .1)
     (omega (arith, at-loop .loop .inv .3, begun .columns .ensures .same-length, start .pre .2))
 
@@ -69,7 +74,7 @@ add-used c =
     let treated = c .before .before .before .before .before .before .before .before .before .before in
     let read = treated .before .before .before in
     let at-loop = read .before .before in
-    let start = at-loop .before .before .before .before .before .before .before .before .before .before in
+    let start = at-loop .before .before .before .before .before .before .before .before .before .before .before in
     let inv = at-loop .loop .inv in
     let short-is =
     short (start .args .input .now) (at-loop .loop .at) (at-loop .loop .number) (read .numbered .ensures)
@@ -84,7 +89,7 @@ end-requires c κs =
     omega (
       arith,
       at-test .loop-test .taken,
-      at-test .before .before .before .before .before .before .before .before .before .before .before .pre .1,
+      at-test .before .before .before .before .before .before .before .before .before .before .before .before .pre .1,
     )
 
 add-number : tie.Need-add-number Inv-loop μ-loop
@@ -95,7 +100,7 @@ add-number c =
     omega (
       arith,
       at-loop .loop .inv .0 .few,
-      at-loop .before .before .before .before .before .before .before .before .before .before .pre .1,
+      at-loop .before .before .before .before .before .before .before .before .before .before .before .pre .1,
       at-test .loop-test .taken,
     )
 
@@ -105,7 +110,7 @@ loop-less c =
     let read = ended .before .before .before .before .before .before .before in
     let at-loop = read .before .before in
     let input =
-    at-loop .before .before .before .before .before .before .before .before .before .before .args .input .now in
+    at-loop .before .before .before .before .before .before .before .before .before .before .before .args .input .now in
     omega (
       arith,
       c .end .ensures,
@@ -120,7 +125,7 @@ loop-again c =
     let read = treated .before .before .before in
     let at-loop = read .before .before in
     let begun = at-loop .before .before .before .before in
-    let start = begun .before .before .before .before .before .before in
+    let start = begun .before .before .before .before .before .before .before in
     let input = start .args .input .now in
     let inv = at-loop .loop .inv in
     let fits =
@@ -157,10 +162,14 @@ total-requires c κs =
 add-result : tie.Need-add-result Inv-loop μ-loop
 add-result c =
     let at-loop = c .before .before .before .before .before in
+    let begun = at-loop .before .before .before .before in
     let written = c .before .before .total .ensures in
     let used = at-loop .loop .used in
     omega (
       arith,
+      at-loop .loop .inv .3,
+      begun .columns .ensures .same-length,
+      begun .before .before .before .before .before .before .before .good,
       written .within,
       written .same-length,
       mid-len used (length (at-loop .loop .out)) (at-loop .loop .out)

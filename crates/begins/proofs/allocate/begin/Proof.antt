@@ -1,8 +1,8 @@
 -- One law for each way out.
 use mathlib.Core.Path.{refl}
 use native.Mathlib.Omega.{arith}
-use Rattle.stepped.proofs.Doing.{done}
-use Rattle.begins.proofs.Beginning.{no-place, in-hand, size-refused, served}
+use Rattle.stepped.proofs.Doing.{done, does}
+use Rattle.begins.proofs.Beginning.{no-place, in-hand, idle-is, size-refused, strip-larger, served}
 use borrow.Author.Needs.{needs}
 use Rattle.begins.proofs.allocate.begin.Statement.{statement}
 use Rattle.begins.proofs.allocate.begin.Tie as tie
@@ -14,10 +14,19 @@ returns-2 : tie.Need-returns-2
 returns-2 c = done (in-hand _ _ _ (omega arith) (λ e. omega arith)) refl (cc) refl
 
 returns-3 : tie.Need-returns-3
-returns-3 c = done (size-refused _ _ _ (omega arith) _ (cc)) refl (cc) refl
+returns-3 c = does (idle-is _ _ _ (omega arith)) (c .before .before .strip .ensures)
 
 returns-4 : tie.Need-returns-4
-returns-4 c =
+returns-4 c = done (size-refused _ _ _ (omega arith) _ (cc)) refl (cc) refl
+
+strip-requires : tie.Need-strip-requires-2
+strip-requires c κs = (search needs, search needs, strip-larger _ (cc))
+
+returns-5 : tie.Need-returns-5
+returns-5 c = does (idle-is _ _ _ (omega arith)) (c .before .before .strip2 .ensures)
+
+returns-6 : tie.Need-returns-6
+returns-6 c =
     let stored = c .before .before in
     served _ _ _ (omega arith) _ _ (stored .before .before .before .before .set-task-place .ensures)
     (stored .set-task-class .ensures) (cc)
@@ -33,10 +42,17 @@ begin-spec =
     returns-2
     (λ c κs. search needs)
     (λ c. search needs)
-    (λ c. search needs)
-    (λ c κs. search needs)
-    (λ c κs. search needs)
-    (λ c. search needs)
     returns-3
+    (λ c κs. search needs)
     (λ c. search needs)
-    returns-4)
+    (λ c. search needs)
+    strip-requires
+    (λ c. search needs)
+    (λ c κs. search needs)
+    (λ c κs. search needs)
+    (λ c. search needs)
+    returns-4
+    (λ c. search needs)
+    returns-5
+    (λ c. search needs)
+    returns-6)

@@ -3,7 +3,7 @@ use mathlib.Core.Path.{sym, ap, _∙_}
 use borrow.Author.Needs.{needs}
 use native.Mathlib.Omega.{arith}
 use Rattle.classes.specs.declared.size.Choice.the-variants.{Class}
-use Rattle.classes.proofs.Sizes.{refuses-none, refuses-large, serves, rounded}
+use Rattle.classes.proofs.Sizes.{refuses-none, serves, rounded}
 use Rattle.classes.proofs.size.size_class.Statement.{statement}
 use Rattle.classes.proofs.size.size_class.Tie as tie
 
@@ -11,7 +11,7 @@ returns : tie.Need-returns
 returns c = sym (refuses-none _ (omega arith))
 
 returns-2 : tie.Need-returns-2
-returns-2 c = sym (refuses-large _ (omega arith))
+returns-2 c = c .strip-or-nine .ensures
 
 returns-3 : tie.Need-returns-3
 returns-3 c =
@@ -20,4 +20,12 @@ returns-3 c =
 
 pub size-class-spec : {M : Type 1} → statement M
 size-class-spec =
-    tie.close (tie.spec returns returns-2 (λ c. search needs) (λ c. search needs) (λ c κs. search needs) returns-3)
+    tie.close
+    (tie.spec
+    returns
+    (λ c κs. search needs)
+    returns-2
+    (λ c. search needs)
+    (λ c. search needs)
+    (λ c κs. search needs)
+    returns-3)

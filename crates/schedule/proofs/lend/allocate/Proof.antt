@@ -11,7 +11,7 @@ returns : tie.Need-returns
 returns c =
     let called = c .before .before in
     let read = called .before .before .before .before .lent in
-    shown-does (allocate _ _) _ _ _ (read .result - 0) _ (omega (arith, read .ensures .0))
+    shown-does (allocate _ _) _ _ _ _ (read .result - 0) _ (omega (arith, read .ensures .0))
     (called .pool-begin-allocate .ensures)
 
 pub allocate-spec : {M : Type 1} → statement M

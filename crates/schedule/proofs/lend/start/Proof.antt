@@ -10,14 +10,14 @@ use Rattle.schedule.proofs.lend.start.Tie as tie
 
 returns : tie.Need-returns
 returns c =
-    let a = c .before .before .before .args in
-    many-regions (start (record { tasks = a .tasks })) (a .regions) _ _ (omega arith)
+    let a = c .before .before .before .before .args in
+    many-regions (start (record { tasks = a .tasks })) (a .regions) _ _ _ (omega arith)
 
 returns-2 : tie.Need-returns-2
 returns-2 c =
     let called = c .before .before in
-    let a = called .before .before .before .before .before .before .before .args in
-    named-does (start (record { tasks = a .tasks })) (a .regions) _ _ _ (REGION-BYTES * a .regions - 0) _
+    let a = called .before .before .before .before .before .before .before .before .args in
+    named-does (start (record { tasks = a .tasks })) (a .regions) _ _ _ _ (REGION-BYTES * a .regions - 0) _
     (called .pool-start .ensures) (omega arith) (omega arith)
 
 pub start-spec : {M : Type 1} → statement M

@@ -11,7 +11,7 @@ returns : tie.Need-returns
 returns c =
     let called = c .before .before .before .before in
     let read = called .before .before .before .lent in
-    written-does (step _) _ _ _ (read .result - 0) _ (omega (arith, read .ensures .0)) _ (called .pool-step .ensures)
+    written-does (step _) _ _ _ _ (read .result - 0) _ (omega (arith, read .ensures .0)) _ (called .pool-step .ensures)
 
 pub step-spec : {M : Type 1} → statement M
 step-spec =

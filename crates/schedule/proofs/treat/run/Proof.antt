@@ -8,21 +8,25 @@ use Rattle.schedule.proofs.treat.run.Statement.{statement}
 use Rattle.schedule.proofs.treat.run.Tie as tie
 
 abbrev Inv-loop : tie.InvT-loop
-Inv-loop control₀ area₀ task most left₀ answer₀ control area left answer =
-    RunAhead task most control₀ area₀ left answer control area
+Inv-loop control₀ area₀ strips task most left₀ answer₀ control area left answer =
+    RunAhead task most control₀ area₀ strips left answer control area
     × (length control ≡ length control₀) × (length area ≡ length area₀)
 
 abbrev μ-loop : tie.MeasureT-loop
-μ-loop control₀ area₀ task most left₀ answer₀ control area left answer = left
+μ-loop control₀ area₀ strips task most left₀ answer₀ control area left answer = left
 
 loop-holds : tie.Need-loop-holds Inv-loop μ-loop
-loop-holds c = (begins _ _ _ _, refl, refl)
+loop-holds c = (begins _ _ _ _ _, refl, refl)
 
 step-requires : tie.Need-step-requires Inv-loop μ-loop
 step-requires c κs =
     let at-loop = c .before .before .before in
-    let K = at-loop .before .before .before .pre in
-    record { control-is = at-loop .loop .inv .1 ∙ K .control-is; area-is = at-loop .loop .inv .2 ∙ K .area-is }
+    let K = at-loop .before .before .before .before .pre in
+    record {
+      control-is = at-loop .loop .inv .1 ∙ K .control-is;
+      area-is = at-loop .loop .inv .2 ∙ K .area-is;
+      strips-is = K .strips-is;
+    }
 
 sub-left : tie.Need-sub-left Inv-loop μ-loop
 sub-left c = omega arith

@@ -6,7 +6,7 @@ use Rattle.schedule.proofs.treat.show.Tie as tie
 
 returns : tie.Need-returns
 returns c =
-    shows (c .before .before .before .before .before .before .before .before .before .args .entry)
+    shows (c .before .before .before .before .before .before .before .before .before .before .args .entry)
     (c .before .before .before .before .treat .ensures)
 
 pub show-spec : {M : Type 1} → statement M

@@ -1,4 +1,5 @@
 -- Each kind of record is treated by its own function.
+use mathlib.Core.Path.{refl}
 use borrow.Author.Needs.{needs}
 use Rattle.schedule.proofs.treat.treat.Statement.{statement}
 use Rattle.schedule.proofs.treat.treat.Tie as tie
@@ -27,6 +28,10 @@ returns-5 : tie.Need-returns-5
 returns-5 c =
     let called = c .before .before .before .before in
     rw (called .before .before .before .before .body5 .given .1) (called .run .ensures)
+
+returns-6 : tie.Need-returns-6
+returns-6 c =
+    rw (c .enum-told .given .1) (record { control-is = refl; area-is = refl; strips-is = refl; answer = refl })
 
 pub treat-spec : {M : Type 1} → statement M
 treat-spec =
@@ -58,4 +63,4 @@ treat-spec =
     (λ c. search needs)
     (λ c. search needs)
     returns-5
-    (λ c. search needs))
+    returns-6)

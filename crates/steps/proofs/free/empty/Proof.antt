@@ -2,8 +2,8 @@
 use mathlib.Core.Path.{refl}
 use native.Mathlib.Omega.{arith}
 use Rattle.control.specs.Places.{F2, F3-READ, F3-LINK, F3-EXCHANGE, F4-CLEAR}
-use Rattle.stepped.proofs.Doing.{done-in, does-in, lends}
-use Rattle.steps.proofs.StepAt.{at, past-places}
+use Rattle.stepped.proofs.Doing.{does-in, lends}
+use Rattle.steps.proofs.StepAt.{at}
 use borrow.Author.Needs.{needs}
 use Rattle.steps.proofs.free.empty.Statement.{statement}
 use Rattle.steps.proofs.free.empty.Tie as tie
@@ -22,9 +22,6 @@ returns-4 c = does-in (at _ _ _ _ _ F3-EXCHANGE refl (omega arith)) (lends (c .b
 
 returns-5 : tie.Need-returns-5
 returns-5 c = does-in (at _ _ _ _ _ F4-CLEAR refl (omega arith)) (lends (c .before .before .clear .ensures _))
-
-returns-6 : tie.Need-returns-6
-returns-6 c = done-in (past-places _ _ _ _ _ (omega arith)) refl (cc) (cc)
 
 pub empty-spec : {M : Type 1} → statement M
 empty-spec =
@@ -46,5 +43,4 @@ empty-spec =
     returns-4
     (λ c κs. search needs)
     (λ c. search needs)
-    returns-5
-    returns-6)
+    returns-5)

@@ -1,0 +1,15 @@
+pub mod BothFree
+pub mod PieceLengths
+pub mod StripSizes
+pub mod FreePieces
+pub mod LeastPieces
+pub mod StripTaking
+pub mod StripGiving
+pub mod FreeStretches
+pub mod PieceRows
+pub mod StripStarting
+pub mod SlotStrips
+pub mod RowGiving
+pub mod NoneToJoin
+pub mod Strips
+pub mod StripExamples

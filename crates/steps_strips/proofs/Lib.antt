@@ -1,0 +1,2 @@
+-- The ways out of the steps of strips.
+pub mod StripWays

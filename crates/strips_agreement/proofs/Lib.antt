@@ -1,0 +1,13 @@
+pub mod NodesAbove
+pub mod TreeImages
+pub mod NodeRoom
+pub mod TreeHalving
+pub mod TreeSearch
+pub mod TreeJoining
+pub mod NodeSlots
+pub mod StripsAgree
+pub mod StartFollows
+pub mod SmallWords
+pub mod SlotBytes
+pub mod ObservedPieces
+pub mod SlotsCounted
