@@ -84,7 +84,8 @@
  *   1. The three memories do not overlap, and each really has the length that is lent with it. A pointer may be null
  *      where its length is 0.
  *   2. Calls do not overlap in time: mask interrupts or lock around each single call. The longest is a step of at most
- *      383 instructions. A start, which comes before the others, also fills 8,192 bytes by your memset.
+ *      383 instructions; docs/BENCHMARKS.md says what this bound rests on.
+ *      A start, which comes before the others, also fills 8,192 bytes by your memset.
  *   3. Each call but a start lends the control memory, the area and the strips' memory of the last accepted start. If
  *      it lends another length, it is refused and does no harm.
  *   4. Users write only inside blocks and strips that they hold. A block or strip is held from the step that finishes
