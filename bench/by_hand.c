@@ -128,6 +128,20 @@ uint64_t BY_HAND(begin_free)(uint8_t *control, uint64_t control_length, const ui
     return 0;
 }
 
+uint64_t BY_HAND(begin_leave)(uint8_t *control, uint64_t control_length, const uint8_t *area, uint64_t area_length,
+                              const uint8_t *strips, uint64_t strips_length, uint64_t task)
+{
+    struct control *c = (struct control *)control;
+    unsigned refused = tests(c, control_length, area_length, strips_length, task);
+    (void)area;
+    (void)strips;
+    if (refused != 0)
+        return refused;
+    if (c->task_place[task] != 0)
+        return c->task_place[task] >= PLACES ? DAMAGED : 6;
+    return leave_begin(c, task);
+}
+
 /* The push of the descriptor in the task's hand to the spare ones, which leads to a place; 0 ends with 13. */
 static inline uint64_t spare_exchange(const struct request *r, unsigned place, unsigned when_won)
 {
@@ -189,6 +203,7 @@ static inline uint64_t step_at(const struct request *r, unsigned place)
     case 33: return map_clear(r);
     case TAKE: return strip_take(r);
     case GIVE: return strip_give(r);
+    case LEAVE: return leave_end(r);
     default: return list_step(r, place);
     }
 }

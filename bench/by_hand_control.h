@@ -10,7 +10,7 @@
 #include <string.h>
 
 /* CACHES is the room for caches of a task: more than there are classes, so that an index is a shift. */
-enum { CLASSES = 13, CACHES = 16, TASKS = 8, REGIONS = 16, DESCRIPTORS = 64, SLOTS = 128, PLACES = 36 };
+enum { CLASSES = 13, CACHES = 16, TASKS = 8, REGIONS = 16, DESCRIPTORS = 64, SLOTS = 128, PLACES = 37 };
 
 /* The lists: the partial descriptors of each class, by its number, and behind them these two. */
 enum { SPARE_DESCRIPTORS = CLASSES, SPARE_REGIONS, LISTS };

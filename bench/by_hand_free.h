@@ -1,8 +1,8 @@
-/* The steps of a free, written by hand, from the paper. */
+/* The steps of a free, written by hand, from the paper. Those of the return are leaving's, too. */
 #ifndef BY_HAND_FREE_H
 #define BY_HAND_FREE_H
 
-#include "by_hand_steps.h"
+#include "by_hand_leave.h"
 
 static inline uint64_t new_group(const struct request *r)
 {
@@ -119,18 +119,29 @@ static inline uint64_t return_link(const struct request *r)
     return go_to(r, 32);
 }
 
-/* Where a free goes after its return and its pushes: another group, or the cache. 0 where the count is damaged. */
-static inline unsigned after_return(const struct request *r)
+/* Where a return and its pushes lead: to another group, or, with the cache empty, to the cache or on with leaving. It
+   is always put in line: a compiler that does not keeps the request in memory, and every step pays for that. */
+static inline __attribute__((always_inline)) struct way after_return(const struct request *r)
 {
-    unsigned count = r->control->count[r->task][r->class];
+    const struct control *c = r->control;
+    unsigned count = c->count[r->task][r->class];
+    struct way way = {0, r->class};
     if (count > PER_REGION[r->class])
-        return 0;
-    return count == 0 ? 28 : 29;
+        return way;
+    if (count == 0 && c->task_unit[r->task] == LEAVING)
+        return way_from(c, r->task, r->class + 1);
+    if (count == 0)
+        way.place = c->task_unit[r->task] > LEAVING ? 0 : 28;
+    else
+        way.place = 29;
+    return way;
 }
 
-static inline uint64_t go_on(const struct request *r, unsigned place)
+/* The same where the return goes on at a place of its own. */
+static inline struct way way_to(const struct request *r, unsigned place)
 {
-    return place == 29 ? new_group(r) : go_to(r, place);
+    struct way way = {place, r->class};
+    return way;
 }
 
 static inline uint64_t return_exchange(const struct request *r)
@@ -142,18 +153,18 @@ static inline uint64_t return_exchange(const struct request *r)
     unsigned group = c->group_count[r->task];
     uint64_t noted = c->task_anchor[r->task];
     unsigned count = count_of(noted) + group;
-    unsigned place;
+    struct way way;
     if (descriptor >= DESCRIPTORS || first >= n || group - 1 >= n || !is_anchor(noted) || !has_room(n, group, noted)
         || !is_anchor(c->anchor[descriptor]))
         return DAMAGED;
     if (c->anchor[descriptor] != noted)
         return go_to(r, 30);
-    place = count == n ? 33 : state_of(noted) == FULL ? 20 : after_return(r);
-    if (place == 0)
+    way = count == n ? way_to(r, 33) : state_of(noted) == FULL ? way_to(r, 20) : after_return(r);
+    if (way.place == 0)
         return DAMAGED;
     c->anchor[descriptor] = anchor_of(count == n ? EMPTY : PARTIAL, first, count);
     c->task_state[r->task] = (uint8_t)state_of(noted);
-    return go_on(r, place);
+    return go_way(c, r->task, way);
 }
 
 static inline uint64_t map_clear(const struct request *r)
@@ -171,14 +182,14 @@ static inline uint64_t release_exchange(const struct request *r)
     unsigned state = r->control->task_state[r->task];
     struct list list = regions(r, 17);
     int test = push_test(r, list, region);
-    unsigned place;
+    struct way way;
     if (test != 0)
         return test == DAMAGED ? DAMAGED : go_to(r, list.place);
-    place = state > FULL ? 0 : state == FULL ? 20 : after_return(r);
-    if (place == 0)
+    way = state > FULL ? way_to(r, 0) : state == FULL ? way_to(r, 20) : after_return(r);
+    if (way.place == 0)
         return DAMAGED;
     push_store(r, list, region);
-    return go_on(r, place);
+    return go_way(r->control, r->task, way);
 }
 
 static inline uint64_t offer_exchange(const struct request *r)
@@ -186,14 +197,14 @@ static inline uint64_t offer_exchange(const struct request *r)
     unsigned descriptor = r->control->task_descriptor[r->task];
     struct list list = descriptors(r, 20, r->class);
     int test = push_test(r, list, descriptor);
-    unsigned place;
+    struct way way;
     if (test != 0)
         return test == DAMAGED ? DAMAGED : go_to(r, list.place);
-    place = after_return(r);
-    if (place == 0)
+    way = after_return(r);
+    if (way.place == 0)
         return DAMAGED;
     push_store(r, list, descriptor);
-    return go_on(r, place);
+    return go_way(r->control, r->task, way);
 }
 
 #endif

@@ -1,4 +1,4 @@
-/* The pools that are compared, each as its four calls. */
+/* The pools that are compared, each as its five calls. */
 #ifndef CONTENDER_H
 #define CONTENDER_H
 
@@ -11,6 +11,7 @@ struct contender {
                                uint64_t size);
     uint64_t (*begin_free)(uint8_t *, uint64_t, const uint8_t *, uint64_t, const uint8_t *, uint64_t, uint64_t task,
                            uint64_t unit);
+    uint64_t (*begin_leave)(uint8_t *, uint64_t, const uint8_t *, uint64_t, const uint8_t *, uint64_t, uint64_t task);
     uint64_t (*step)(uint8_t *, uint64_t, uint8_t *, uint64_t, const uint8_t *, uint64_t, uint64_t task);
 };
 

@@ -8,18 +8,34 @@
                                      uint64_t, uint64_t); \
     uint64_t prefix##_begin_free(uint8_t *, uint64_t, const uint8_t *, uint64_t, const uint8_t *, uint64_t, \
                                  uint64_t, uint64_t); \
+    uint64_t prefix##_begin_leave(uint8_t *, uint64_t, const uint8_t *, uint64_t, const uint8_t *, uint64_t, \
+                                  uint64_t); \
     uint64_t prefix##_step(uint8_t *, uint64_t, uint8_t *, uint64_t, const uint8_t *, uint64_t, uint64_t);
 
-#define CALLS(prefix) prefix##_start, prefix##_begin_allocate, prefix##_begin_free, prefix##_step
+#define CALLS(prefix) \
+    prefix##_start, prefix##_begin_allocate, prefix##_begin_free, prefix##_begin_leave, prefix##_step
 
+#ifdef LIBRARY_ALONE
+/* An earlier library may lack this call; where it has it, its own is linked. */
+__attribute__((weak)) uint64_t pool_begin_leave(uint8_t *control, uint64_t control_length, const uint8_t *area,
+                                                uint64_t area_length, const uint8_t *strips, uint64_t strips_length,
+                                                uint64_t task)
+{
+    (void)control, (void)control_length, (void)area, (void)area_length, (void)strips, (void)strips_length;
+    return task;
+}
+#else
 DECLARE(by_hand_gcc)
+#endif
 #ifdef WITH_CLANG
 DECLARE(by_hand_clang)
 #endif
 
 const struct contender CONTENDERS[] = {
     {"library", CALLS(pool)},
+#ifndef LIBRARY_ALONE
     {"by hand, gcc", CALLS(by_hand_gcc)},
+#endif
 #ifdef WITH_CLANG
     {"by hand, clang", CALLS(by_hand_clang)},
 #endif

@@ -1,6 +1,6 @@
 /*
  * One workload of one contender, for so many turns, to be run under callgrind, which counts the instructions inside the
- * four calls alone. Two runs with different numbers of turns differ by whole turns of the steady state.
+ * calls alone. Two runs with different numbers of turns differ by whole turns of the steady state.
  *
  * Without arguments it lists what there is: a line is workload, contender, their two numbers, and the pairs of a turn.
  */

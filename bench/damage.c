@@ -37,7 +37,7 @@ static size_t index_of(enum index kind, struct schedule *schedule, const struct 
         return (schedule_random(schedule, 2) == 0 ? c->task_descriptor[task] : c->map[region] - 1u) % DESCRIPTORS;
     case WORD: return schedule_random(schedule, 128);
     case TASK: return task;
-    case CACHE: return CACHES * task + class;
+    case CACHE: return CACHES * task + (schedule_random(schedule, 2) == 0 ? class : schedule_random(schedule, CLASSES));
     case REGION: return schedule_random(schedule, 2) == 0 ? region : schedule_random(schedule, REGIONS);
     case NODES: return schedule_random(schedule, 4);
     case SLOT:

@@ -19,6 +19,7 @@ NAMES = {
     "pool_start": "deepest stack, start",
     "pool_begin_allocate": "deepest stack, beginning of an allocation",
     "pool_begin_free": "deepest stack, beginning of a free",
+    "pool_begin_leave": "deepest stack, beginning of leaving",
     "pool_step": "deepest stack, step",
 }
 

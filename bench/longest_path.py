@@ -4,18 +4,22 @@
 A call makes at most so many instructions, whatever the memories hold and whatever a schedule reaches. The path that is
 found need not be one that can be taken, so the number is a bound and not a measurement. A call of another function of
 the library adds that function's longest path. A jump through a table may go to every entry of the table whose address
-was taken last before it.
+is taken right before it, or, where that is not seen, to every entry of every table of the function.
 
-Only the steps of strips have loops and functions that call themselves, and both are bounded by the orders, 0 to 7
-(crates/steps_strips/src, crates/strip_tree/src):
+The loops and the functions that call themselves, with their bounds (crates/steps_strips/src, crates/strip_tree/src,
+crates/steps_leave/src):
 
 - `halve_low` halves from order 2 at most, and `join` calls itself from the orders 0 and 1: each is entered three times
   at most, one in the other.
-- A loop is one of the halvings in the first word, of which a step makes at most five, from order 7 to order 2. The back
-  end puts several of them into a turn, each a shift by a register, and makes those that are left over, fewer than such
-  a turn has, in a loop of one each.
+- The search for the smallest sufficient piece of the strips looks at each order once, 0 to 7, and ends at order 7. Six
+  of the orders have their nodes in the first word: only for them it shifts, to the right and to the left.
+- The halvings in the first word are at most five, from order 7 to order 2. The back end puts several of them into a
+  turn, each a shift by a register, and makes those that are left over, fewer than such a turn has, in a loop of one
+  each.
+- The search for the next cache of a task that leaves reads the count of each of the thirteen classes once, two bytes.
 
-Any other loop or recursion ends the script.
+Any other loop or recursion ends the script. The step has a second line, over the paths that meet none of the loops and
+functions of strips: those of every step for a block and of leaving.
 
 A line is workload, contender, measure, value.
 """
@@ -27,10 +31,12 @@ LIBRARY = sys.argv[1]
 NAMES = {
     "pool_begin_allocate": "longest path, beginning of an allocation",
     "pool_begin_free": "longest path, beginning of a free",
+    "pool_begin_leave": "longest path, beginning of leaving",
     "pool_step": "longest path, step",
 }
 ENTRIES = {"steps_strips::halve::halve_low": 3, "steps_strips::join::join": 3}
-HALVINGS = 5
+WITHOUT_STRIPS = "longest path without strips, step"
+ORDERS, FIRST_WORD_ORDERS, HALVINGS, CLASSES = 8, 6, 5, 13
 IMPOSSIBLE = -(1 << 32)
 
 
@@ -41,18 +47,18 @@ def lines(*options):
 
 def read_code():
     """For each function its instructions in order: address, text, the function called, the jump table taken."""
-    code, current = {}, None
+    code, current, function = {}, None, None
     for line in lines("-d", "-r"):
         name = re.match(r"[0-9a-f]+ <(.*)>:$", line)
         instruction = re.match(r"\s+([0-9a-f]+):\s+(\S.*)$", line)
         call = re.match(r"\s+[0-9a-f]+: R_X86_64_PLT32\s+(\S+?)-0x4$", line)
-        table = re.match(r"\s+[0-9a-f]+: R_X86_64_PC32\s+\.rodata\.\w+([+-]0x[0-9a-f]+)$", line)
+        table = re.match(r"\s+[0-9a-f]+: R_X86_64_PC32\s+\.rodata\.(\S+?)([+-]0x[0-9a-f]+)$", line)
         if name:
-            current = code.setdefault(name.group(1), [])
+            current, function = code.setdefault(name.group(1), []), name.group(1)
         elif call:
             current[-1][2] = call.group(1).replace(".text.", "")
-        elif table:
-            current[-1][3] = int(table.group(1), 16) + 4
+        elif table and table.group(1) == function:
+            current[-1][3] = int(table.group(2), 16) + 4
         elif instruction and ": R_X86_64_" not in line:
             itself = re.match(r"call\s+0 <([^+]*)>$", instruction.group(2))
             current.append([int(instruction.group(1), 16), instruction.group(2), itself and itself.group(1), None])
@@ -78,30 +84,72 @@ def table_targets(start, starts, entries):
     return {number - (place - start) for place, number in entries if start <= place < end}
 
 
+def tables_taken(jump, body, entered):
+    """The tables that a jump may go through: the one that the straight code before it adds, else all of them."""
+    register = re.search(r"\*(%\w+)", body[jump][1]).group(1)
+    base = re.match(rf"add\s+(%\w+),{register}$", body[jump - 1][1])
+    for address, text, _, table in reversed(body[:jump]):
+        if base and table is not None and text.startswith("lea") and re.search(rf",{base.group(1)}\b", text):
+            return {table}
+        if text.startswith(("j", "ret", "ud2", "call")) or address in entered:
+            break
+    return {line[3] for line in body if line[3] is not None}
+
+
 def successors(function, code, tables):
     """Where each instruction can go on."""
     body = code[function]
     following = dict(zip([line[0] for line in body], [line[0] for line in body[1:]]))
     starts = {line[3] for line in body if line[3] is not None}
-    after, taken = {}, None
-    for address, text, _, table in body:
-        taken = taken if table is None else table
-        target = re.match(r"(j\w+)\s+([0-9a-f]+)", text)
+    jumps = {line[0]: re.match(r"(j\w+)\s+([0-9a-f]+)", line[1]) for line in body}
+    entered = {int(target.group(2), 16) for target in jumps.values() if target}
+    entered |= {target for start in starts for target in table_targets(start, starts, tables[function])}
+    after = {}
+    for index, (address, text, _, _) in enumerate(body):
         if text.startswith("ret") or text.startswith("ud2"):
             after[address] = set()
         elif text.startswith("jmp") and "*" in text:
-            after[address] = table_targets(taken, starts, tables[function])
-        elif target:
-            after[address] = {int(target.group(2), 16)}
-            if target.group(1) != "jmp":
+            after[address] = {target for start in tables_taken(index, body, entered)
+                              for target in table_targets(start, starts, tables[function])}
+        elif jumps[address]:
+            after[address] = {int(jumps[address].group(2), 16)}
+            if jumps[address].group(1) != "jmp":
                 after[address].add(following[address])
         else:
             after[address] = {following[address]}
+        if text.startswith("jmp") and not after[address]:
+            sys.exit(f"{function}: a jump that is not known, at {address:x}")
     return after
 
 
+class Loop:
+    """A loop: its instructions, those of them that do the work that is counted, and how often a path may pass them."""
+
+    def __init__(self, part, texts):
+        self.part = part
+        left, right, orders, counts = [{one for one in part if re.match(pattern, texts[one])} for pattern in (
+            r"shl\s+%cl,", r"shr\s+%cl,", rf"cmp\s+\$0x{ORDERS - 1:x},", r"movzwl \S*\(%\w+,%\w+,2\),")]
+        self.halves = bool(left) and not right
+        if self.halves:
+            self.work, self.work_most, self.turns_most = left, HALVINGS, HALVINGS
+        elif left and orders:
+            self.work, self.work_most, self.turns_most = left, FIRST_WORD_ORDERS, ORDERS
+        else:
+            self.work, self.work_most, self.turns_most = counts if not left | right else set(), CLASSES, CLASSES
+        self.of_strips = bool(left)
+
+
+def bound_halvings(loops_found):
+    """How many turns the loops of halvings make: all halvings, or in turns of one each what the larger turns leave."""
+    halving = [loop for loop in loops_found if loop.halves]
+    largest = max((len(loop.work) for loop in halving), default=1)
+    for loop in halving:
+        one_each = len(loop.work) == 1 and largest > 1
+        loop.turns_most = largest - 1 if one_each else HALVINGS // len(loop.work)
+
+
 def loops(function, code, after):
-    """The loops, each by its first instruction: its instructions, and the halvings of a turn. A loop has one way in."""
+    """The loops, each by its first instruction. A loop has one way in."""
     number, low, stack, found = {}, {}, [], {}
     texts = {line[0]: line[1] for line in code[function]}
 
@@ -121,19 +169,14 @@ def loops(function, code, after):
 
     def add(part):
         ways = {to for one in after if one not in part for to in after[one] if to in part}
-        halvings = sum(1 for one in part if re.match(r"shl\s+%cl,", texts[one]))
-        if len(ways) != 1 or halvings == 0:
+        loop = Loop(part, texts)
+        if len(ways) != 1 or not loop.work:
             sys.exit(f"{function}: a loop that is not known, at {min(part):x}")
-        found[ways.pop()] = (part, halvings)
+        found[ways.pop()] = loop
 
     visit(code[function][0][0])
+    bound_halvings(found.values())
     return found
-
-
-def turns_most(halvings, found):
-    """How many turns a loop of so many halvings can make: all of them, or what the larger turns leave over."""
-    largest = max(others for _, others in found.values())
-    return HALVINGS // halvings if halvings > 1 or largest == 1 else largest - 1
 
 
 def entries_left(called, function, entries):
@@ -145,34 +188,39 @@ def entries_left(called, function, entries):
     return ENTRIES.get(called, 1)
 
 
-def longest(function, code, tables, entries=1):
-    """Each pass through a loop's first instruction is a turn; the halvings of all turns are so many at most."""
+def longest(function, code, tables, entries=1, strips=True):
+    """Each pass through a loop's first instruction is a turn. The halvings of all loops are counted together."""
     after = successors(function, code, tables)
     found = loops(function, code, after)
-    within = {one: first for first, (part, _) in found.items() for one in part}
+    within = {one: loop for loop in found.values() for one in loop.part}
     called = {line[0]: line[2] for line in code[function] if line[2] in code}
     lengths = {}
 
     def inside(address):
         if address not in called:
             return 0
-        left = entries_left(called[address], function, entries)
-        return longest(called[address], code, tables, left) if left > 0 else IMPOSSIBLE
+        left = entries_left(called[address], function, entries) if strips or called[address] not in ENTRIES else 0
+        return longest(called[address], code, tables, left, strips) if left > 0 else IMPOSSIBLE
 
-    def length(address, made, turns):
-        """From here on, with so many halvings made, in so many turns of the loop that this is in."""
-        if address in found:
-            halvings = found[address][1]
-            made, turns = made + halvings, turns + 1
-            if made > HALVINGS or turns > turns_most(halvings, found):
+    def length(address, halvings, turns, work):
+        """From here on, with so many halvings made, and so many turns and so much work in the loop that this is in."""
+        loop = within.get(address)
+        if loop:
+            turns += address in found
+            work += address in loop.work
+            halvings += loop.halves and address in loop.work
+            if turns > loop.turns_most or work > loop.work_most or halvings > HALVINGS:
                 return IMPOSSIBLE
-        if (address, made, turns) not in lengths:
-            best = max([length(next_one, made, turns if within.get(next_one) == within.get(address) else 0)
+            if loop.of_strips and not strips:
+                return IMPOSSIBLE
+        state = (address, halvings, turns, work)
+        if state not in lengths:
+            best = max([length(next_one, halvings, *((turns, work) if within.get(next_one) is loop else (0, 0)))
                         for next_one in after[address]], default=0)
-            lengths[address, made, turns] = 1 + best + inside(address)
-        return lengths[address, made, turns]
+            lengths[state] = 1 + best + inside(address)
+        return lengths[state]
 
-    return length(code[function][0][0], 0, 0)
+    return length(code[function][0][0], 0, 0, 0)
 
 
 def main():
@@ -180,6 +228,7 @@ def main():
     code, tables = read_code(), read_tables()
     for function, name in NAMES.items():
         print(f"{name}\tlibrary\tinstructions\t{longest(function, code, tables)}")
+    print(f"{WITHOUT_STRIPS}\tlibrary\tinstructions\t{longest('pool_step', code, tables, strips=False)}")
 
 
 if __name__ == "__main__":

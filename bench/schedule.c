@@ -10,13 +10,14 @@
 /* At least one size of each class. */
 static const unsigned SIZES[] = {256, 200, 17, 160, 128, 224, 192, 100, 80, 64, 48, 16, 8, 96};
 
-struct schedule schedule_of(uint64_t seed, unsigned tasks, int odd_calls)
+struct schedule schedule_of(uint64_t seed, unsigned tasks, int odd_calls, int leaves)
 {
     struct schedule schedule;
     memset(&schedule, 0, sizeof schedule);
     schedule.random = seed * 2654435769 + 88172645463325252;
     schedule.tasks = tasks;
     schedule.odd_calls = odd_calls;
+    schedule.leaves = leaves;
     return schedule;
 }
 
@@ -43,7 +44,7 @@ static struct call odd_call(struct schedule *schedule)
     static const uint64_t NUMBERS[] = {0, 1, 257, 511, 8191, 8192, 8193, 8256, 16383, 16384, 65536, 65537, UINT64_MAX};
     static const uint64_t LENGTHS[] = {0, POOL_STRIPS_BYTES - 1, POOL_STRIPS_BYTES + 1};
     struct call call;
-    call.kind = (enum kind)schedule_random(schedule, 3);
+    call.kind = (enum kind)schedule_random(schedule, schedule->leaves ? 4 : 3);
     call.task = (unsigned)schedule_random(schedule, 10);
     call.number = NUMBERS[schedule_random(schedule, sizeof NUMBERS / sizeof *NUMBERS)];
     call.strips_length = schedule_random(schedule, 8) == 0 ? LENGTHS[schedule_random(schedule, 3)] : POOL_STRIPS_BYTES;
@@ -79,6 +80,10 @@ struct call schedule_next(struct schedule *schedule)
         return odd_call(schedule);
     if (schedule->busy[call.task])
         return call;
+    if (schedule->leaves && schedule_random(schedule, 24) == 0) {
+        call.kind = BEGIN_LEAVE;
+        return call;
+    }
     allocate = schedule_random(schedule, 8) != 0 ? schedule->filling : !schedule->filling;
     if (schedule_random(schedule, 6) == 0 && (allocate || schedule->strip_count != 0)) {
         call.kind = allocate ? BEGIN_ALLOCATE : BEGIN_FREE;
@@ -126,12 +131,12 @@ void schedule_answered(struct schedule *schedule, struct call call, uint64_t ans
         if (code != POOL_UNDER_WAY)
             return;
         schedule->busy[call.task] = 1;
-        schedule->allocating[call.task] = call.kind == BEGIN_ALLOCATE;
+        schedule->request[call.task] = call.kind;
         if (call.kind == BEGIN_FREE)
             drop_held(schedule, call.number);
         return;
     }
-    if (code == POOL_FINISHED && schedule->allocating[call.task])
+    if (code == POOL_FINISHED && schedule->request[call.task] == BEGIN_ALLOCATE)
         hold(schedule, (uint16_t)POOL_VALUE(answer));
     if (code == POOL_FINISHED || code == POOL_NO_DESCRIPTOR || code == POOL_NO_REGION || code == POOL_NO_STRIP)
         schedule->busy[call.task] = 0;
@@ -158,6 +163,9 @@ uint64_t make_call(const struct contender *contender, struct call call, uint8_t 
     case BEGIN_FREE:
         return contender->begin_free(control, POOL_CONTROL_BYTES, area, area_length, strips, call.strips_length,
                                      call.task, call.number);
+    case BEGIN_LEAVE:
+        return contender->begin_leave(control, POOL_CONTROL_BYTES, area, area_length, strips, call.strips_length,
+                                      call.task);
     default:
         return contender->step(control, POOL_CONTROL_BYTES, area, area_length, strips, call.strips_length, call.task);
     }

@@ -10,12 +10,12 @@
 
 #include "contender.h"
 
-enum kind { BEGIN_ALLOCATE, BEGIN_FREE, STEP };
+enum kind { BEGIN_ALLOCATE, BEGIN_FREE, STEP, BEGIN_LEAVE };
 
 struct call {
     enum kind kind;
     unsigned task;
-    uint64_t number;        /* the size or the unit; unused by a step */
+    uint64_t number;        /* the size or the unit; else unused */
     uint64_t strips_length; /* that is lent */
 };
 
@@ -27,15 +27,16 @@ struct schedule {
     int filling;          /* whether this phase mostly allocates */
     int sweeping;         /* whether this phase frees from the lowest unit up, so that regions empty; else any block */
     int odd_calls;        /* whether calls that are to be refused are mixed in */
+    int leaves;           /* whether tasks leave, too */
     int busy[8];          /* whether the task has a request in hand */
-    int allocating[8];    /* whether the task's request is an allocation */
+    enum kind request[8]; /* how it was begun */
     uint16_t held[8192];  /* the blocks in users' hands */
     unsigned held_count;
     uint16_t strips[128]; /* the strips in users' hands */
     unsigned strip_count;
 };
 
-struct schedule schedule_of(uint64_t seed, unsigned tasks, int odd_calls);
+struct schedule schedule_of(uint64_t seed, unsigned tasks, int odd_calls, int leaves);
 uint64_t schedule_random(struct schedule *schedule, uint64_t below);
 
 /* The next call; and what it was answered, which the calls after it depend on. */

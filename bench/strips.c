@@ -133,7 +133,7 @@ static void all_gives(const struct contender *contender, int *told)
 /* Steps on random bytes; the tests that every call makes are passed. */
 static void random_steps(const struct contender *contender, int *told)
 {
-    struct schedule source = schedule_of(1, 1, 0);
+    struct schedule source = schedule_of(1, 1, 0, 0);
     for (unsigned i = 0; i < RANDOM_CASES; i++) {
         int gives = i % 2 == 1;
         for (size_t k = 0; k < sizeof pool.bytes; k++)

@@ -74,10 +74,10 @@ END {
         table(what[w] ", for orientation", what[w], heap, heaps, heap[1])
     }
     made = "places where a step was made"
-    if ((made, "library", "of 35") in value) {
-        printf "\nPlaces where a step was made, of 35: library %s", value[made, "library", "of 35"]
+    if ((made, "library", "of 36") in value) {
+        printf "\nPlaces where a step was made, of 36: library %s", value[made, "library", "of 36"]
         for (k = 1; k <= pools; k++)
-            printf "; %s %s", pool[k], shown(made, pool[k], "of 35")
+            printf "; %s %s", pool[k], shown(made, pool[k], "of 36")
         print "."
     }
 }

@@ -70,6 +70,16 @@ static void chain_turn(const struct contender *contender, const struct workload 
     }
 }
 
+/* All blocks of a region are allocated and freed, so that all are in the cache; then the task leaves, and the region is
+   given back. */
+static void leave_turn(const struct contender *contender, const struct workload *workload)
+{
+    carve_turn(contender, workload);
+    (void)finish(contender, workload,
+                 contender->begin_leave(control, sizeof control, area, area_length(workload), strips, sizeof strips,
+                                        0));
+}
+
 static void start_turn(const struct contender *contender, const struct workload *workload)
 {
     (void)contender->start(control, sizeof control, area, area_length(workload), strips, sizeof strips,
@@ -91,6 +101,7 @@ const struct workload WORKLOADS[] = {
     {"hot pair of 48 bytes", 48, 1, 1, one_turn, NULL},
     {"cold pair, carving", 64, 2, 128, carve_turn, NULL},
     {"cold pair, chains", 64, 2, 128, chain_turn, NULL},
+    {"cold pair, leaving after 64", 64, 1, 64, leave_turn, NULL},
     {"strip pair of 512 bytes, fresh", POOL_STRIP_LEAST, 1, 1, one_turn, NULL},
     {"strip pair of 512 bytes, fragmented", POOL_STRIP_LEAST, 1, 1, one_turn, fragment},
     {"strip pair of 65,536 bytes, fresh", POOL_STRIPS_BYTES, 1, 1, one_turn, NULL},

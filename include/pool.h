@@ -63,6 +63,12 @@
  *
  * Between any two of these calls other tasks may begin requests and step theirs. Any task may free any block or strip.
  *
+ * A task that leaves is driven in the same way. It returns the blocks of its caches, and may begin again afterwards:
+ *
+ *     uint64_t answer = pool_begin_leave(control, sizeof control, area, sizeof area, strips, sizeof strips, task);
+ *     while (POOL_CODE(answer) == POOL_UNDER_WAY)
+ *         answer = pool_step(control, sizeof control, area, sizeof area, strips, sizeof strips, task);
+ *
  * ---- What is proved ----
  *
  * Of each call, for any bytes in the memories and any numbers: its answer, and every byte of the memories afterwards,
@@ -84,7 +90,7 @@
  *   1. The three memories do not overlap, and each really has the length that is lent with it. A pointer may be null
  *      where its length is 0.
  *   2. Calls do not overlap in time: mask interrupts or lock around each single call. The longest is a step of at most
- *      383 instructions; docs/BENCHMARKS.md says what this bound rests on.
+ *      388 instructions; docs/BENCHMARKS.md says what this bound rests on.
  *      A start, which comes before the others, also fills 8,192 bytes by your memset.
  *   3. Each call but a start lends the control memory, the area and the strips' memory of the last accepted start. If
  *      it lends another length, it is refused and does no harm.
@@ -105,10 +111,11 @@
  * blocks, up to as many as a region has.
  *
  * So POOL_NO_REGION may come though nobody holds a block. An example, with one task and one region: allocate 8 bytes,
- * free them, then allocate 16. The region's blocks of 8 bytes are all in the task's cache.
+ * free them, then allocate 16. The region's blocks of 8 bytes are all in the task's cache. If the task leaves after the
+ * free, the region is spare again, and the 16 bytes can be had.
  *
- * A free that finds its cache full returns the cached blocks to their regions. A region with all its blocks back in its
- * chain is released to the list of spare regions.
+ * A free that finds its cache full returns the cached blocks to their regions, and leaving does so with all caches of
+ * its task. A region with all its blocks back in its chain is released to the list of spare regions.
  *
  * Each open region uses one of 64 descriptors. A region that has emptied leaves its descriptor on the partial list of
  * its class, until an allocation of that class pops it. A running request may have one in hand, too.
@@ -117,15 +124,16 @@
  *
  *   - lend enough regions: docs/POOL.md, "How many regions do I need?";
  *   - let the same task free and allocate blocks of a class: it reuses its cache;
+ *   - let a task leave (pool_begin_leave) that has done its work: its caches keep no region any more;
  *   - start again: that gives everything back, and all blocks and strips are void.
  *
  * ---- What the code needs ----
  *
- * The beginnings and the steps for blocks have no loop. A step for a strip halves or joins at most seven times, and the
- * start loops over the control memory alone. No call makes a system call, allocates memory or keeps anything outside
- * the memories that it is lent. The library is target/staticlib/libpool.a,
- * made by 'rt staticlib pool'. A start needs memset from the firmware's C library, and SSE2 registers. The code is for
- * x86-64.
+ * The beginnings and the steps for blocks have no loop but one: leaving looks for the next of the task's thirteen
+ * caches that is not empty. A step for a strip halves or joins at most seven times, and the start loops over the
+ * control memory alone. No call makes a system call, allocates memory or keeps anything outside the memories that it is
+ * lent. The library is target/staticlib/libpool.a, made by 'rt staticlib pool'. A start needs memset from the
+ * firmware's C library, and SSE2 registers. The code is for x86-64.
  */
 #ifndef POOL_H
 #define POOL_H
@@ -239,6 +247,21 @@ uint64_t pool_begin_allocate(uint8_t *control, uint64_t control_length, const ui
  */
 uint64_t pool_begin_free(uint8_t *control, uint64_t control_length, const uint8_t *area, uint64_t area_length,
                          const uint8_t *strips, uint64_t strips_length, uint64_t task, uint64_t unit);
+
+/*
+ * Begins to leave, by a task that is idle. The steps that follow return every block of the task's caches to its region,
+ * the smallest blocks first, and a region that has all its blocks back is spare again, for blocks of any size. What is
+ * in users' hands stays there, whichever task allocated it, and can be freed by any task, this one with them. The call
+ * makes no step and neither reads nor writes the area. Afterwards the task may begin again; its caches are empty.
+ *
+ * With nothing cached the first step finishes. An example of how many it takes: after the first allocation of 256 bytes
+ * in a fresh pool, with that block in hand and fifteen cached, 23.
+ *
+ * Answers, by the first test that fails: POOL_BAD_CONTROL, POOL_NOT_STARTED, POOL_BAD_AREA, POOL_NO_SUCH_TASK,
+ * POOL_REQUEST_IN_HAND; else POOL_UNDER_WAY. POOL_DAMAGED comes where a bad value is read.
+ */
+uint64_t pool_begin_leave(uint8_t *control, uint64_t control_length, const uint8_t *area, uint64_t area_length,
+                          const uint8_t *strips, uint64_t strips_length, uint64_t task);
 
 /*
  * Makes one step of the request that a task has in hand. In the area it writes at most the first four bytes of one

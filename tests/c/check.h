@@ -18,6 +18,7 @@ void check_examples(void);
 void check_sizes(void);
 void check_blocks(void);
 void check_strips(void);
+void check_leaving(void);
 void check_ends(void);
 void check_regions(void);
 void check_refusals(void);

@@ -43,11 +43,19 @@ static const struct damage WHILE_IDLE[] = {
     {"9 tasks", TASKS, POOL_TASKS_MOST + 1, ALLOCATE, 8},
     {"0 regions", REGIONS, 0, ALLOCATE, 8},
     {"17 regions", REGIONS, POOL_REGIONS_MOST + 1, STEP, 0},
-    {"place 36", TASK_PLACE, 36, ALLOCATE, 8},
-    {"place 36", TASK_PLACE, 36, ALLOCATE, 1000},
-    {"place 36", TASK_PLACE, 36, FREE, 480},
-    {"place 36", TASK_PLACE, 36, FREE, 8192},
+    {"place 37", TASK_PLACE, 37, ALLOCATE, 8},
+    {"place 37", TASK_PLACE, 37, ALLOCATE, 1000},
+    {"place 37", TASK_PLACE, 37, FREE, 480},
+    {"place 37", TASK_PLACE, 37, FREE, 8192},
+    {"place 37", TASK_PLACE, 37, LEAVE, 0},
+    {"place 37", TASK_PLACE, 37, STEP, 0},
+    {"place 255", TASK_PLACE, 255, LEAVE, 0},
     {"place 255", TASK_PLACE, 255, STEP, 0},
+    {"9 tasks", TASKS, POOL_TASKS_MOST + 1, LEAVE, 0},
+    {"0 regions", REGIONS, 0, LEAVE, 0},
+    {"a count above n of the one cache that is not empty", COUNT + ENTRY * LARGEST, 17, LEAVE, 0},
+    {"a count above n of an empty cache below it", COUNT + ENTRY * (LARGEST - 1), 19, LEAVE, 0},
+    {"a count above n of the first cache", COUNT + 1, 3, LEAVE, 0},
     {"a map entry of 65", MAP, 65, FREE, 480},
     {"a descriptor's region past the area", DESCRIPTOR_REGION, 1, FREE, 480},
     {"an anchor's state 3", ANCHOR, 3, FREE, 480},
@@ -230,7 +238,8 @@ static void any_bytes(void)
         for (unsigned task = 0; task < 2; task++)
             answered = answered && POOL_CODE(begin_allocate(&lent, task, 8)) <= POOL_DAMAGED
                 && POOL_CODE(begin_free(&lent, task, 0)) <= POOL_DAMAGED
-                && POOL_CODE(begin_free(&lent, task, 8192)) <= POOL_DAMAGED && guards_whole(&lent)
+                && POOL_CODE(begin_free(&lent, task, 8192)) <= POOL_DAMAGED
+                && POOL_CODE(begin_leave(&lent, task)) <= POOL_DAMAGED && guards_whole(&lent)
                 && POOL_CODE(step(&lent, task)) <= POOL_DAMAGED && guards_whole(&lent);
     }
     check("control memory of any one byte is answered, within the memories", answered);

@@ -36,3 +36,8 @@ uint64_t first_call(uint8_t *control)
 {
     return pool_start(control, POOL_CONTROL_BYTES, area, sizeof area, strips, sizeof strips, POOL_TASKS_MOST);
 }
+
+uint64_t last_request(uint8_t *control, uint64_t task)
+{
+    return pool_begin_leave(control, POOL_CONTROL_BYTES, area, sizeof area, strips, sizeof strips, task);
+}

@@ -25,6 +25,7 @@ static void each_call(const char *what, const struct lent *lent, uint64_t length
     check_refused(name, lent, START, 0, 1, code);
     check_refused(name, lent, ALLOCATE, 0, 1, code);
     check_refused(name, lent, FREE, 0, 0, code);
+    check_refused(name, lent, LEAVE, 0, 0, code);
     check_refused(name, lent, STEP, 0, 0, code);
 }
 
@@ -62,6 +63,24 @@ static void strips_lengths(void)
     other.strips_length = 0;
     check_refused("a strip begun, no strips' memory", &other, STEP, 0, 0, POOL_BAD_AREA);
     check_answer("the true length is accepted still", step(&lent, 0), POOL_FINISHED, unit + 128);
+}
+
+/* A task that leaves is stepped with the true lengths only. */
+static void lengths_while_leaving(void)
+{
+    struct lent lent = started(2, 1);
+    struct lent other = lent;
+    (void)allocate(&lent, 0, 256);
+    (void)begin_leave(&lent, 0);
+    other.area_length = 4096;
+    check_refused("a task leaves, another area", &other, STEP, 0, 0, POOL_BAD_AREA);
+    other = lent;
+    other.strips_length = 512;
+    check_refused("a task leaves, other strips", &other, STEP, 0, 0, POOL_BAD_AREA);
+    other = lent;
+    other.control_length = 8193;
+    check_refused("a task leaves, another control", &other, STEP, 0, 0, POOL_BAD_CONTROL);
+    check_answer("with the true lengths it comes to its end", finish(&lent, 0, NULL), POOL_FINISHED, 0);
 }
 
 /* Every number of regions is started, and then no other length is taken. */
@@ -111,6 +130,7 @@ void check_lengths(void)
     control_lengths();
     area_lengths();
     strips_lengths();
+    lengths_while_leaving();
     each_started_length();
     null_pointers();
 }

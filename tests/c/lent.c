@@ -99,6 +99,11 @@ uint64_t begin_free(const struct lent *lent, uint64_t task, uint64_t unit)
     return pool_begin_free(LENT(lent), task, unit);
 }
 
+uint64_t begin_leave(const struct lent *lent, uint64_t task)
+{
+    return pool_begin_leave(LENT(lent), task);
+}
+
 uint64_t step(const struct lent *lent, uint64_t task)
 {
     return pool_step(LENT(lent), task);
@@ -126,5 +131,11 @@ uint64_t allocate(const struct lent *lent, uint64_t task, uint64_t size)
 uint64_t release(const struct lent *lent, uint64_t task, uint64_t unit)
 {
     uint64_t answer = begin_free(lent, task, unit);
+    return POOL_CODE(answer) == POOL_UNDER_WAY ? finish(lent, task, NULL) : answer;
+}
+
+uint64_t leave(const struct lent *lent, uint64_t task)
+{
+    uint64_t answer = begin_leave(lent, task);
     return POOL_CODE(answer) == POOL_UNDER_WAY ? finish(lent, task, NULL) : answer;
 }

@@ -38,6 +38,7 @@ int strips_as_kept(const struct lent *lent);
 uint64_t start(const struct lent *lent, uint64_t tasks);
 uint64_t begin_allocate(const struct lent *lent, uint64_t task, uint64_t size);
 uint64_t begin_free(const struct lent *lent, uint64_t task, uint64_t unit);
+uint64_t begin_leave(const struct lent *lent, uint64_t task);
 uint64_t step(const struct lent *lent, uint64_t task);
 
 /* Steps a task until the code is not POOL_UNDER_WAY. *steps counts the steps; it may be null. */
@@ -46,5 +47,6 @@ uint64_t finish(const struct lent *lent, uint64_t task, unsigned *steps);
 /* A whole request: begin, then steps. A refused beginning is answered as it is. */
 uint64_t allocate(const struct lent *lent, uint64_t task, uint64_t size);
 uint64_t release(const struct lent *lent, uint64_t task, uint64_t unit);
+uint64_t leave(const struct lent *lent, uint64_t task);
 
 #endif

@@ -7,6 +7,7 @@ int main(void)
     check_sizes();
     check_blocks();
     check_strips();
+    check_leaving();
     check_ends();
     check_regions();
     check_refusals();

@@ -7,7 +7,7 @@
 #include "pool.h"
 
 /* Three tasks allocate and free in turn, one step each, in a fixed order that fills and empties regions, with a strip
-   now and then. A sum of all answers stands for the run. */
+   now and then, and leave now and then. A sum of all answers stands for the run. */
 static uint64_t exercise(const struct lent *lent)
 {
     static uint64_t held[4096];
@@ -22,8 +22,10 @@ static uint64_t exercise(const struct lent *lent)
             held[count++] = POOL_VALUE(answer);
         if (POOL_CODE(answer) == POOL_UNDER_WAY)
             continue;
-        allocating[task] = count == 0 || (turn / 6000 % 2 == 0 && count < 4000);
-        if (allocating[task])
+        allocating[task] = turn % 61 != 0 && (count == 0 || (turn / 6000 % 2 == 0 && count < 4000));
+        if (turn % 61 == 0)
+            sum += begin_leave(lent, task);
+        else if (allocating[task])
             sum += begin_allocate(lent, task, turn % 7 == 0 ? 300 + turn % 4000 : turn % 5 == 0 ? 32 : 200);
         else
             sum += begin_free(lent, task, held[--count]);

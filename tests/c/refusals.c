@@ -72,6 +72,7 @@ static void in_hand_or_not(void)
     check_refused("a request in hand, size 65,537", &lent, ALLOCATE, 1, 65537, POOL_REQUEST_IN_HAND);
     check_refused("a request in hand, no block", &lent, FREE, 1, 512, POOL_REQUEST_IN_HAND);
     check_refused("a request in hand, no strip", &lent, FREE, 1, 8192, POOL_REQUEST_IN_HAND);
+    check_refused("a request in hand", &lent, LEAVE, 1, 0, POOL_REQUEST_IN_HAND);
     check_refused("no request, while another task has one", &lent, STEP, 0, 0, POOL_NO_REQUEST);
 }
 
@@ -111,6 +112,7 @@ void check_refusals(void)
     starts();
     common_tests(ALLOCATE);
     common_tests(FREE);
+    common_tests(LEAVE);
     common_tests(STEP);
     in_hand_or_not();
     sizes();

@@ -13,6 +13,8 @@ static uint64_t call(const struct lent *lent, enum kind kind, uint64_t task, uin
         return begin_allocate(lent, task, number);
     case FREE:
         return begin_free(lent, task, number);
+    case LEAVE:
+        return begin_leave(lent, task);
     default:
         return step(lent, task);
     }
@@ -21,7 +23,7 @@ static uint64_t call(const struct lent *lent, enum kind kind, uint64_t task, uin
 void check_refused(const char *name, const struct lent *lent, enum kind kind, uint64_t task, uint64_t number,
                    unsigned code)
 {
-    static const char *const KINDS[] = {"start", "begin allocate", "begin free", "step"};
+    static const char *const KINDS[] = {"start", "begin allocate", "begin free", "begin leave", "step"};
     char full[160];
     keep();
     snprintf(full, sizeof full, "%u, %s: %s", code, KINDS[kind], name);

@@ -3,15 +3,16 @@
 
 use crate::checks::{Checks, Parted};
 use crate::classes::CLASSES;
-use crate::coverage::{kind, PerPlace};
+use crate::coverage::{kind, PerPlace, KINDS};
 use crate::damage::{self, Bytes};
 use crate::expected;
 use crate::fitting;
 use crate::frames;
 use crate::layout::{self, View};
+use crate::leave_steps;
 use crate::library::{self, Lent};
 use crate::memory::{Memory, Side};
-use crate::pool::{Answer, Request, PLACES};
+use crate::pool::{Answer, Place, Request, PLACES};
 use crate::random::Random;
 use crate::strip_steps;
 use crate::strips::{unit_of, FIRST_UNIT, LAST_UNIT, SLOTS, STRIPS};
@@ -29,9 +30,18 @@ const SAME: &str = "arbitrary: the same call on the same bytes elsewhere does th
 const OUTSIDE: &str = "arbitrary: bytes outside the three memories are as they were";
 const STRIPS_KEPT: &str = "arbitrary: no call changes a byte of the strips' memory";
 const STRIP_STEPS: &str = "arbitrary: a strip's step does with any tree and slots what is defined";
+const LEAVING: &str = "arbitrary: where a return ends, the cache's count, the unit and the caches above decide";
 const IMAGE: &str = "arbitrary: a start leaves the same control memory whatever it was";
 
 const TRIALS: u64 = 1500;
+/// The codes that the paper gives to each kind of call, 14 with them.
+const CODES: [&[u64]; KINDS.len()] = [
+    &[0, 1, 2, 3],
+    &[0, 1, 2, 4, 5, 6, 8, 9, 14],
+    &[0, 1, 2, 4, 5, 6, 10, 11, 14],
+    &[0, 1, 2, 4, 5, 6, 14],
+    &[0, 20, 1, 2, 4, 5, 7, 12, 13, 14, 16],
+];
 /// What the strips' memory is filled with.
 const CANARY: u8 = 0x3C;
 const LENGTHS: [usize; 16] =
@@ -40,40 +50,41 @@ const LENGTHS: [usize; 16] =
 /// How often each code was answered, by kind of call, and 14 by the place of the task that stepped.
 #[derive(Default)]
 pub struct Counts {
-    codes: [[u64; 21]; 4],
+    codes: [[u64; 21]; KINDS.len()],
     fourteen_at: PerPlace,
     went_on_at: PerPlace,
     /// The classes of the requests that were stepped.
     classes: BTreeMap<u64, u64>,
+    /// Exchanges of leaving that led to another class, and to its last step.
+    led: [u64; 2],
 }
 
 impl Counts {
     pub fn print(&self) {
-        for (kind, name) in ["start", "begin allocate", "begin free", "step"].iter().enumerate() {
+        for (kind, name) in KINDS.iter().enumerate() {
             let codes: Vec<String> = (0..21)
                 .filter(|&code| self.codes[kind][code] > 0)
                 .map(|code| format!("{code} x {}", self.codes[kind][code]))
                 .collect();
             println!("arbitrary memories, codes of {name}: {}", codes.join(", "));
         }
-        println!("arbitrary memories, 14 at places 0 to 35: {:?}", self.fourteen_at.0);
-        println!("arbitrary memories, steps done at places 0 to 35: {:?}", self.went_on_at.0);
+        println!("arbitrary memories, 14 at places 0 to 36: {:?}", self.fourteen_at.0);
+        println!("arbitrary memories, steps done at places 0 to 36: {:?}", self.went_on_at.0);
+        println!("arbitrary memories, returns that led to leaving's next class, its last step: {:?}", self.led);
     }
 
     /// Every code that the paper gives to a kind of call, 14 with them, has to occur.
     pub fn report(&self, checks: &mut Checks) {
-        let due: [&[usize]; 4] = [
-            &[0, 1, 2, 3],
-            &[0, 1, 2, 4, 5, 6, 8, 9, 14],
-            &[0, 1, 2, 4, 5, 6, 10, 11, 14],
-            &[0, 20, 1, 2, 4, 5, 7, 12, 13, 14, 16],
-        ];
-        let all = (0..4).all(|kind| due[kind].iter().all(|&code| self.codes[kind][code] > 0));
+        let occurs = |kind: usize| CODES[kind].iter().all(|&code| self.codes[kind][code as usize] > 0);
+        let all = (0..KINDS.len()).all(occurs);
         let _ = checks.hold("arbitrary: each code of each kind of call occurs", all, || "see the counts".to_string());
         let last = CLASSES as u64 - 1;
         let edges = [last, last + 1, last + 2, last + 3, 255].iter().all(|class| self.classes.contains_key(class));
         let _ = checks
             .hold("arbitrary: steps of the last class and of some past it", edges, || format!("{:?}", self.classes));
+        let led = self.led.iter().all(|&times| times > 0);
+        let _ =
+            checks.hold("arbitrary: leaving goes on with another class and ends", led, || format!("{:?}", self.led));
         let deep = (1..PLACES).all(|place| self.went_on_at.0[place] > 0);
         let _ = checks.hold("arbitrary: steps are done at each place", deep, || "see the counts".to_string());
     }
@@ -153,6 +164,7 @@ impl<'a> Trial<'a> {
             2 if random.one_in(2) => Request::Free { task, unit: self.strip_unit(random) },
             2 => Request::Free { task, unit: random.number() },
             3 => Request::Free { task, unit: self.marked_unit(random) },
+            4 => Request::Leave { task },
             _ => Request::Step { task },
         }
     }
@@ -203,13 +215,8 @@ impl<'a> Trial<'a> {
     }
 
     fn check_answer(&mut self, request: Request, answer: Answer) -> Result<(), Parted> {
-        let codes: &[u64] = match request {
-            Request::Start { .. } => &[0, 1, 2, 3],
-            Request::Allocate { .. } => &[0, 1, 2, 4, 5, 6, 8, 9, 14],
-            Request::Free { .. } => &[0, 1, 2, 4, 5, 6, 10, 11, 14],
-            Request::Step { .. } => &[0, 20, 1, 2, 4, 5, 7, 12, 13, 14, 16],
-        };
-        self.checks.hold(CODE, codes.contains(&answer.0), || format!("{request:?}: {answer:?}"))?;
+        let known = CODES[kind(request)].contains(&answer.0);
+        self.checks.hold(CODE, known, || format!("{request:?}: {answer:?}"))?;
         let due = expected::code(&self.before, request);
         let as_due = match due {
             Some(code) => answer.0 == code,
@@ -227,12 +234,22 @@ impl<'a> Trial<'a> {
             if place != 0 && !(1..=11).contains(&answer.0) {
                 let class = layout::get(&self.before.control, layout::TASK_CLASS, task as usize);
                 *self.counts.classes.entry(class).or_default() += 1;
+                self.count_led(task as usize, place, class);
             }
             match answer.0 {
                 14 => self.counts.fourteen_at.0[place] += 1,
                 0 | 12 | 13 | 16 | 20 => self.counts.went_on_at.0[place] += 1,
                 _ => (),
             }
+        }
+    }
+
+    /// Counts an exchange by which leaving went on with another class, or to its last step.
+    fn count_led(&mut self, task: usize, place: usize, class: u64) {
+        let after = |column| layout::get(self.ending.control.bytes(), column, task);
+        if matches!(place, 19 | 22 | 32) && after(layout::TASK_UNIT) == layout::LEAVING {
+            self.counts.led[0] += u64::from(after(layout::TASK_CLASS) != class);
+            self.counts.led[1] += u64::from(after(layout::TASK_PLACE) == Place::Leave.number() as u64);
         }
     }
 
@@ -259,6 +276,8 @@ impl<'a> Trial<'a> {
                     let same = due == answer && area_same && strip_steps::same_pieces(&after, control);
                     self.checks.hold(STRIP_STEPS, same, || format!("{request:?} at place {place}: {answer:?}"))?;
                 }
+                let led = leave_steps::went_on(&self.before.control, control, task as usize, place);
+                self.checks.hold(LEAVING, led, || format!("{request:?} at place {place}: {answer:?}"))?;
                 let one = area_same || one_link(&self.before.area, area);
                 self.checks.hold(ONE_LINK, one, || format!("{request:?}: {answer:?}"))
             }

@@ -2,15 +2,24 @@
 
 use crate::checks::Checks;
 use crate::classes::CLASSES;
+use crate::leave_coverage::LeaveCoverage;
 use crate::pool::{Answer, Event, Place, Request, State, PLACES, REGIONS, TASKS};
 use crate::strip_coverage::StripCoverage;
 use std::collections::BTreeMap;
 
-pub const KINDS: [&str; 4] = ["start", "begin allocate", "begin free", "step"];
+pub const KINDS: [&str; 5] = ["start", "begin allocate", "begin free", "begin leave", "step"];
 
 /// The codes that each kind of call can answer in a run of the paper, in the order of its tests.
-const CODES: [&[u64]; 4] =
-    [&[0, 1, 2, 3], &[0, 1, 2, 4, 5, 6, 8, 9], &[0, 1, 2, 4, 5, 6, 10, 11], &[0, 20, 1, 2, 4, 5, 7, 12, 13, 16]];
+const CODES: [&[u64]; KINDS.len()] = [
+    &[0, 1, 2, 3],
+    &[0, 1, 2, 4, 5, 6, 8, 9],
+    &[0, 1, 2, 4, 5, 6, 10, 11],
+    &[0, 1, 2, 4, 5, 6],
+    &[0, 20, 1, 2, 4, 5, 7, 12, 13, 16],
+];
+
+/// What a return makes of an anchor's state.
+pub const CHANGES: [&str; 4] = ["FULL to PARTIAL", "FULL to EMPTY", "PARTIAL to PARTIAL", "PARTIAL to EMPTY"];
 
 /// The exchanges, by place, with what each is for.
 const EXCHANGES: [(usize, &str); 9] = [
@@ -61,6 +70,7 @@ pub struct Coverage {
     pub other_length_starts: u64,
     pub freed_by_another: u64,
     pub strips: StripCoverage,
+    pub leaving: LeaveCoverage,
 }
 
 impl Coverage {
@@ -70,7 +80,7 @@ impl Coverage {
         let kind = kind(request);
         *self.codes.entry((kind, answer.0)).or_default() += 1;
         let refused = (1..=11).contains(&answer.0);
-        if kind == 3 && !refused {
+        if matches!(request, Request::Step { .. }) && !refused {
             self.places.0[place.number()] += 1;
             self.count_event(place.number(), event);
         }
@@ -130,15 +140,10 @@ impl Coverage {
         }
         reached(checks, "allocate finds an anchor EMPTY", self.anchor_empty);
         reached(checks, "won exchange of an anchor that changed and came back: free", self.came_back);
-        for change in ["FULL to PARTIAL", "FULL to EMPTY", "PARTIAL to PARTIAL", "PARTIAL to EMPTY"] {
+        for change in CHANGES {
             reached(checks, &format!("return: {change}"), self.returns.get(change).copied().unwrap_or(0));
         }
-        for (kind, codes) in CODES.iter().enumerate() {
-            for code in codes.iter() {
-                let times = self.codes.get(&(kind, *code)).copied().unwrap_or(0);
-                reached(checks, &format!("{} answers {code}", KINDS[kind]), times);
-            }
-        }
+        self.report_codes(checks);
         let least = |row: &[u64]| row.iter().copied().min().unwrap_or(0);
         reached(checks, "starts with 1 to 8 tasks each", least(&self.tasks[1..]));
         reached(checks, "starts with 1 to 16 regions each", least(&self.regions[1..]));
@@ -151,12 +156,22 @@ impl Coverage {
         reached(checks, "starts on an area of another length", self.other_length_starts);
         reached(checks, "frees by a task that did not allocate the block", self.freed_by_another);
         self.strips.report(checks);
+        self.leaving.report(checks);
+    }
+
+    fn report_codes(&self, checks: &mut Checks) {
+        for (kind, codes) in CODES.iter().enumerate() {
+            for code in codes.iter() {
+                let times = self.codes.get(&(kind, *code)).copied().unwrap_or(0);
+                reached(checks, &format!("{} answers {code}", KINDS[kind]), times);
+            }
+        }
     }
 
     /// A short form: one line for each group of counts.
     pub fn print(&self) {
         println!("calls compared: {}; comparisons of structure: {}", self.calls, self.comparisons);
-        println!("steps by place 1 to 35: {:?}", &self.places.0[1..]);
+        println!("steps by place 1 to 36: {:?}", &self.places.0[1..]);
         for (place, what) in EXCHANGES {
             let (won, lost, same) = (self.won.0[place], self.lost.0[place], self.lost_same_top.0[place]);
             let again = format!("{same} of them with the same one first again");
@@ -168,6 +183,7 @@ impl Coverage {
         println!("by class, allocations finished: {:?}; regions opened: {:?}", self.allocated, self.opened);
         println!("by class, chains taken: {:?}; groups returned: {:?}", self.taken, self.returned);
         self.strips.print();
+        self.leaving.print();
         for (kind, name) in KINDS.iter().enumerate() {
             let codes: Vec<String> = self
                 .codes
@@ -186,7 +202,8 @@ pub fn kind(request: Request) -> usize {
         Request::Start { .. } => 0,
         Request::Allocate { .. } => 1,
         Request::Free { .. } => 2,
-        Request::Step { .. } => 3,
+        Request::Leave { .. } => 3,
+        Request::Step { .. } => 4,
     }
 }
 
@@ -200,12 +217,12 @@ pub fn reached(checks: &mut Checks, name: &str, times: u64) {
     }
 }
 
-fn change(was: State, now: State) -> &'static str {
+pub fn change(was: State, now: State) -> &'static str {
     match (was, now) {
-        (State::Full, State::Partial) => "FULL to PARTIAL",
-        (State::Full, State::Empty) => "FULL to EMPTY",
-        (State::Partial, State::Partial) => "PARTIAL to PARTIAL",
-        (State::Partial, State::Empty) => "PARTIAL to EMPTY",
+        (State::Full, State::Partial) => CHANGES[0],
+        (State::Full, State::Empty) => CHANGES[1],
+        (State::Partial, State::Partial) => CHANGES[2],
+        (State::Partial, State::Empty) => CHANGES[3],
         _ => "of no state that a return can have",
     }
 }

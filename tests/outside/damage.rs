@@ -1,7 +1,7 @@
 //! Memories with arbitrary bytes: of any values, and valid ones that were damaged.
 
 use crate::checks::Checks;
-use crate::classes::CLASSES;
+use crate::classes::{per_region, CLASSES};
 use crate::coverage::Coverage;
 use crate::driver::Driver;
 use crate::faults::Fault;
@@ -37,7 +37,7 @@ const SHARED_COLUMNS: [Column; 12] = [
 ];
 
 /// The styles of the runs whose states are damaged.
-const STYLES: [&str; 9] = [
+const STYLES: [&str; 11] = [
     "everything at random",
     "few regions, large blocks",
     "one region, many tasks",
@@ -47,6 +47,8 @@ const STYLES: [&str; 9] = [
     "strips of every order",
     "small strips until none is left",
     "strips beside blocks",
+    "tasks that leave",
+    "many classes, then leaving",
 ];
 
 /// The first byte behind the last column.
@@ -107,7 +109,8 @@ pub fn any(random: &mut Random) -> Bytes {
 
 /// A number near the limits of some field.
 fn edge(random: &mut Random) -> u64 {
-    const EDGES: [u64; 20] = [0, 1, 2, 3, 7, 8, 9, 16, 17, 35, 36, 63, 64, 65, 512, 513, 8191, 8192, 16384, u64::MAX];
+    const EDGES: [u64; 21] =
+        [0, 1, 2, 3, 7, 8, 9, 16, 17, 36, 37, 63, 64, 65, 512, 513, 8191, 8192, 16384, 16385, u64::MAX];
     match random.below(5) {
         0 => random.pick(&EDGES),
         1 => class_edge(random),
@@ -125,7 +128,7 @@ fn class_edge(random: &mut Random) -> u64 {
 /// Changes one or several bytes or fields.
 pub fn damage(bytes: &mut Bytes, random: &mut Random) {
     for _ in 0..random.pick(&[1, 1, 1, 2, 3, 8, 30]) {
-        match random.below(7) {
+        match random.below(8) {
             0 => bytes.control[random.below(END) as usize] = random.next() as u8,
             1 => {
                 let place = random.below(bytes.area.len() as u64) as usize;
@@ -135,6 +138,7 @@ pub fn damage(bytes: &mut Bytes, random: &mut Random) {
             3 => damage_field(bytes, &OF_A_TASK, random),
             4 => damage_class(bytes, random),
             5 => damage_strip(bytes, random),
+            6 => damage_leaving(bytes, random),
             _ => damage_link(bytes, random),
         }
     }
@@ -178,6 +182,17 @@ fn damage_strip(bytes: &mut Bytes, random: &mut Random) {
         2 => set(&mut bytes.control, SLOT_BYTES, begins, random.below(LAST + 3)),
         3 => set(&mut bytes.control, TASK_CLASS, task, random.below(CLASSES as u64 + 2)),
         _ => set(&mut bytes.control, TASK_UNIT, task, unit_of(begins) + random.pick(&[0, 1, 8, 63, 64])),
+    }
+}
+
+/// Changes what a task returns for, or a count that the search for a cache may read.
+fn damage_leaving(bytes: &mut Bytes, random: &mut Random) {
+    let task = random.below(pool::TASKS as u64) as usize;
+    let class = random.below(CLASSES as u64) as usize;
+    match random.below(3) {
+        0 => set(&mut bytes.control, TASK_UNIT, task, LEAVING + random.below(3) - 1),
+        1 => set(&mut bytes.control, COUNT, cache_index(task, class), random.below(2)),
+        _ => set(&mut bytes.control, COUNT, cache_index(task, class), per_region(class) + random.below(2)),
     }
 }
 

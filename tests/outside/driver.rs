@@ -2,16 +2,17 @@
 //! a caller see is compared after it.
 
 use crate::checks::{Checks, Parted};
-use crate::classes::{class_of, is_aligned, is_first, UNIT};
+use crate::classes::{class_of, is_aligned, is_first, CLASSES, UNIT};
 use crate::coverage::Coverage;
 use crate::faults::Fault;
-use crate::layout::{self, View};
+use crate::layout::{self, cache_index, View, COUNT};
 use crate::library::{self, Lent};
 use crate::lists::LISTS;
 use crate::memory::{Memory, Side};
 use crate::pieces;
 use crate::pool::{Answer, Call, Place, Pool, Request, ALL_UNITS, CONTROL, TASKS};
 use crate::random::Random;
+use crate::ranges;
 use crate::slots::Slots;
 use crate::strip_checks::STRIPS_KEPT;
 use crate::strips::{LEAST_SIZE, STRIPS};
@@ -26,6 +27,7 @@ pub const UNCHANGED: &str = "a refused call changes no byte of any memory";
 pub const HELD: &str = "a block in a user's hands is touched by no call";
 pub const ONE_LINK: &str = "a step writes at most one link of the area, a start or a beginning none";
 pub const OUTSIDE: &str = "bytes outside the three memories are as they were";
+pub const LEFT: &str = "a task that has left has no block in any cache";
 
 pub struct Driver<'a> {
     pub pool: Pool,
@@ -57,6 +59,7 @@ impl<'a> Driver<'a> {
         let mut strips = Memory::new(STRIPS as usize, Side::EndsAtGuard);
         random.fill(area.bytes_mut());
         random.fill(strips.bytes_mut());
+        coverage.leaving.forget();
         Driver {
             pool: Pool::new(fault),
             control_before: control.bytes().to_vec(),
@@ -95,9 +98,11 @@ impl<'a> Driver<'a> {
             self.compare_answers(call, answer, expected)?;
             self.compare_strips(call, place, expected)?;
             self.compare_memories(call, expected)?;
+            self.check_left(call.request, place, answer)?;
         }
         self.coverage.count(call.request, place, self.pool.event, expected);
         self.coverage.strips.count(&call, &self.pool, expected);
+        self.coverage.leaving.count(&call, place, &self.pool, expected);
         self.count_more(call, place, busy, expected);
         self.follow(call.request, place, expected);
         Ok(expected)
@@ -148,6 +153,14 @@ impl<'a> Driver<'a> {
             }
             _ => Ok(()),
         }
+    }
+
+    /// Looks into the memory, without the plain pool, where a task has left.
+    fn check_left(&mut self, request: Request, place: Place, answer: Answer) -> Result<(), Parted> {
+        let (Request::Step { task }, Place::Leave, 20) = (request, place, answer.0) else { return Ok(()) };
+        let count = |class| layout::get(self.lent.control.bytes(), COUNT, cache_index(task as usize, class));
+        let cached: u64 = (0..CLASSES).map(count).sum();
+        self.checks.hold(LEFT, cached == 0, || format!("task {task} has {cached} blocks cached"))
     }
 
     fn compare_answers(&mut self, call: Call, answer: Answer, expected: Answer) -> Result<(), Parted> {
@@ -229,6 +242,9 @@ impl<'a> Driver<'a> {
         let pool = &self.pool;
         self.checks.agree("structure: each task's place", structure::places(pool, &view))?;
         self.checks.agree("structure: what each task asks of the strips", pieces::requests(pool, &view))?;
+        self.checks
+            .agree("structure: what each task returns for, and in which class", structure::returns(pool, &view))?;
+        self.checks.agree("structure: each field is in its range", ranges::in_range(&view))?;
         self.checks.agree("structure: each list's items", structure::lists(pool, &view))?;
         self.checks.agree("structure: open regions and classes", structure::open_regions(pool, &view))?;
         self.checks.agree("structure: map entries", structure::map(pool, &view))?;

@@ -1,13 +1,14 @@
 //! The tests of a call in any memory, in their order, read by the documents of the layout: "Start tests 1, 2, 3. Other
 //! calls test 1, 4, 2, 5, then 6 or 7, then 8, 9 or 10, 11. 14 comes where the bad value is read, before any write."
 //! A start and a beginning are determined by them; of a step only the refusals before its place is looked at, the
-//! class, which every step reads, and the steps of strips.
+//! class, which every step reads, the steps of strips and the last one of leaving.
 
 use crate::classes::{is_first, CLASSES, UNITS_PER_REGION};
 use crate::damage::Bytes;
 use crate::layout::*;
+use crate::leave_steps;
 use crate::pieces::{BEGUN, HELD, LAST};
-use crate::pool::{self, Request, PLACES};
+use crate::pool::{self, Place, Request, PLACES};
 use crate::strip_steps::{self, order_at, slot_of};
 use crate::strips::{FIRST_UNIT, STRIPS};
 
@@ -15,7 +16,8 @@ use crate::strips::{FIRST_UNIT, STRIPS};
 pub fn code(bytes: &Bytes, request: Request) -> Option<u64> {
     let task = match request {
         Request::Start { tasks } => return Some(start(bytes, tasks)),
-        Request::Allocate { task, .. } | Request::Free { task, .. } | Request::Step { task } => task,
+        Request::Allocate { task, .. } | Request::Free { task, .. } => task,
+        Request::Leave { task } | Request::Step { task } => task,
     };
     let common = common(bytes, task);
     if common != 0 {
@@ -26,8 +28,10 @@ pub fn code(bytes: &Bytes, request: Request) -> Option<u64> {
         _ if place >= PLACES as u64 => Some(14),
         Request::Step { .. } if place == 0 => Some(7),
         Request::Step { .. } if get(&bytes.control, TASK_CLASS, task as usize) >= CLASSES as u64 => Some(14),
+        Request::Step { .. } if place == Place::Leave.number() as u64 => Some(20),
         Request::Step { .. } => strip_steps::due(&bytes.control, task as usize, place as usize).map(|due| due.0 .0),
         _ if place != 0 => Some(6),
+        Request::Leave { .. } => Some(leave_steps::begun(&bytes.control, task as usize).0),
         Request::Allocate { size: 0, .. } => Some(8),
         Request::Allocate { size, .. } => Some(if size > STRIPS { 9 } else { 0 }),
         Request::Free { unit, .. } if unit >= FIRST_UNIT => Some(free_of_strip(bytes, unit)),
@@ -118,11 +122,12 @@ fn block_and_mark(view: &View, unit: u64, class: usize) -> u64 {
 }
 
 /// Whether an accepted beginning changed nothing of control but the task's own fields and, for a free, cleared the
-/// block's mark or noted in the slot's byte that the strip's free has begun.
+/// block's mark or noted in the slot's byte that the strip's free has begun. That of leaving is known to the byte.
 pub fn beginning_changed_its_own(before: &[u8], after: &[u8], request: Request) -> bool {
     let (task, unit) = match request {
         Request::Allocate { task, .. } => (task as usize, None),
         Request::Free { task, unit } => (task as usize, Some(unit as usize)),
+        Request::Leave { task } => return leave_steps::begun(before, task as usize).1 == after,
         _ => return true,
     };
     let mut due = before.to_vec();

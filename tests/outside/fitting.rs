@@ -36,7 +36,7 @@ pub fn fitting(random: &mut Random) -> Bytes {
     for column in [TASK_INDEX, TASK_LEFT, GROUP_FIRST, GROUP_LAST, GROUP_COUNT] {
         fit(control, column, random, |random| random.from_to(0, LEAST_N));
     }
-    fit(control, TASK_UNIT, random, |random| unit(random, regions));
+    fit(control, TASK_UNIT, random, |random| if random.one_in(2) { LEAVING } else { unit(random, regions) });
     fit(control, TASK_PLACE, random, |random| random.below(PLACES as u64));
     let often = class(random);
     let class_of = |random: &mut Random| if random.one_in(2) { often } else { class(random) };

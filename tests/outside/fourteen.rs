@@ -1,6 +1,7 @@
 //! The paper's sentence on 14, clause by clause: in a state in the middle of a run one value that the next call has to
 //! read is made bad, and the call has to answer 14 and leave every byte as it is. The call is a step of a task, or the
-//! beginning of a free by one that is idle. Beside them stand the last values that are in range, which are not 14.
+//! beginning of a free or of leaving by one that is idle. Beside them stand the last values that are in range, which are
+//! not 14.
 //!
 //! "14 a value read for this call is outside its field's range, or names none, or no block of the class, where one is
 //! due; a count would pass n; an anchor to take a chain from is FULL, or PARTIAL with count 0; or a link is outside 0
@@ -12,10 +13,13 @@ use crate::damage::Bytes;
 use crate::driver::Driver;
 use crate::faults::Fault;
 use crate::fourteen_cases::{Case, CASES};
+use crate::fourteen_leaving::LEAVE_CASES;
 use crate::fourteen_strips::STRIP_CASES;
+use crate::layout::View;
 use crate::library::{self, Lent};
 use crate::memory::Side;
 use crate::pool::Request;
+use crate::ranges;
 use crate::schedules::Schedule;
 use crate::styles;
 use std::collections::BTreeMap;
@@ -23,18 +27,20 @@ use std::collections::BTreeMap;
 /// How often each case was tried at each place.
 pub type Tried = BTreeMap<(&'static str, usize), u64>;
 const AT_MOST: u64 = 12;
-const STYLES: [&str; 6] = [
+const STYLES: [&str; 8] = [
     "few regions, large blocks",
     "few blocks, quick changes",
     "fill, empty, other class",
     "one region, many tasks",
     "small blocks, long chains",
     "strips of every order",
+    "tasks that leave",
+    "all leave in step",
 ];
 
-/// All cases: those of blocks, then those of strips.
+/// All cases: those of blocks, then those of strips and of leaving.
 fn cases() -> impl Iterator<Item = &'static Case> {
-    CASES.iter().chain(STRIP_CASES)
+    CASES.iter().chain(STRIP_CASES).chain(LEAVE_CASES)
 }
 
 /// Runs schedules and tries each case in states where it applies.
@@ -45,13 +51,22 @@ pub fn round(seed: u64, checks: &mut Checks, tried: &mut Tried) {
         let mut driver = Driver::new(1, seed, Fault::None, &mut own_checks, &mut coverage);
         let style = styles::named(name);
         let mut schedule = Schedule::new(&mut driver, style);
-        // A disagreement here is found and counted by the schedules themselves.
+        // A disagreement here is found and counted by the schedules themselves. It ends the schedule: the cases are about
+        // states that a run can have.
         let _ = schedule.start();
         for _ in 0..700 {
-            let _ = schedule.some(8);
+            if schedule.some(8).is_err() || !is_whole(schedule.driver) {
+                break;
+            }
             try_all(schedule.driver, checks, tried);
         }
     }
+}
+
+/// Whether each field is in its range before one of them is made bad.
+fn is_whole(driver: &Driver) -> bool {
+    let view = View { control: driver.lent.control.bytes(), area: driver.lent.area.bytes() };
+    ranges::in_range(&view).is_ok()
 }
 
 /// Tries the cases that belong to the place of each task.
@@ -70,12 +85,11 @@ fn try_all(driver: &Driver, checks: &mut Checks, tried: &mut Tried) {
 
 /// Whether the state has the value of the case. Then it is changed, and the call is made.
 fn try_one(case: &Case, mut bytes: Bytes, task: usize, place: usize, checks: &mut Checks) -> bool {
-    let unit = if place == 0 { (case.freed)(&bytes) } else { None };
+    let begun = if place == 0 { (case.begun)(&bytes, task as u64) } else { None };
     if !(case.change)(&mut bytes, task, place) {
         return false;
     }
-    let task = task as u64;
-    let request = unit.map_or(Request::Step { task }, |unit| Request::Free { task, unit });
+    let request = begun.unwrap_or(Request::Step { task: task as u64 });
     let mut lent = Lent::closed(&bytes.control, &bytes.area, bytes.strips, Side::EndsAtGuard);
     let answer = library::call(&mut lent, request);
     let name = format!("{}: {}", if case.bad { "14" } else { "not 14" }, case.name);

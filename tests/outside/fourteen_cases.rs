@@ -6,7 +6,7 @@ use crate::damage::Bytes;
 use crate::layout::*;
 use crate::lists::{SPARE_DESCRIPTORS, SPARE_REGIONS};
 use crate::pieces::{BEGUN, HELD};
-use crate::pool;
+use crate::pool::{self, Request};
 use crate::strips::{unit_of, SLOTS};
 
 pub struct Case {
@@ -16,18 +16,18 @@ pub struct Case {
     pub change: Change,
     /// Whether 14 is due; if not, any other code is.
     pub bad: bool,
-    /// What an idle task begins to free, found before the change.
-    pub freed: fn(&Bytes) -> Option<u64>,
+    /// What an idle task begins, found before the change.
+    pub begun: fn(&Bytes, u64) -> Option<Request>,
 }
 
 pub type Change = fn(&mut Bytes, usize, usize) -> bool;
 
 pub const fn case(name: &'static str, places: &'static [usize], change: Change) -> Case {
-    Case { name, places, change, bad: true, freed: held }
+    Case { name, places, change, bad: true, begun: free_held }
 }
 
 pub const fn in_range(name: &'static str, places: &'static [usize], change: Change) -> Case {
-    Case { name, places, change, bad: false, freed: held }
+    Case { name, places, change, bad: false, begun: free_held }
 }
 
 const HEAD_READS: &[usize] = &[2, 5, 8, 11, 14, 17, 20];
@@ -36,8 +36,11 @@ const EXCHANGES: &[usize] = &[4, 7, 10, 13, 16, 19, 22];
 const FREE: &[usize] = &[0];
 const ALL: &[usize] = &[
     1, 2, 3, 4, 5, 6, 7, 8, 9, 10, 11, 12, 13, 14, 15, 16, 17, 18, 19, 20, 21, 22, 23, 24, 25, 26, 27, 28, 29, 30, 31,
-    32, 33, 34, 35,
+    32, 33, 34, 35, 36,
 ];
+
+/// The last place of the step list.
+const LAST_PLACE: u64 = pool::PLACES as u64 - 1;
 
 /// The first class past the table.
 const PAST: u64 = CLASSES as u64;
@@ -46,12 +49,12 @@ pub const CASES: &[Case] = &[
     case("the started number of tasks is 9", ALL, |bytes, _, _| put(bytes, TASKS, 0, 9)),
     case("the started number of regions is 0", ALL, |bytes, _, _| put(bytes, REGIONS, 0, 0)),
     case("the started number of regions is 17", ALL, |bytes, _, _| put(bytes, REGIONS, 0, pool::REGIONS as u64 + 1)),
-    case("a place past the step list", ALL, |bytes, task, _| put(bytes, TASK_PLACE, task, 36)),
+    case("a place past the step list", ALL, |bytes, task, _| put(bytes, TASK_PLACE, task, LAST_PLACE + 1)),
     in_range("the last place of the step list, as a free begins", FREE, |bytes, task, _| {
-        put(bytes, TASK_PLACE, task, 35) && held(bytes).is_some()
+        put(bytes, TASK_PLACE, task, LAST_PLACE) && held(bytes).is_some()
     }),
     case("a place past the step list, as a free begins", FREE, |bytes, task, _| {
-        put(bytes, TASK_PLACE, task, 36) && held(bytes).is_some()
+        put(bytes, TASK_PLACE, task, LAST_PLACE + 1) && held(bytes).is_some()
     }),
     in_range("the last class of the table", &[1, 2], task_class::<{ PAST - 1 }>),
     case("the first class past the table", ALL, task_class::<PAST>),
@@ -158,6 +161,11 @@ fn descriptor_class<const CLASS: u64>(bytes: &mut Bytes, _: usize, _: usize) -> 
 pub fn held(bytes: &Bytes) -> Option<u64> {
     let view = View { control: &bytes.control, area: &bytes.area };
     (0..bytes.area.len() as u64 / UNIT).find(|&unit| view.mark(unit as usize))
+}
+
+/// The free of the lowest block in a user's hands begins.
+fn free_held(bytes: &Bytes, task: u64) -> Option<Request> {
+    held(bytes).map(|unit| Request::Free { task, unit })
 }
 
 /// The highest strip in a user's hands.

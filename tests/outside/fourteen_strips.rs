@@ -5,6 +5,7 @@ use crate::damage::Bytes;
 use crate::fourteen_cases::{case, held_strip, in_range, put, Case, Change};
 use crate::layout::*;
 use crate::pieces::{BEGUN, HELD, LAST};
+use crate::pool::Request;
 use crate::strip_steps::{order_at, slot_of};
 use crate::strips::{ORDERS, SLOTS};
 
@@ -14,7 +15,7 @@ const GIVE: &[usize] = &[35];
 const FREE: &[usize] = &[0];
 
 const fn of_strip(name: &'static str, change: Change) -> Case {
-    Case { freed: held_strip, ..case(name, FREE, change) }
+    Case { begun: free_strip, ..case(name, FREE, change) }
 }
 
 pub const STRIP_CASES: &[Case] = &[
@@ -59,6 +60,11 @@ pub const STRIP_CASES: &[Case] = &[
     Case { bad: false, ..of_strip("a free begins where one has begun", |bytes, _, _| held_byte(bytes, BEGUN)) },
     Case { bad: false, ..of_strip("a free begins of a shorter strip", |bytes, _, _| held_byte(bytes, HELD)) },
 ];
+
+/// The free of the highest strip in hand begins.
+fn free_strip(bytes: &Bytes, task: u64) -> Option<Request> {
+    held_strip(bytes).map(|unit| Request::Free { task, unit })
+}
 
 /// The order that a task asks for stands in the field of its class.
 fn asked<const ORDER: u64>(bytes: &mut Bytes, task: usize, _: usize) -> bool {

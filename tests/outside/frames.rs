@@ -25,7 +25,7 @@ pub fn step_changed_its_own(before: &[u8], after: &[u8], task: usize, place: usi
     for column in OF_A_TASK {
         set(&mut due, column, task, get(after, column, task));
     }
-    for word in 0..if place >= 34 { FREE_NODES.fields } else { 0 } {
+    for word in 0..if matches!(place, 34 | 35) { FREE_NODES.fields } else { 0 } {
         set(&mut due, FREE_NODES, word, get(after, FREE_NODES, word));
     }
     written_at(place).iter().all(|&column| carry_over(&mut due, before, after, column)) && due == after

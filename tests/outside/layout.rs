@@ -52,6 +52,9 @@ pub const REGIONS: Column = column(5945, 1, 1);
 pub const FREE_NODES: Column = column(6016, 8, 4);
 pub const SLOT_BYTES: Column = column(6048, 1, strips::SLOTS);
 
+/// What stands in the place of a unit while a task leaves: the first number that is no unit.
+pub const LEAVING: u64 = 16_384;
+
 /// The columns that are not of one task alone.
 const SHARED: [Column; 14] = [
     HEAD,
@@ -218,8 +221,9 @@ impl View<'_> {
         };
         let unit = |block: u64| region as u64 * UNITS_PER_REGION + block * units(class);
         let mut all: Vec<u64> = blocks.into_iter().map(unit).collect();
-        if matches!(place, 17..=22 | 28..=33) {
-            all.push(self.get(TASK_UNIT, task));
+        let unit = self.get(TASK_UNIT, task);
+        if matches!(place, 17..=22 | 28..=33) && unit != LEAVING {
+            all.push(unit);
         }
         Ok(all)
     }

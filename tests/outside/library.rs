@@ -1,4 +1,4 @@
-//! The four functions of the library, called with numbers and the three memories as the firmware in C calls them.
+//! The five functions of the library, called with numbers and the three memories as the firmware in C calls them.
 
 use crate::memory::{Memory, Side};
 use crate::pool::{Answer, Request};
@@ -33,6 +33,15 @@ unsafe extern "C" {
         strips_length: u64,
         task: u64,
         unit: u64,
+    ) -> u64;
+    fn pool_begin_leave(
+        control: *mut u8,
+        control_length: u64,
+        area: *const u8,
+        area_length: u64,
+        strips: *const u8,
+        strips_length: u64,
+        task: u64,
     ) -> u64;
     fn pool_step(
         control: *mut u8,
@@ -78,6 +87,7 @@ pub fn call(lent: &mut Lent, request: Request) -> Answer {
             Request::Start { tasks } => pool_start(c, c_length, a, a_length, s, s_length, tasks),
             Request::Allocate { task, size } => pool_begin_allocate(c, c_length, a, a_length, s, s_length, task, size),
             Request::Free { task, unit } => pool_begin_free(c, c_length, a, a_length, s, s_length, task, unit),
+            Request::Leave { task } => pool_begin_leave(c, c_length, a, a_length, s, s_length, task),
             Request::Step { task } => pool_step(c, c_length, a, a_length, s, s_length, task),
         }
     };

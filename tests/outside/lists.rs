@@ -129,6 +129,7 @@ impl Pool {
         match self.fault {
             Fault::TagIgnored => list.row.front().copied() == note.top,
             Fault::LostGoesOn => !list.row.is_empty() || list.won == note.won,
+            Fault::LeaveLostGoesOn if self.tasks[task].leaving => true,
             Fault::TagAtPopsOnly => list.won == note.won && list.row.front().copied() == note.top,
             _ => list.won == note.won,
         }
@@ -198,6 +199,7 @@ impl Pool {
         let emptied = self.tasks[task].emptied;
         let skip = match self.fault {
             Fault::FullEmptyOffList | Fault::TakenBack => emptied,
+            Fault::LeaveOffList => self.tasks[task].leaving,
             _ => false,
         };
         if self.tasks[task].was_full && !skip {
@@ -206,11 +208,16 @@ impl Pool {
         self.after_return(task)
     }
 
-    /// Free 6: "Cache not empty: 2. Else 1."
+    /// Free 6: "Cache not empty: 2. Else 1." Leaving goes on with its other caches instead of 1.
     fn after_return(&mut self, task: usize) -> (u64, u64) {
         let class = self.tasks[task].class;
         self.tasks[task].under = Under::Nothing;
-        let place = if self.caches[task][class].is_empty() { Place::FreeCache } else { Place::Group };
-        self.go(task, place)
+        if self.returns_more(task, class) {
+            return self.go(task, Place::Group);
+        }
+        match self.tasks[task].leaving || self.fault == Fault::FreeLeaves {
+            true => self.leave_after(task, class),
+            false => self.go(task, Place::FreeCache),
+        }
     }
 }

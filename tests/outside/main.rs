@@ -13,9 +13,14 @@ mod faults;
 mod fitting;
 mod fourteen;
 mod fourteen_cases;
+mod fourteen_leaving;
 mod fourteen_strips;
 mod frames;
 mod layout;
+mod leave_coverage;
+mod leave_directed;
+mod leave_steps;
+mod leaving;
 mod library;
 mod lists;
 mod memory;
@@ -24,6 +29,7 @@ mod pieces;
 mod places;
 mod pool;
 mod random;
+mod ranges;
 mod refusals;
 mod schedules;
 mod slots;
@@ -64,7 +70,7 @@ struct Options {
 
 const FIXED_ROUNDS: u64 = 16;
 type Directed = fn(&mut Driver) -> Result<(), Parted>;
-const DIRECTED: [Directed; 16] = [
+const DIRECTED: [Directed; 23] = [
     directed::first_allocations,
     directed::bench_refusals,
     directed::every_size,
@@ -81,6 +87,13 @@ const DIRECTED: [Directed; 16] = [
     strips_directed::all_slots,
     strips_directed::units_of_strips,
     strips_directed::lengths,
+    leave_directed::steps_of_leaving,
+    leave_directed::classes_in_order,
+    leave_directed::two_at_once,
+    leave_directed::all_at_once,
+    leave_directed::after_a_strip,
+    leave_directed::refusals_of_leaving,
+    leave_directed::no_descriptor_by_leaving,
 ];
 
 fn usage() -> ! {

@@ -14,10 +14,11 @@ impl Schedule<'_, '_> {
         let control = if random.percent(15) { random.pick(&LENGTHS) } else { CONTROL };
         let area = if random.percent(20) { random.pick(&LENGTHS) } else { self.driver.lent.area.len() as u64 };
         let strips = if random.percent(15) { random.pick(&LENGTHS) } else { STRIPS };
-        let request = match random.below(6) {
+        let request = match random.below(7) {
             0 => return self.odd_start(control, area, strips),
             1 | 2 => Request::Allocate { task: self.odd_task(), size: self.odd_size() },
             3 | 4 => Request::Free { task: self.odd_task(), unit: self.odd_unit() },
+            5 => Request::Leave { task: self.odd_task() },
             _ => Request::Step { task: self.odd_task() },
         };
         Call { control, area, strips, request }

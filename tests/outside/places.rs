@@ -21,13 +21,14 @@ pub enum Place {
     ClearMap,
     TakeStrip,
     GiveStrip,
+    Leave,
 }
 
 /// How many places there are, idle with them.
-pub const PLACES: usize = 36;
+pub const PLACES: usize = 37;
 
 impl Place {
-    /// The places by number, 0 for idle and 1 to 35 in the step list, as the documents of the layout count them.
+    /// The places by number, 0 for idle and 1 to 36 in the step list, as the documents of the layout count them.
     pub fn number(self) -> usize {
         match self {
             Place::Idle => 0,
@@ -46,7 +47,13 @@ impl Place {
             Place::ClearMap => 33,
             Place::TakeStrip => 34,
             Place::GiveStrip => 35,
+            Place::Leave => 36,
         }
+    }
+
+    /// Whether the request returns blocks there: a free, from its first step on, or leaving before its last.
+    pub fn returns(self) -> bool {
+        matches!(self.number(), 17..=22 | 28..=33)
     }
 
     pub fn is_exchange(self) -> bool {

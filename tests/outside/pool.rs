@@ -61,6 +61,8 @@ pub struct Task {
     pub order: usize,
     /// The block or strip that a free gives back.
     pub unit: u64,
+    /// Whether the request is leaving, which has no block of its own.
+    pub leaving: bool,
     pub head: HeadNote,
     pub anchor: AnchorNote,
     pub changes: u64,
@@ -124,6 +126,7 @@ pub enum Request {
     Start { tasks: u64 },
     Allocate { task: u64, size: u64 },
     Free { task: u64, unit: u64 },
+    Leave { task: u64 },
     Step { task: u64 },
 }
 
@@ -144,6 +147,7 @@ impl Pool {
             class: 0,
             order: 0,
             unit: 0,
+            leaving: false,
             head: HeadNote::default(),
             anchor,
             changes: 0,
@@ -180,6 +184,7 @@ impl Pool {
             Request::Start { tasks } => self.start(tasks, call.area),
             Request::Allocate { task, size } => self.begin_allocate(task as usize, size),
             Request::Free { task, unit } => self.begin_free(task as usize, unit),
+            Request::Leave { task } => self.begin_leave(task as usize),
             Request::Step { task } => self.step(task as usize),
         }
     }
@@ -206,6 +211,7 @@ impl Pool {
         if size >= LEAST_SIZE {
             return self.begin_take(task, size);
         }
+        self.tasks[task].leaving = false;
         self.tasks[task].class = self.class_of(size);
         self.go(task, Place::AllocateCache)
     }
@@ -219,6 +225,7 @@ impl Pool {
         let descriptor = self.map[region].expect("the region is open");
         self.tasks[task].class = self.descriptors[descriptor].class;
         self.tasks[task].unit = unit;
+        self.tasks[task].leaving = false;
         self.marks[unit as usize] = self.fault == Fault::MarkNotCleared;
         self.go(task, Place::FreeCache)
     }

@@ -15,6 +15,7 @@ impl Pool {
                 first(&[self.common(call, task), self.busy(task), self.size_refusal(size)])
             }
             Request::Free { task, unit } => first(&[self.common(call, task), self.busy(task), self.unit_refusal(unit)]),
+            Request::Leave { task } => first(&[self.common(call, task), self.busy_to_leave(task)]),
             Request::Step { task } => first(&[self.common(call, task), self.idle(task)]),
         }
     }
@@ -40,6 +41,14 @@ impl Pool {
     /// "6 the task has a request in hand".
     fn busy(&self, task: u64) -> u64 {
         number_if(6, self.has_request(task))
+    }
+
+    /// "Tests for a request in hand apply as for any other."
+    fn busy_to_leave(&self, task: u64) -> u64 {
+        match self.fault {
+            Fault::LeaveWhileBusy => 0,
+            _ => self.busy(task),
+        }
     }
 
     /// "7 step without one".

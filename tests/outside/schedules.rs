@@ -175,6 +175,9 @@ impl<'a, 'b> Schedule<'a, 'b> {
 
     /// What an idle task begins.
     fn beginning(&mut self, task: u64) -> Request {
+        if self.driver.random.one_in(self.style.leave) {
+            return Request::Leave { task };
+        }
         let leaning = if self.style.swing == 0 { 100 } else { 88 };
         let allocates = self.driver.random.percent(leaning) == self.filling;
         match self.block_to_free() {

@@ -35,12 +35,12 @@ pub fn output(input: &[u8]) -> String {
 
 /// The bytes of a record's body, by its kind: "1 start (tasks, regions); 2 allocate (task, size in two bytes, low
 /// first); 3 free (task, unit in two bytes, low first); 4 step (task); 5 run (task, most steps in two bytes, low
-/// first)".
+/// first)". "The stand gets kind 6, body one task byte."
 fn body_length(kind: u8) -> Option<usize> {
     match kind {
         1 => Some(2),
         2 | 3 | 5 => Some(3),
-        4 => Some(1),
+        4 | 6 => Some(1),
         _ => None,
     }
 }
@@ -73,7 +73,8 @@ impl Stand {
             2 => self.ask(Request::Allocate { task, size: word }),
             3 => self.ask(Request::Free { task, unit: word }),
             4 => self.ask(Request::Step { task }),
-            _ => self.run(task, word),
+            5 => self.run(task, word),
+            _ => self.ask(Request::Leave { task }),
         }
     }
 

@@ -12,8 +12,11 @@ const EXAMPLE_OUTPUT: &str =
     "record kind code value\n0 1 0 0\n1 2 0 0\n2 5 20 480\n3 3 0 0\n4 5 20 0\n5 3 11 0\ntotal 2 3 1\n";
 const SCHEDULES: u64 = 60;
 
+/// A name, an input and its output.
+type Decided = (&'static str, Vec<u8>, String);
+
 /// Inputs whose output follows from the paper's words and the decisions, with that output after the line of names.
-fn decided() -> Vec<(&'static str, Vec<u8>, String)> {
+fn decided() -> Vec<Decided> {
     let long = [4u8, 0].repeat(LIMIT / 2 + 10);
     let many: String = (0..LIMIT / 2).map(|record| format!("{record} 4 4 0\n")).collect();
     let mut over = [4u8, 0].repeat(LIMIT / 2 - 1);
@@ -23,7 +26,7 @@ fn decided() -> Vec<(&'static str, Vec<u8>, String)> {
     vec![
         ("empty input", vec![], "total 0 0 0\n".to_string()),
         ("unknown kind", vec![0, 1, 1], "0 0 15 0\ntotal 0 0 1\n".to_string()),
-        ("unknown kind 6 after a start", vec![1, 1, 1, 6], "0 1 0 0\n1 6 15 0\ntotal 0 1 1\n".to_string()),
+        ("unknown kind 7 after a start", vec![1, 1, 1, 7], "0 1 0 0\n1 7 15 0\ntotal 0 1 1\n".to_string()),
         ("cut record", vec![1, 1], "0 1 15 0\ntotal 0 0 1\n".to_string()),
         ("kind alone", vec![5], "0 5 15 0\ntotal 0 0 1\n".to_string()),
         ("five regions, nine tasks", vec![1, 9, 5], "0 1 2 0\ntotal 0 0 1\n".to_string()),
@@ -32,6 +35,14 @@ fn decided() -> Vec<(&'static str, Vec<u8>, String)> {
         ("run of 0 before a start", vec![5, 200, 0, 0], "0 5 0 0\ntotal 0 1 0\n".to_string()),
         ("run of 1 before a start", vec![5, 0, 1, 0], "0 5 4 0\ntotal 0 0 1\n".to_string()),
         ("run without a request", vec![1, 1, 1, 5, 0, 9, 0], "0 1 0 0\n1 5 7 0\ntotal 0 1 1\n".to_string()),
+        ("more than 65,536 bytes", long, format!("{many}total 0 0 {}\n", LIMIT / 2)),
+        ("cut by 65,536 bytes", over, format!("{almost}{last} 1 15 0\ntotal 0 0 {}\n", LIMIT / 2)),
+    ]
+}
+
+/// The same for strips and for leaving.
+fn decided_requests() -> Vec<Decided> {
+    vec![
         (
             "257 bytes are a strip, given back in one step",
             vec![1, 1, 1, 2, 0, 1, 1, 4, 0, 3, 0, 0, 32, 4, 0, 3, 0, 0, 32],
@@ -42,8 +53,18 @@ fn decided() -> Vec<(&'static str, Vec<u8>, String)> {
             vec![1, 1, 1, 2, 0, 255, 255, 5, 0, 9, 0, 2, 0, 1, 1, 5, 0, 9, 0, 4, 0],
             "0 1 0 0\n1 2 0 0\n2 5 20 8192\n3 2 0 0\n4 5 16 0\n5 4 7 0\ntotal 1 3 2\n".to_string(),
         ),
-        ("more than 65,536 bytes", long, format!("{many}total 0 0 {}\n", LIMIT / 2)),
-        ("cut by 65,536 bytes", over, format!("{almost}{last} 1 15 0\ntotal 0 0 {}\n", LIMIT / 2)),
+        ("leaving without its task", vec![1, 1, 1, 6], "0 1 0 0\n1 6 15 0\ntotal 0 1 1\n".to_string()),
+        ("leaving before a start", vec![6, 0], "0 6 4 0\ntotal 0 0 1\n".to_string()),
+        (
+            "leaving with nothing cached finishes in its first step",
+            vec![1, 1, 1, 6, 0, 6, 0, 4, 0, 4, 0, 6, 1],
+            "0 1 0 0\n1 6 0 0\n2 6 6 0\n3 4 20 0\n4 4 7 0\n5 6 5 0\ntotal 1 2 3\n".to_string(),
+        ),
+        (
+            "leaving with fifteen blocks cached and one in hand finishes at step 23",
+            vec![1, 1, 1, 2, 0, 0, 1, 5, 0, 26, 0, 6, 0, 5, 0, 22, 0, 4, 0],
+            "0 1 0 0\n1 2 0 0\n2 5 20 480\n3 6 0 0\n4 5 0 0\n5 4 20 0\ntotal 2 4 0\n".to_string(),
+        ),
     ]
 }
 
@@ -51,7 +72,7 @@ fn decided() -> Vec<(&'static str, Vec<u8>, String)> {
 pub fn by_itself(checks: &mut Checks) {
     let got = stand::output(EXAMPLE);
     let _ = checks.hold("stand: the paper's example", got == EXAMPLE_OUTPUT, || got.clone());
-    for (name, input, lines) in decided() {
+    for (name, input, lines) in decided().into_iter().chain(decided_requests()) {
         let expected = format!("record kind code value\n{lines}");
         let got = stand::output(&input);
         let _ = checks.hold(&format!("stand: {name}"), got == expected, || got.chars().take(200).collect());
@@ -62,7 +83,7 @@ pub fn by_itself(checks: &mut Checks) {
 pub fn against_program(program: &str, seed: u64, checks: &mut Checks) {
     let mut random = Random::new(seed ^ 0x57A4D);
     let _ = compare(program, EXAMPLE, checks);
-    for (_, input, _) in decided() {
+    for (_, input, _) in decided().into_iter().chain(decided_requests()) {
         let _ = compare(program, &input, checks);
     }
     for _ in 0..SCHEDULES {
@@ -140,6 +161,7 @@ fn record(random: &mut Random, tasks: u8, (large, strips): (bool, u64), held: &m
         9 if strip => words(3, 8192 + random.below(8300) / 32 * 32),
         9 => words(3, random.below(2200)),
         10 | 11 => vec![4, task],
+        12 if random.one_in(2) => vec![6, task],
         12 => words(5, random.below(4)),
         _ => words(5, random.pick(&[30, 100, 1000, 65_535])),
     }
@@ -149,12 +171,12 @@ fn record(random: &mut Random, tasks: u8, (large, strips): (bool, u64), held: &m
 fn damage(bytes: &mut Vec<u8>, random: &mut Random) {
     for _ in 0..random.below(6) {
         let place = random.below(bytes.len() as u64) as usize;
-        bytes[place] = if random.one_in(2) { random.below(7) as u8 } else { random.next() as u8 };
+        bytes[place] = if random.one_in(2) { random.below(8) as u8 } else { random.next() as u8 };
     }
     if random.one_in(2) {
         bytes.truncate(random.below(bytes.len() as u64 + 1) as usize);
     }
     if random.one_in(4) {
-        bytes.extend((0..random.below(2000)).map(|_| random.below(6) as u8));
+        bytes.extend((0..random.below(2000)).map(|_| random.below(7) as u8));
     }
 }

@@ -28,6 +28,7 @@ impl Pool {
             Place::ClearMap => self.clear_map(task),
             Place::TakeStrip => self.take_strip(task),
             Place::GiveStrip => self.give_strip(task),
+            Place::Leave => self.finish_leaving(task),
         }
     }
 
@@ -77,6 +78,7 @@ impl Pool {
         match self.fault {
             Fault::AnchorFirstOnly => now.first == self.tasks[task].anchor.first,
             Fault::AnchorLostGoesOn => true,
+            Fault::LeaveLostGoesOn if self.tasks[task].leaving => true,
             Fault::AnchorTagged => self.descriptors[descriptor].changes == self.tasks[task].changes,
             _ => now == self.tasks[task].anchor,
         }
@@ -177,8 +179,8 @@ impl Pool {
     /// Free 2: "A step takes the cache's top into the group, if the group is empty or the top is of the same region.
     /// Otherwise, or with the cache empty, that step closes the group. A taken block is linked behind the last."
     fn gather(&mut self, task: usize) -> Answer {
-        let class = self.tasks[task].class;
-        let top = self.caches[task][class].last().copied();
+        let (class, owner) = (self.tasks[task].class, self.owner_of_caches(task));
+        let top = self.caches[owner][class].last().copied();
         let mut group = match std::mem::replace(&mut self.tasks[task].under, Under::Nothing) {
             Under::Group(group) => group,
             _ => VecDeque::new(),
@@ -187,14 +189,17 @@ impl Pool {
         let single = self.fault == Fault::GroupOfOne;
         let joins = top.filter(|&unit| group.is_empty() || (of_group(unit) && !single));
         let Some(unit) = joins else {
+            if group.is_empty() {
+                return self.leave_after(task, class);
+            }
             self.tasks[task].under = Under::Group(group);
             return self.go(task, Place::ReadAnchorToReturn);
         };
         self.tasks[task].region = (unit / UNITS_PER_REGION) as usize;
-        self.caches[task][class].pop();
+        self.caches[owner][class].pop();
         group.push_back(unit % UNITS_PER_REGION / self.units(class));
         self.tasks[task].under = Under::Group(group);
-        if self.caches[task][class].is_empty() && self.fault == Fault::ClosingFree {
+        if self.caches[owner][class].is_empty() && self.fault == Fault::ClosingFree {
             return self.go(task, Place::ReadAnchorToReturn);
         }
         (0, 0)
@@ -252,7 +257,11 @@ impl Pool {
     /// Free 4: "If now EMPTY: one step clears the map entry of the group's region, then push that region on its spare
     /// list." Then 5.
     fn after_exchange(&mut self, task: usize, was: State, now: State) -> Answer {
-        let kept = self.fault == Fault::FullEmptyKept && was == State::Full;
+        let kept = match self.fault {
+            Fault::FullEmptyKept => was == State::Full,
+            Fault::LeaveKeepsRegions => self.tasks[task].leaving,
+            _ => false,
+        };
         if now != State::Empty || kept {
             return self.after_release(task);
         }

@@ -47,6 +47,7 @@ impl Driver<'_> {
             Request::Start { .. } => true,
             Request::Allocate { size, .. } => size >= LEAST_SIZE,
             Request::Free { unit, .. } => unit >= FIRST_UNIT,
+            Request::Leave { .. } => false,
             Request::Step { .. } => matches!(place, Place::TakeStrip | Place::GiveStrip),
         };
         let what = || format!("{call:?}");

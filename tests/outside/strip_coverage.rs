@@ -1,7 +1,7 @@
 //! What the schedules reached of the strips, counted from the plain pool alone.
 
 use crate::checks::Checks;
-use crate::coverage::reached;
+use crate::coverage::{kind, reached, KINDS};
 use crate::pool::{Answer, Call, Event, Pool, Request};
 use crate::strips::{unit_of, State, FIRST_UNIT, LAST_UNIT, ORDERS, STRIPS};
 
@@ -26,7 +26,7 @@ pub struct StripCoverage {
     past: u64,
     begun: u64,
     /// Calls refused by the length of the strips' memory alone, by kind.
-    lengths: [u64; 4],
+    lengths: [u64; KINDS.len()],
     pub restarts_held: u64,
     pub restarts_begun: u64,
     pub freed_by_another: u64,
@@ -57,7 +57,7 @@ impl StripCoverage {
             _ => (),
         }
         if answer.0 == 2 && call.strips != STRIPS && call.area == pool.area_length {
-            self.lengths[crate::coverage::kind(call.request)] += 1;
+            self.lengths[kind(call.request)] += 1;
         }
     }
 
@@ -92,7 +92,7 @@ impl StripCoverage {
         reached(checks, "10 at the first unit of a free piece", self.at_free);
         reached(checks, "10 from unit 16,384 up", self.past);
         reached(checks, "11 at a strip whose free has begun", self.begun);
-        for (kind, name) in crate::coverage::KINDS.iter().enumerate() {
+        for (kind, name) in KINDS.iter().enumerate() {
             reached(checks, &format!("{name} answers 2 for the strips' length alone"), self.lengths[kind]);
         }
         reached(checks, "starts while strips are held", self.restarts_held);

@@ -142,6 +142,7 @@ impl Pool {
     }
 
     pub fn begin_take(&mut self, task: usize, size: u64) -> Answer {
+        self.tasks[task].leaving = false;
         self.tasks[task].order = self.strip_order(size);
         self.go(task, Place::TakeStrip)
     }
@@ -155,6 +156,7 @@ impl Pool {
             piece.state = State::Begun(task);
         }
         self.tasks[task].unit = unit;
+        self.tasks[task].leaving = false;
         self.go(task, Place::GiveStrip)
     }
 

@@ -6,7 +6,7 @@ use crate::driver::Driver;
 use crate::pool::{Answer, Call, Request, CONTROL};
 use crate::strips::{unit_of, FIRST_UNIT, LAST_UNIT, ORDERS, SLOT, SLOTS, STRIPS, UNITS_PER_SLOT, WHOLE};
 
-fn expect(driver: &mut Driver, name: &str, got: (u64, Answer), due: (u64, Answer)) -> Result<(), Parted> {
+pub fn expect(driver: &mut Driver, name: &str, got: (u64, Answer), due: (u64, Answer)) -> Result<(), Parted> {
     driver.checks.hold(&format!("directed: {name}"), got == due, || format!("{got:?} where {due:?} is due"))
 }
 
@@ -116,10 +116,12 @@ pub fn lengths(driver: &mut Driver) -> Result<(), Parted> {
         Request::Start { tasks: 1 },
         Request::Allocate { task: 0, size: 300 },
         Request::Free { task: 0, unit: FIRST_UNIT },
+        Request::Leave { task: 0 },
         Request::Step { task: 0 },
         Request::Start { tasks: 9 },
         Request::Allocate { task: 9, size: 0 },
         Request::Free { task: 9, unit: 16_384 },
+        Request::Leave { task: 9 },
         Request::Step { task: 9 },
     ];
     for started in [false, true] {

@@ -2,10 +2,11 @@
 //! class, and, for these, the chain in order and each block's holder."
 
 use crate::classes::{per_region, units, CLASSES, REGION, UNITS_PER_REGION};
+use crate::faults::Fault;
 use crate::layout::{cache_index, outside_fields, View, CACHE_STRIDE, COUNT, TOP};
-use crate::layout::{DESCRIPTOR_CLASS, MAP, REGIONS, TASKS, TASK_PLACE};
+use crate::layout::{DESCRIPTOR_CLASS, LEAVING, MAP, REGIONS, TASKS, TASK_CLASS, TASK_PLACE, TASK_UNIT};
 use crate::lists::LISTS;
-use crate::pool::{self, Pool, Under, ALL_UNITS};
+use crate::pool::{self, Place, Pool, Under, ALL_UNITS};
 use std::sync::LazyLock;
 
 /// A block's holder: "a user's hands, a task or its region's chain, and it stands there once".
@@ -117,6 +118,19 @@ pub fn places(pool: &Pool, view: &View) -> Result<(), String> {
     Ok(())
 }
 
+/// What a task returns blocks for, a block of its own to be freed or leaving, and the class at which it is.
+pub fn returns(pool: &Pool, view: &View) -> Result<(), String> {
+    for (task, plain) in pool.tasks.iter().enumerate() {
+        let class = plain.place.returns().then_some(plain.class as u64);
+        let due = if plain.leaving { LEAVING } else { plain.unit };
+        let (unit, of_class) = (view.get(TASK_UNIT, task), view.get(TASK_CLASS, task));
+        if class.is_some_and(|class| (unit, of_class) != (due, class)) || plain.place == Place::Leave && unit != due {
+            return Err(format!("task {task} at {:?}: unit {unit}, class {of_class} where {due} is due", plain.place));
+        }
+    }
+    Ok(())
+}
+
 /// The documents of the layout: the bytes that belong to no field are "zero from the start on".
 pub fn gaps(view: &View) -> Result<(), String> {
     static OUTSIDE: LazyLock<Vec<bool>> = LazyLock::new(outside_fields);
@@ -196,7 +210,8 @@ fn plain_holders(pool: &Pool) -> Result<Vec<Holder>, String> {
     Ok(holders)
 }
 
-/// "a chain or group under way, a block being freed and blocks still to be carved count with their task's cache".
+/// "a chain or group under way, a block being freed and blocks still to be carved count with their task's cache". A task
+/// that leaves frees no block of its own.
 fn plain_under_way(pool: &Pool, task: usize) -> Vec<u64> {
     let state = &pool.tasks[task];
     let unit = |block: u64| state.region as u64 * UNITS_PER_REGION + block * units(state.class);
@@ -205,7 +220,7 @@ fn plain_under_way(pool: &Pool, task: usize) -> Vec<u64> {
         Under::Chain(blocks) | Under::Group(blocks) => blocks.iter().map(|&block| unit(block)).collect(),
         Under::Carving(next) => (*next..per_region(state.class)).map(unit).collect(),
     };
-    if matches!(state.place.number(), 17..=22 | 28..=33) {
+    if state.place.returns() && (!state.leaving || pool.fault == Fault::LeaveHolds) {
         all.push(state.unit);
     }
     all

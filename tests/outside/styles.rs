@@ -35,6 +35,8 @@ pub struct Style {
     /// In how many of a hundred cases a strip is asked for, and the smallest and the largest of its orders.
     pub strips: u64,
     pub orders: (usize, usize),
+    /// One in this many beginnings is that of leaving.
+    pub leave: u64,
     pub turn: Turn,
     pub order: Order,
     /// In how many of a hundred cases a task that stands before an exchange lets another go first.
@@ -57,6 +59,7 @@ const BASE: Style = Style {
     at_once: 3,
     strips: 0,
     orders: (0, WHOLE),
+    leave: 80,
     turn: Turn::Any,
     order: Order::Any,
     stall: 30,
@@ -196,6 +199,42 @@ pub const STYLES: &[Style] = &[
         stall: 40,
         freeze: 100,
         swing: 400,
+        ..BASE
+    },
+    Style {
+        name: "tasks that leave",
+        tasks: (2, 8),
+        regions: (1, 4),
+        blocks: (160, 256),
+        leave: 5,
+        stall: 50,
+        freeze: 60,
+        swing: 300,
+        odd: 20,
+        ..BASE
+    },
+    Style {
+        name: "all leave in step",
+        tasks: (2, 8),
+        regions: (1, 6),
+        blocks: (192, 256),
+        at_once: 2,
+        leave: 4,
+        turn: Turn::Around,
+        stall: 20,
+        freeze: 100,
+        swing: 200,
+        ..BASE
+    },
+    Style {
+        name: "many classes, then leaving",
+        regions: (8, REGIONS as u64),
+        at_once: CLASSES as u64,
+        strips: 5,
+        leave: 25,
+        turn: Turn::Bursts(60),
+        swing: 500,
+        restart: 6000,
         ..BASE
     },
 ];

@@ -4,7 +4,7 @@
 
 use crate::classes::{CLASSES, UNIT};
 use crate::faults::Fault;
-use crate::layout::{self, cache_index, View, SLOT_BYTES, TASK_CLASS, TASK_PLACE, TOP};
+use crate::layout::{self, cache_index, View, COUNT, SLOT_BYTES, TASK_CLASS, TASK_PLACE, TASK_UNIT, TOP};
 use crate::library::Lent;
 use crate::memory::Memory;
 use crate::pieces::{BEGUN, HELD};
@@ -36,6 +36,7 @@ const FIRST_CARVED: usize = cache_index(0, CLASSES - 1);
 pub fn after(lent: &mut Lent, request: Request, before: Before, answer: Answer) -> Answer {
     let Some(fault) = TAMPERING.get() else { return answer };
     let answer = after_strip(lent, *fault, before.place, answer);
+    let answer = after_leave(&mut lent.control, *fault, request, before.place, answer);
     let Before { place, class, byte } = before;
     let Lent { control, area, .. } = lent;
     let refused = matches!(answer.0, 1..=11 | 14);
@@ -86,6 +87,26 @@ fn after_strip(lent: &mut Lent, fault: Fault, place: u64, answer: Answer) -> Ans
         (Fault::SixteenEarly, Some(_)) => return (16, 0),
         (Fault::SlotPassed, _) if place == 35 && answer.0 == 14 => return (20, 0),
         (Fault::StripsLengthPassed, _) if answer.0 == 2 && strips.len() as u64 != STRIPS => return (0, 0),
+        _ => (),
+    }
+    answer
+}
+
+/// The same for the faults that are about leaving.
+fn after_leave(control: &mut Memory, fault: Fault, request: Request, place: u64, answer: Answer) -> Answer {
+    let begins = match request {
+        Request::Leave { task } if answer.0 == 0 => Some(task as usize),
+        _ => None,
+    };
+    let leave = matches!(request, Request::Leave { .. });
+    match (fault, begins) {
+        (Fault::LeaveWritesCount, Some(task)) => flip(control, COUNT.first + COUNT.width * cache_index(task, 0)),
+        (Fault::LeaveUnitKept, Some(task)) => layout::set(control.bytes_mut(), TASK_UNIT, task, 0),
+        (Fault::LeaveCountPassed, _) if leave && answer.0 == 14 => return (0, 0),
+        (Fault::LeaveBusyPassed, _) if leave && answer.0 == 6 => return (0, 0),
+        (Fault::LeaveUnitPassed, _) if matches!(place, 19 | 22 | 32) && answer.0 == 14 => return (0, 0),
+        (Fault::LeaveStepWrites, _) if place == 36 && answer.0 == 20 => flip(control, TASK_CLASS.first),
+        (Fault::LeaveEndsWithValue, _) if place == 36 && answer.0 == 20 => return (20, 1),
         _ => (),
     }
     answer

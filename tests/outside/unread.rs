@@ -68,6 +68,7 @@ fn request(control: &[u8], area: &[u8], random: &mut Random) -> Request {
     let unit = if random.one_in(4) { held_strip(&bytes) } else { held(&bytes) };
     match unit {
         _ if get(control, TASK_PLACE, task as usize) != 0 => Request::Step { task },
+        _ if random.one_in(12) => Request::Leave { task },
         Some(unit) if random.one_in(2) => Request::Free { task, unit },
         _ if random.one_in(4) => Request::Allocate { task, size: random.next() % STRIPS >> random.below(9) | 257 },
         _ => Request::Allocate { task, size: random.from_to(1, 256) },

@@ -10,7 +10,7 @@ from documents import README, read, squeezed, tables_by
 
 STATEMENTS = ('crates/demands/proofs/Demands.antt', 'crates/demands/proofs/EndingSteps.antt',
               'crates/demands/proofs/HandedOut.antt')
-IMPORT = re.compile(r'^use Rattle·(\w+)(?:·specs)?\.specs\.(\w+)', re.M)
+IMPORT = re.compile(r'^(?:unfoldable )?(?:pub )?use Rattle·(\w+)(?:·specs)?\.specs\.(\w+)', re.M)
 
 
 def path_of(crate, name):
@@ -31,7 +31,7 @@ def cited():
 
 def lines_of(path):
     """The lines that are no comment, no import and not empty."""
-    return sum(not re.match(r'\s*(--|use |$)', line) for line in read(path).splitlines())
+    return sum(not re.match(r'\s*(--|(unfoldable )?(pub )?use |$)', line) for line in read(path).splitlines())
 
 
 def files_of(cell):

@@ -22,7 +22,8 @@ CONSTANTS = {'POOL_CONTROL_BYTES': 'CONTROL-BYTES', 'POOL_REGION_BYTES': 'REGION
              'POOL_STRIP_FIRST': 'UNITS'}
 # The sentences on the order of the tests, and the lists of tests that make them up. 14 comes between, where it is read.
 ORDERS = {'a start': ['startTests'], 'the beginning of an allocation': ['callTests', 'idleTests', 'sizeTests'],
-          'the beginning of a free': ['callTests', 'idleTests', 'unitTests'], 'a step': ['callTests', 'requestTests']}
+          'the beginning of a free': ['callTests', 'idleTests', 'unitTests'],
+          'the beginning of leaving': ['callTests', 'idleTests', 'searchTests'], 'a step': ['callTests', 'requestTests']}
 
 
 def number_of(cell):

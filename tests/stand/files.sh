@@ -47,7 +47,7 @@ begins_bytes() {
         'record kind code value' "0 $2 15 0" 'total 0 0 1' 'status 0'
 }
 begins_bytes '\0' 0
-begins_bytes '\x06' 6
+begins_bytes '\x07' 7
 begins_bytes '\x1f' 31
 begins_bytes ' \n\x01' 32
 begins_bytes '\xef\xbb\xbf\x01' 239

@@ -30,7 +30,7 @@ for awk in mawk gawk 'busybox awk' original-awk; do
         cat "${example%.txt}.out" >>"$out/due"
     done
     printf 'step 0\nst\xffep 0\n' | PATH=$PWD/$out/awk:$PATH ./stand --text >>"$out/wrote" 2>&1
-    echo 'stand: line 2: expected start, allocate, free, step or run; found st?ep 0' >>"$out/due"
+    echo 'stand: line 2: expected start, allocate, free, step, run or leave; found st?ep 0' >>"$out/due"
     printf 'step 0\r\n\377\0\n' | PATH=$PWD/$out/awk:$PATH ./stand --text >>"$out/wrote" 2>&1
     echo "stand: line 2: not text; found the byte 0$saved" >>"$out/due"
 done
@@ -46,7 +46,8 @@ an_allocation='allocate TASK SIZE, a task 0 to 255 and a size 0 to 65535'
 a_free='free TASK UNIT, a task 0 to 255 and a unit 0 to 65535'
 a_step='step TASK, a task 0 to 255'
 a_run='run TASK MOST, a task 0 to 255 and most steps 0 to 65535'
-any='start, allocate, free, step or run'
+a_leave='leave TASK, a task 0 to 255'
+any='start, allocate, free, step, run or leave'
 wrong 'stop' "$any"
 wrong 'Start 1 1' "$any"
 wrong 'start 1' "$a_start"
@@ -66,6 +67,12 @@ wrong 'start 1 1 1' "$a_start"
 wrong 'run 0 1 step 0' "$a_run"
 wrong 'run 0 1e3' "$a_run"
 wrong 'run 0 +1' "$a_run"
+wrong 'leave' "$a_leave"
+wrong 'leave 256' "$a_leave"
+wrong 'leave -1' "$a_leave"
+wrong 'leave 0 0' "$a_leave"
+wrong 'leaves 0' "$any"
+wrong 'Leave 0' "$any"
 # What is shown of it: without its comment, with single spaces, printable, and no more than 40 characters.
 wrong $'  step \t 0   1 # twice' "$a_step" 'step 0 1'
 wrong $'start\xc2\xa01 1' "$any" 'start??1 1'
@@ -113,6 +120,21 @@ answers 'the meanings of code 0' \
     '     5    5   20   511  finished                       6  run 0 1000' \
     '     6    3    0     0  accepted                       7  free 0 511' \
     'total: 1 finished, 6 accepted or under way, 0 refused or ended' 'status 0'
+
+# A task that leaves. Its beginning is accepted; with the block in hand the other fifteen are returned in 22 steps.
+tried ./stand --text < <(printf 'start 2 1\nleave 1\nstep 1\nallocate 0 256\nrun 0 26\nleave 00\nleave 0\nrun 0 22\n')
+answers 'a task that leaves' \
+    'standard input, read as text' \
+    'record kind code value  meaning                     line  text' \
+    '     0    1    0     0  accepted                       1  start 2 1' \
+    '     1    6    0     0  accepted                       2  leave 1' \
+    '     2    4   20     0  finished                       3  step 1' \
+    '     3    2    0     0  accepted                       4  allocate 0 256' \
+    '     4    5   20   480  finished                       5  run 0 26' \
+    '     5    6    0     0  accepted                       6  leave 00' \
+    '     6    6    6     0  request in hand                7  leave 0' \
+    '     7    5    0     0  under way                      8  run 0 22' \
+    'total: 2 finished, 5 accepted or under way, 1 refused or ended' 'status 0'
 
 # A number with zeros before it is decimal: 026 steps are 26, unit 0480 is unit 480, and 010 tasks are 10, too many.
 tried ./stand --text < <(printf 'start 1 1\nallocate 0 0256\nrun 0 026\nfree 0 0480\nstep 0\nstart 010 1\n')

@@ -117,7 +117,7 @@ make_rt 'touch called'
 tried there --text < <(echo stop)
 if [ -e "$tree/called" ]; then echo 'rt was called' >>"$out/wrote"; fi
 answers 'wrong text is refused before anything is proved' \
-    'stand: line 1: expected start, allocate, free, step or run; found stop' 'status 2'
+    'stand: line 1: expected start, allocate, free, step, run or leave; found stop' 'status 2'
 
 # ---- a program that fails ----
 

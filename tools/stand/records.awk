@@ -16,6 +16,7 @@ BEGIN {
     describe("free", 3, 2, 65535, "free TASK UNIT, a task 0 to 255 and a unit 0 to 65535")
     describe("step", 4, 1, 0, "step TASK, a task 0 to 255")
     describe("run", 5, 2, 65535, "run TASK MOST, a task 0 to 255 and most steps 0 to 65535")
+    describe("leave", 6, 1, 0, "leave TASK, a task 0 to 255")
 }
 
 # A record's name, the byte of its kind, how many numbers follow, the most that the second may be, and its form.
@@ -67,7 +68,7 @@ function bytes_of(name,    bytes) {
 
 function take(name,    bytes) {
     if (!(name in kind))
-        refuse("expected start, allocate, free, step or run; found " shown())
+        refuse("expected start, allocate, free, step, run or leave; found " shown())
     if (!is_record(name))
         refuse("expected " form[name] "; found " shown())
     bytes = bytes_of(name)

@@ -22,11 +22,12 @@ BEGIN {
     meaning[20] = "finished"
 }
 
-# Code 0 is one number for three things; the record tells which. The last two bytes of a run are its most steps.
+# Code 0 is one number for three things; the record tells which. A start and a beginning are accepted. The last two
+# bytes of a run are its most steps.
 function meaning_of(kind, code, record) {
     if (code != 0)
         return code in meaning ? meaning[code] : "unknown code"
-    if (kind <= 3)
+    if (kind <= 3 || kind == 6)
         return "accepted"
     return kind == 5 && record ~ /\\x00\\x00$/ ? "no step asked for" : "under way"
 }

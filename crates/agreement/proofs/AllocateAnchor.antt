@@ -215,7 +215,7 @@ module _ {regions : ℕ} {v : View} {area : List ℕ} {m : Mem} {t : ℕ} {k : �
             (record { linked = ends (ap perRegion (T .class)); counts = refl }) (perRegion-high c) (omega arith))
             (anchor-written v S area d (anchorWord (full (perRegion c)))
             ∙ ap (λ (z : Anchor). withSlots S (setAnchor d z (contentsOf v area))) (full-read c))
-            refl refl (rw (eq-eqb t t refl)) (λ j n. rw (ne-eqb t j n)) refl refl
+            refl refl (rw (eq-eqb t t refl)) (λ j n. rw (ne-eqb t j n)) (mine (w .pair) .fits) refl
             (r-working (r-a4 refl (subst (Linked (link area) (indexOf c) (perRegion c) (b .avail)) i lk)
             (sym (same .1) ∙ C .counts ∙ ap length i) (λ y. omega (arith, inside y, ap (count y) i))));
         sound = omega (

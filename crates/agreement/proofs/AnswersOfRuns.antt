@@ -14,7 +14,7 @@ use Rattle.plain.specs.Noted.{Noted, unnoted, pop-noted, push-noted, anchor-not
 use Rattle.plain.specs.Moves.{Answer}
 use Rattle.plain.specs.Steps.{popList, pushList}
 use Rattle.plain.specs.Calls as Plain
-use Rattle.plain.specs.Calls.{Pool, Start, unstarted, Call, start, allocate, free, step, Lengths}
+use Rattle.plain.specs.Calls.{Pool, Start, unstarted, Call, start, allocate, free, leave, step, Lengths}
 use Rattle.plain.specs.Codes.{AtMost}
 use Rattle.plain.specs.Held.{held}
 use Rattle.plain.proofs.CallAnswers.{most}
@@ -88,6 +88,7 @@ call-near : (k : Call) (lent : Lengths) (s : Pool) → (1 ≤ s .tasks → (ℓ 
 call-near (start b) lent s h = tt
 call-near (allocate t size) lent s h = tt
 call-near (free t u) lent s h = tt
+call-near (leave t) lent s h = tt
 call-near (step t) lent s h = λ T. near (s .mem .won) (noted (s .mem .task t .place)) (h (T .started))
 
 -- ---- the premise on users' writes

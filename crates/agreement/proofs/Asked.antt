@@ -17,16 +17,17 @@ use Rattle.plain.specs.State.{Place, idle, working, Work, Task, Mem}
 use Rattle.plain.specs.Moves.{Answer, refused}
 use Rattle.plain.specs.Steps.{Result, stepOf, stepAt, whenWorking}
 use Rattle.plain.specs.Requests.{requestAt, StillAt}
-use Rattle.plain.specs.Calls.{Pool, Start, Lengths, Call, start, allocate, free, step, startMem, opens?, first?}
+use Rattle.plain.specs.Calls.{Pool, Start, Lengths, Call, start, allocate, free, leave, step, startMem, opens?, first?}
 use Rattle.plain.specs.Calls.{freeEntry, whenIdle, tested, unstarted, plainCall, StartTested}
 use Rattle.plain.proofs.CallTests.{either, by-tests, start-numbers, start-passed, by-start-tests}
-use Rattle.plain.proofs.Requests.{own-request}
+use Rattle.plain.proofs.Continues.{leaves-to}
+use Rattle.plain.proofs.Requests.{leaves-request, own-request}
 use Rattle.stepped.specs.Calls.{Lent, lengths}
 use Rattle.agreement.specs.Events.{Event, call, write, whole}
 use Rattle.agreement.specs.Reached.{History, starting}
-use Rattle.agreement.specs.Asked.{Asked, nothing-yet, for-bytes, for-free, askedBy, askedIn, asked}
+use Rattle.agreement.specs.Asked.{Asked, nothing-yet, for-bytes, for-free, for-leave, askedBy, askedIn, asked}
 use Rattle.agreement.specs.AtWhatAsked.{AsAsked, AtWhatAsked, AllAtWhatAsked}
-use Rattle.limits.specs.Limits.{UNITS, LARGEST-STRIP}
+use Rattle.limits.specs.Limits.{UNITS, LARGEST-STRIP, CLASSES}
 use Rattle.pieces.specs.Pieces.{free as free-piece, held, begun}
 use Rattle.pieces.specs.Strips.{StripStart, nowhere, here, stripStarts}
 use Rattle.pieces.specs.StripUnits.{slotOfUnit}
@@ -39,6 +40,7 @@ refused-asks : (k : Call) (t n : ℕ) (a : Asked) → 1 ≤ n → askedBy t k n 
 refused-asks (start b) t n a h = rw (ne-eqb n 0 (omega arith))
 refused-asks (allocate u size) t n a h = rw (ne-eqb n 0 (omega arith))
 refused-asks (free u unit) t n a h = rw (ne-eqb n 0 (omega arith))
+refused-asks (leave u) t n a h = rw (ne-eqb n 0 (omega arith))
 refused-asks (step u) t n a h = refl
 
 -- what a task has asked for stays so while it goes on with it
@@ -138,6 +140,11 @@ call-asked (free u unit) lent s a A =
     (λ e. either (Shown k s a A) (stripUnit? unit) _ _
     (λ f. strip-asked s a A u unit (stripStarts (s .mem .strips) (slotOfUnit unit)) f)
     (λ f. refuses k s a A 10 (omega arith)))))
+call-asked (leave u) lent s a A =
+    let k = leave u in
+    when-tested k s a A u lent _ (when-idle k s a A (s .mem .task u .place) _
+    (begins a (s .mem) A u for-leave _
+    (subst⁻¹ (AsAsked for-leave) (leaves-request (leaves-to (s .mem .task u .cache) CLASSES 0)) tt)))
 call-asked (step u) lent s a A = when-tested (step u) s a A u lent (stepOf u (s .mem)) (step-asked a (s .mem) A u)
 
 -- one event of the whole run

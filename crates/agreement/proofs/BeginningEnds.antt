@@ -27,7 +27,9 @@ use Rattle.control.specs.declared.answer.Answer.the-variants.{Refused}
 use Rattle.stepped.specs.Outcome.{Outcome, refuse, accept, Memories, effect, memoriesAfter}
 use Rattle.stepped.specs.Ranges.{isAnchor}
 use Rattle.stepped.specs.Calls as Calls
+use Rattle.stepped.specs.Leaving.{nextCached, countFits, leaveFrom}
 use Rattle.agreement.specs.Ends.{WritesNothing, Leaves, oneOf, testRefusals, allocateRefusals, freeRefusals}
+use Rattle.agreement.specs.Ends.{leaveRefusals}
 use Rattle.agreement.specs.Ends.{Begins, StartEnds, BeginEnds}
 use Rattle.agreement.specs.Ends.{BegunStripOutcome}
 use Rattle.agreement.specs.Ends.{IsEnd, BegunOutcome}
@@ -127,6 +129,13 @@ module _ (lent : Lengths) (v : View) (t : ℕ) where
       let P = Beginning freeRefusals in
       begin-ends (begin-tests lent v t P _ (10 ∷ 11 ∷ []) (λ n h. denied h)
       (branch P (ltb u UNITS) (λ e. small-begins u) (λ e. strip-begins u)))
+
+  pub leave-ends : BeginEnds leaveRefusals (Calls.leaveOutcome lent v t)
+  unfolding Calls.leaveOutcome leaveFrom
+  leave-ends =
+      let P = Beginning leaveRefusals in
+      begin-ends (begin-tests lent v t P _ [] (λ n h. denied h)
+      (branch P (countFits v t (nextCached v t 0)) (λ e. begun) (λ e. denied refl)))
 
   -- a size that is accepted has the smallest class that holds it, and that class is written
   pub smallest-class : (size : ℕ) → size ≤ LARGEST-SIZE → Calls.allocateOutcome lent v t size .answer ≡ Accepted

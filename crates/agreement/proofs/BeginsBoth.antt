@@ -37,6 +37,7 @@ use Rattle.control.specs.Places.{IDLE, A1, F1, STRIP-TAKE, PLACES}
 use Rattle.stepped.specs.Outcome.{Outcome, refuse, accept}
 use Rattle.stepped.specs.Ranges.{isAnchor}
 use Rattle.stepped.specs.Calls as Stepped
+use Rattle.agreement.proofs.TaskBlocks.{re-slot}
 use Rattle.agreement.specs.Contents.{TaskCaches, Slot, Contents, slotOf, contentsOf}
 use Rattle.agreement.specs.Relation
 use Rattle.agreement.specs.Relation.{CachesRelated, PlaceRelated, r-idle, r-a1, r-f1, SlotRelated, Related}
@@ -77,17 +78,6 @@ module _ {regions : ℕ} {v : View} {area : List ℕ} {m : Mem} {t : ℕ} {k : �
   abbrev R : Related regions (contentsOf v area) m
   R = w .pair .rel
 
-  -- a task's part with its caches as they were, and another class
-  begun : (a′ : Contents) (m′ : Mem) (s : Slot) (p : Place) → a′ .area ≡ area → s .class < CLASSES
-      → s .caches ≡ slotOf v t .caches
-      → PlaceRelated regions a′ m′ s p → SlotRelated regions a′ m′ s (taskOf p k)
-  begun a′ m′ s p e f g pl = record {
-    fits = f;
-    place = pl;
-    caches = subst (λ (z : List ℕ). CachesRelated (link z) (s .caches) k) (sym e)
-        (subst (λ (z : TaskCaches). CachesRelated (link area) z k) (sym g) (mine (w .pair) .caches));
-  }
-
   -- the beginning of an allocation writes the task's place and its class, or its order
   begins : (place c : ℕ) (p : Work) → c < CLASSES → place < PLACES
       → WorkRelated regions (setSlot t (toRequest place c (v (TaskUnit t)) (slotOf v t)) (contentsOf v area))
@@ -106,7 +96,7 @@ module _ {regions : ℕ} {v : View} {area : List ℕ} {m : Mem} {t : ℕ} {k : �
             (λ j n. rw (ne-eqb t j n))))
             (subst (λ (q : ℕ → List ℕ). Related regions (setSlot t s (contentsOf v area))
             (setTask t (record { place = working p; cache = q }) m)) (sym cache-is)
-            (quiet (w .pair) s (taskOf (working p) k) (begun _ _ s (working p) refl l refl (r-working r))));
+            (quiet (w .pair) s (taskOf (working p) k) (re-slot (w .pair) _ _ s (working p) refl l refl (r-working r))));
         keeps = (refl, refl);
         sound = omega (arith, w .pair .turn .fits);
         apart = tt;
@@ -201,7 +191,7 @@ module _ {regions : ℕ} {v : View} {area : List ℕ} {m : Mem} {t : ℕ} {k : �
             (subst (λ (q : ℕ → List ℕ). Related regions (setSlot t s (setMark u 0 (contentsOf v area)))
             (setTask t (record { place = working (f1 c u); cache = q }) (setHands u 0 m))) (sym cache-is)
             (marking (w .pair) u 0 s (taskOf (working (f1 c u)) k)
-            (begun w _ _ s (working (f1 c u)) refl l refl (r-working (r-f1 refl)))));
+            (re-slot (w .pair) _ _ s (working (f1 c u)) refl l refl (r-working (r-f1 refl)))));
         keeps = (refl, refl);
         sound =
             omega (

@@ -25,7 +25,7 @@ use Rattle.agreement.proofs.Undisturbed.{brief, finishing}
 use Rattle.agreement.proofs.AnswersOfRuns.{steppedAnswers}
 use Rattle.pieces.specs.StripSizes.{stripBytes}
 use Rattle.plain.specs.State.{Place, idle}
-use Rattle.plain.specs.Requests.{Request, allocation, freeing, strip-allocation, strip-freeing, requestAt}
+use Rattle.plain.specs.Requests.{Request, allocation, freeing, strip-allocation, strip-freeing, leaving, requestAt}
 use Rattle.control.specs.Places.{STRIP-TAKE}
 use Rattle.agreement.proofs.Undisturbed.{last}
 
@@ -71,12 +71,13 @@ steppedBegins v t o =
     begins (codeOf (o .answer))
     (cond (eqb (assigned (o .writes) v (TaskPlace t)) STRIP-TAKE) (strip (stripBytes c)) (bytes (block c)))
 
--- the block or the strip that a request is for; a free is for none
+-- the block or the strip that a request is for; a free is for none, nor is leaving
 abbrev pub requested : Request → Served
 requested (allocation c) = bytes (block c)
 requested (strip-allocation k) = strip (stripBytes k)
 requested (freeing c u) = bytes 0
 requested (strip-freeing s) = strip 0
+requested leaving = bytes 0
 
 -- the same of a task at a place
 abbrev pub requestedAt : Place → Served

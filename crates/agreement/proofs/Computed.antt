@@ -15,7 +15,7 @@ use Rattle.pieces.specs.StripSizes.{orderFrom}
 use Rattle.strip_tree.specs.Trees.{isFreeNode, withFree, withoutFree}
 use Rattle.strip_tree.specs.TreeMoves.{lowest, findFrom, halving, joining}
 use Rattle.plain.specs.Moves.{Answer, nothing}
-use Rattle.plain.specs.Calls.{Call, start, allocate, free, step}
+use Rattle.plain.specs.Calls.{Call, start, allocate, free, leave, step}
 use Rattle.control.specs.Answers.{codeOf, valueOf}
 use Rattle.stepped.specs.Outcome.{Outcome, refuse, accept}
 use Rattle.stepped.specs.Lists
@@ -26,6 +26,7 @@ use Rattle.stepped.specs.Steps
 use Rattle.stepped.specs.Start.{startWrites}
 use Rattle.stepped.specs.Calls
 use Rattle.stepped.specs.Calls.{Lent, lengths}
+use Rattle.stepped.specs.Leaving.{firstCached, leaveFrom}
 use Rattle.agreement.specs.Events.{Event, call, write, write-strip}
 use Rattle.agreement.proofs.ExampleLines.{three, schedule, events, answers, told}
 
@@ -49,6 +50,7 @@ abbrev pub callOutcome : Call → Lent → FieldsAndLinks → Outcome
 callOutcome (start b) lent s = refuse 1
 callOutcome (allocate t size) lent s = Calls.allocateOutcome (lengths lent) (s .view) t size
 callOutcome (free t u) lent s = Calls.freeOutcome (lengths lent) (s .view) t u
+callOutcome (leave t) lent s = Calls.leaveOutcome (lengths lent) (s .view) t
 callOutcome (step t) lent s = Calls.stepOutcome (lengths lent) (s .view) (s .link) t
 
 -- A user's write changes nothing here: no step reads the link of a held block.
@@ -67,11 +69,13 @@ fresh = record { view = assigned (startWrites three 2) (λ f. 0); link = λ u. 0
 pub computed : told (run (events schedule) fresh) ≡ answers schedule
 unfolding startWrites units perRegion classOf isFirst Calls.tested Calls.whenIdle Calls.beginAllocate Calls.freeMarked
     Calls.freeOpen Calls.freeBy Calls.freeEntry Calls.beginFreeSmall Calls.beginFree Calls.allocateOutcome
-    Calls.freeOutcome Calls.stepOutcome Steps.stepAt Steps.stepOf Lists.f6 Lists.f5 Lists.popRead Lists.popNextOf
+    Calls.freeOutcome Calls.leaveOutcome Calls.stepOutcome Steps.stepAt Steps.stepOf Lists.whenReturned Lists.f6
+    Lists.f5 firstCached leaveFrom Lists.popRead Lists.popNextOf
     Lists.popNext Lists.popExchange Lists.pushRead Lists.pushNext Lists.pushExchange Allocate.a1Take Allocate.a1
     Allocate.a3ReadOf Allocate.a3Read Allocate.a3ExchangeOf Allocate.a3Exchange Allocate.a4Move Allocate.a4 Allocate.a7
     Allocate.a8Put Allocate.a8 Free.f1Put Free.f1 Free.f2First Free.f2More Free.f2Top Free.f2 Free.f3ReadOf
     Free.f3ReadBy Free.f3Read Free.f3Link Free.f3Won Free.f3ExchangeOf Free.f3Exchange Free.f4Clear orderFrom lowest
-    findFrom halving joining isFreeNode withFree withoutFree StripSteps.stripTakeAt StripSteps.stripTake StripSteps.stripGiveAt
+    findFrom halving joining isFreeNode withFree withoutFree StripSteps.stripTakeAt StripSteps.stripTake
+    StripSteps.stripGiveAt
     StripSteps.stripGive StripSteps.beginFreeAt StripSteps.beginFreeStrip
 computed = refl

@@ -14,7 +14,7 @@ use Rattle.plain.specs.Moves.{found-empty, pushed}
 use Rattle.control.specs.Layout.{Head, TaskHead, TaskPlace, TaskClass}
 use Rattle.control.specs.Layout.{Regions, seen}
 use Rattle.control.specs.Places.{IDLE}
-use Rattle.plain.specs.Calls.{Call, start, allocate, free, step, Lengths}
+use Rattle.plain.specs.Calls.{Call, start, allocate, free, leave, step, Lengths}
 use Rattle.control.specs.declared.answer.Answer.{Answer}
 use Rattle.control.specs.declared.answer.Answer.the-variants.{Accepted, Allocated, Freed, NoDescriptor, NoRegion}
 use Rattle.control.specs.declared.answer.Answer.the-variants.{Refused}
@@ -45,7 +45,7 @@ use Rattle.strip_tree.specs.declared.find.Found.the-variants.{Nothing}
 use Rattle.strip_tree.specs.TreeMoves.{find}
 use Rattle.strip_tree.proofs.NoFreeNodes.{finds-none}
 use Rattle.stepped.specs.StripSteps.{treeOf, stripTake, stripTakeBy}
-use Rattle.agreement.proofs.BeginningEnds.{leaves, allocate-ends, free-ends, start-ends}
+use Rattle.agreement.proofs.BeginningEnds.{leaves, allocate-ends, free-ends, leave-ends, start-ends}
 
 -- ---- steps
 
@@ -215,6 +215,9 @@ effect-leaves (allocate t size) lent s =
 effect-leaves (free t u) lent s =
     let v = seen (s .control) in
     leaves (Calls.freeOutcome (lengths lent) v t u) s (free-ends (lengths lent) v t u .nothing)
+effect-leaves (leave t) lent s =
+    let v = seen (s .control) in
+    leaves (Calls.leaveOutcome (lengths lent) v t) s (leave-ends (lengths lent) v t .nothing)
 effect-leaves (step t) lent s =
     let v = seen (s .control) in
     leaves (Calls.stepOutcome (lengths lent) v (link (s .area)) t) s

@@ -1,7 +1,7 @@
 -- The lines of the example's run, with the moves that need care: lost exchanges of a head and of an anchor, a region
 -- closed in one return and opened again for another class, an EMPTY anchor found on a partial list, a head that changes
--- and comes back to its item between a read and its exchange, 13; strips that are halved and joined, and 16; and users'
--- writes, into blocks and into strips.
+-- and comes back to its item between a read and its exchange, 13; strips that are halved and joined, and 16; tasks that
+-- leave at once; and users' writes, into blocks and into strips.
 use mathlib.Core.List.{List, [], _∷_, _++_, map}
 use Prim.Native.Nat.{ℕ, zero, suc, _*_}
 use lib.ListN.{replicate}
@@ -10,7 +10,7 @@ use Rattle.classes.specs.Sizes.{classOf}
 use Rattle.plain.specs.Moves.{Decided, nothing, found-empty, popped, pushed, lost, anchor-empty, took, gave}
 use Rattle.plain.specs.Moves.{anchor-lost, strip-taken, strip-given, no-strip}
 use Rattle.plain.specs.Moves.{Answer, going, finished, finishedBy, ended, refused}
-use Rattle.plain.specs.Calls.{Start, allocate, free, step}
+use Rattle.plain.specs.Calls.{Start, allocate, free, leave, step}
 use Rattle.stepped.specs.Calls.{Lent}
 use Rattle.agreement.specs.Events.{Event, call, write, write-strip}
 
@@ -30,6 +30,9 @@ allocates t size = call (allocate t size) lent ∷ []
 
 abbrev pub frees : ℕ → ℕ → List Event
 frees t u = call (free t u) lent ∷ []
+
+abbrev pub leaves : ℕ → List Event
+leaves t = call (leave t) lent ∷ []
 
 -- n steps of the task t
 abbrev pub steps : ℕ → ℕ → List Event
@@ -185,8 +188,33 @@ strips =
     ∷ (steps 2 1, finishedBy (strip-taken 0) 8192 ∷ [])
     ∷ []
 
+abbrev pub leaving : List ExampleLine
+leaving =
+    -- Task 1 has nothing cached: leaving takes one step.
+    (leaves 1, [])
+    ∷ (steps 1 1, finished 0 ∷ [])
+    -- Tasks 0 and 2 leave at once. A task that leaves has a request in hand.
+    ∷ (leaves 0, [])
+    ∷ (leaves 2, [])
+    ∷ (leaves 0, refused 6 ∷ [])
+    -- Task 0 returns 17 blocks of 224 bytes to region 1: FULL, then PARTIAL. Its descriptor is offered.
+    ∷ (steps 0 24, going (gave 2) ∷ going (pushed CLASS-224 2) ∷ [])
+    -- Its next cache that is not empty has 13 blocks of 256 bytes, of region 0, whose anchor it reads.
+    ∷ (steps 0 16, [])
+    -- Task 2 returns its one block to the same region, and finishes by one further step.
+    ∷ (steps 2 8, going (gave 0) ∷ going (pushed CLASS-256 0) ∷ [])
+    ∷ (steps 2 1, finished 0 ∷ [])
+    -- Task 0 loses its exchange of that anchor. It reads it again, returns its blocks and finishes by one further step.
+    ∷ (steps 0 1, going (anchor-lost 0) ∷ [])
+    ∷ (steps 0 3, going (gave 0) ∷ [])
+    ∷ (steps 0 1, finished 0 ∷ [])
+    -- A task that has left begins again: it takes the chain of 14 that the two have returned.
+    ∷ (allocates 0 256, [])
+    ∷ (steps 0 21, going (popped CLASS-256 0) ∷ going (took 0) ∷ finished 416 ∷ [])
+    ∷ []
+
 abbrev pub schedule : List ExampleLine
-schedule = contention ++ (closing ++ (reopening ++ (meanwhile ++ (ending ++ strips))))
+schedule = contention ++ (closing ++ (reopening ++ (meanwhile ++ (ending ++ (strips ++ leaving)))))
 
 -- ---- its events and its answers
 

@@ -14,7 +14,7 @@ use Rattle.classes.specs.Sizes.{classOf}
 use Rattle.pieces.specs.StripSizes.{orderFrom}
 use Rattle.pieces.specs.Strips.{takeStrip}
 use Rattle.plain.specs.State.{EMPTY, FULL, exchange, spare, popping, working}
-use Rattle.plain.specs.Steps.{stepOf}
+use Rattle.plain.specs.Steps.{leaveFrom, stepOf}
 use Rattle.plain.specs.Calls.{Pool, start, startMem, rising, unstarted, Lengths}
 use Rattle.plain.specs.Calls as Plain
 use Rattle.plain.proofs.CallAnswers.{most}
@@ -36,7 +36,7 @@ started = Plain.plainCall (start three) (lengths lent) unstarted .0
 -- the run as it is told above is that of the plain pool
 pub told-whole : told (wholeAnswers (events schedule) started) ≡ answers schedule
 unfolding Plain.plainCall stepOf startMem rising units perRegion update ℕ-discrete decLt decLe both unstarted classOf
-    orderFrom takeStrip
+    orderFrom takeStrip leaveFrom
 told-whole = refl
 
 -- ---- what stands in the plain pool between the parts
@@ -57,7 +57,7 @@ pub region-closed :
     × (closed .mem .row SPARE-REGIONS ≡ 1 ∷ []) × (reopened .mem .map 1 ≡ 3)
     × (reopened .mem .descriptor 2 .class ≡ CLASS-224)
 unfolding Plain.plainCall stepOf startMem rising units perRegion update ℕ-discrete decLt decLe both unstarted classOf
-    orderFrom takeStrip
+    orderFrom takeStrip leaveFrom
 region-closed = (refl, refl, refl, refl, refl, refl)
 
 abbrev returned : Pool
@@ -73,7 +73,7 @@ pub head-returned :
     × (reopened .mem .row SPARE-DESCRIPTORS ≡ 1 ∷ rising 61 3)
     × (returned .mem .row SPARE-DESCRIPTORS ≡ 1 ∷ rising 61 3)
 unfolding Plain.plainCall stepOf startMem rising units perRegion update ℕ-discrete decLt decLe both unstarted classOf
-    orderFrom takeStrip
+    orderFrom takeStrip leaveFrom
 head-returned = (refl, refl, refl, refl, refl, refl)
 
 -- ---- the premises are met, and the agreement holds of it
@@ -95,10 +95,10 @@ scheduleOn given = starting three given ∷ events schedule
 -- every write is into a block or a strip in a user's hands
 writes-held : WritesHeld (events schedule) started
 unfolding Plain.plainCall stepOf startMem rising units perRegion update ℕ-discrete decLt decLe both unstarted classOf
-    orderFrom takeStrip writesHeld?
+    orderFrom takeStrip leaveFrom writesHeld?
 writes-held = found (writesHeld? (events schedule) started) tt
 
-few : length (events schedule) ≡ 254
+few : length (events schedule) ≡ 335
 few = refl
 
 pub premises : (given : Lent) → Lends given → Premises (scheduleOn given) unstarted

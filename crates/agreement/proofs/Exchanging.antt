@@ -7,7 +7,7 @@ use native.Mathlib.Decide.{ℕ-discrete}
 use borrow.Author.Tests.{eq-eqb, ne-eqb, lt-ltb, le-leb, eqb-true}
 use lib.Dec.{eqb}
 use lib.ListN.{length, length-append}
-use Rattle.limits.specs.Limits.{DESCRIPTORS}
+use Rattle.limits.specs.Limits.{DESCRIPTORS, CLASSES}
 use Rattle.rows.specs.Linked.{Linked}
 use Rattle.rows.proofs.Linked.{linked-append, linked-append-one}
 use Rattle.fields.specs.Columns.{Sound, View, Write, _:=_, assigned}
@@ -19,7 +19,7 @@ use Rattle.classes.specs.Classes.{perRegion}
 use Rattle.classes.specs.Geometry.{indexOf, regionOf}
 use Rattle.classes.proofs.Tables.{perRegion-high}
 use Rattle.plain.specs.State.{EMPTY, PARTIAL, Mem, Note, Place, State, f1, f2, f3-exchange, f3-read, f4-clear}
-use Rattle.plain.specs.State.{stateNumber}
+use Rattle.plain.specs.State.{stateNumber, leave-end, Purpose}
 use Rattle.plain.specs.State.{offer, pushing, read, setDescriptor, working}
 use Rattle.plain.specs.Moves.{gave, going}
 use Rattle.plain.specs.Steps.{asNoted?, chained}
@@ -29,18 +29,19 @@ use Rattle.plain.proofs.Owners.{Owner, owner}
 use Rattle.plain.proofs.PlaceAlone.{placeHolds, taskOf, noteHolds}
 use Rattle.plain.proofs.ByState.{open-holds}
 use Rattle.control.specs.Layout.{layout, Anchor, GroupCount, GroupFirst, TaskAnchor, TaskClass, TaskDescriptor}
-use Rattle.control.specs.Layout.{TaskPlace, TaskRegion, TaskState, TaskUnit}
-use Rattle.control.specs.Places.{PUSH-OFFER, F1, F2, F3-READ, F4-CLEAR}
+use Rattle.control.specs.Layout.{TaskPlace, TaskRegion, TaskState, TaskUnit, LEAVING}
+use Rattle.control.specs.Places.{PUSH-OFFER, F1, F2, F3-READ, F4-CLEAR, LEAVE-END}
 use Rattle.stepped.specs.Free as Free
-use Rattle.agreement.specs.Contents.{Slot, slotOf, contentsOf}
+use Rattle.agreement.proofs.TurnInBoth.{mine}
+use Rattle.agreement.specs.Contents.{Slot, slotOf, contentsOf, purposeOf}
 use Rattle.control.specs.declared.moves.Push.the-variants.{Offer}
 use Rattle.agreement.specs.Relation.{at-read, NoteRelated, GroupRelated, r-pushing, r-f1, r-f2, r-f3-read}
-use Rattle.agreement.specs.Relation.{r-f4-clear, PlaceRelated, r-working, ChainRelated, Related}
+use Rattle.agreement.specs.Relation.{r-f4-clear, r-leave-end, PlaceRelated, r-working, ChainRelated, Related}
 use Rattle.agreement.proofs.BothPass.{both-true}
-use Rattle.agreement.proofs.Slots.{toGrouped, toPlace, toState}
+use Rattle.agreement.proofs.Slots.{toGrouped, toPlace, toRequest, toState}
 use Rattle.agreement.proofs.Sets.{setAnchor, setSlot}
 use Rattle.agreement.proofs.AssignedContents.{anchor-written}
-use Rattle.agreement.proofs.TaskBlocks.{re-slot}
+use Rattle.agreement.proofs.TaskBlocks.{re-slot, unit-fits}
 use Rattle.agreement.proofs.Both.{Both, decide, meet, miss, pass}
 use Rattle.agreement.proofs.Turns.{At, goes}
 use Rattle.agreement.proofs.FollowingBoth.{five}
@@ -49,9 +50,11 @@ use Rattle.agreement.proofs.NotedAnchors.{SameAnchor, anchor-word-same,
 use Rattle.agreement.proofs.NotedAnchors.{same-unmoved, unmoved-same}
 use Rattle.agreement.proofs.NotedAnchorTests.{note-anchor, note-room}
 use Rattle.agreement.proofs.GroupBlocks.{first-below, same-group}
+use Rattle.agreement.proofs.Purposes.{group-in, own-in, is-leaving}
 
 module _ {regions : ℕ} {v : View} {area : List ℕ} {m : Mem} {t : ℕ} {k : ℕ → List ℕ} {y : ℕ} {g : List ℕ} {n : Note}
-    (w : At regions v area m t (working (f3-exchange (v (TaskClass t)) (v (TaskUnit t)) y g (v (TaskDescriptor t)) n))
+    (w : At regions v area m t
+    (working (f3-exchange (v (TaskClass t)) (purposeOf (v (TaskUnit t))) y g (v (TaskDescriptor t)) n))
     k)
     (G : GroupRelated (contentsOf v area) (slotOf v t) y g)
     (N : NoteRelated m (v (TaskClass t)) (v (TaskDescriptor t)) n (anchorOf (v (TaskAnchor t))))
@@ -63,6 +66,10 @@ module _ {regions : ℕ} {v : View} {area : List ℕ} {m : Mem} {t : ℕ} {k : �
 
   abbrev u : ℕ
   u = v (TaskUnit t)
+
+  -- what the group is returned for
+  abbrev z : Purpose
+  z = purposeOf (v (TaskUnit t))
 
   abbrev d : ℕ
   d = v (TaskDescriptor t)
@@ -92,13 +99,17 @@ module _ {regions : ℕ} {v : View} {area : List ℕ} {m : Mem} {t : ℕ} {k : �
       (w .pair .rel .core .descriptors .each d (own .fits) .chain)
 
   first-fits : v (GroupFirst t) < perRegion c
-  first-fits = first-below (w .pair) G (λ z. omega arith) refl (placeHolds (w .pair .turn) .2)
+  first-fits = first-below (w .pair) G (group-in z (y ∷ g)) refl (placeHolds (w .pair .turn) .2)
 
   new-fits : AnchorFits new
   new-fits =
       returned-fits (anchorOf a) (v (GroupFirst t)) h (perRegion c)
       (omega (arith, first-fits, perRegion-high c))
       (record { count = omega arith; blocks = perRegion-high c })
+
+  -- the unit is in its range
+  unit : u ≤ LEAVING
+  unit = unit-fits (w .pair) (own-in z (y ∷ g))
 
   -- ---- the exchange is won: the anchor is as it was noted
 
@@ -115,21 +126,22 @@ module _ {regions : ℕ} {v : View} {area : List ℕ} {m : Mem} {t : ℕ} {k : �
         (subst (λ (z : ℕ). Linked (link area) (indexOf z) (perRegion z) (anchorOf (v (Anchor d)) .avail) (D .chain))
         (own .class) (chain-of .linked)))
 
-    -- the relation after it, where the anchor's state is now z and the task goes to the place p
-    gives : (z : State) → new .state ≡ stateNumber z
-        → IfOpen z (ChainRelated (link area) new (chained (m .descriptor d) z J))
+    -- the relation after it, where the anchor's state is `now` and the task goes to the place p
+    gives : (now : State) → new .state ≡ stateNumber now
+        → IfOpen now (ChainRelated (link area) new (chained (m .descriptor d) now J))
         → (v′ : View) (s : Slot) (p : Place)
         → OwnWrites v v′ area t s (setAnchor d (anchorOf (anchorWord new)) (contentsOf v area))
-        → s .class ≡ slotOf v t .class → s .caches ≡ slotOf v t .caches
+        → s .class < CLASSES → s .caches ≡ slotOf v t .caches
         → PlaceRelated regions (setSlot t s (setAnchor d (anchorOf (anchorWord new)) (contentsOf v area)))
-        (Steps.atPlace t k p (setDescriptor d (chained (m .descriptor d) z J) m)) s p
+        (Steps.atPlace t k p (setDescriptor d (chained (m .descriptor d) now J) m)) s p
         → Related regions (contentsOf v′ area)
-        (Steps.atPlace t k p (setDescriptor d (chained (m .descriptor d) z J) m))
-    gives z e i v′ s p b f f₁ pl =
+        (Steps.atPlace t k p (setDescriptor d (chained (m .descriptor d) now J) m))
+    gives now e i v′ s p b f f₁ pl =
         let W = anchor-of-word new new-fits in
-        anchor-exchanged w v′ s (taskOf p k) d (anchorWord new) (chained (m .descriptor d) z J) b
+        anchor-exchanged w v′ s (taskOf p k) d (anchorWord new) (chained (m .descriptor d) now J) b
         (own .fits) (ap (λ (x : Declared.Anchor). x .state) W ∙ e) refl refl
-        (subst (λ (x : Declared.Anchor). IfOpen z (ChainRelated (link area) x (chained (m .descriptor d) z J))) (sym W)
+        (subst (λ (x : Declared.Anchor). IfOpen now (ChainRelated (link area) x (chained (m .descriptor d) now J)))
+        (sym W)
         i)
         (omega (arith, ap (λ (x : Declared.Anchor). x .avail) W, first-fits, perRegion-high c))
         (omega (arith, ap (λ (x : Declared.Anchor). x .count) W, perRegion-high c))
@@ -159,7 +171,7 @@ module _ {regions : ℕ} {v : View} {area : List ℕ} {m : Mem} {t : ℕ} {k : �
     whole : length J ≡ perRegion c
         → Both regions v area m
         (Free.f3Won v (link area) regions t c d a (v (GroupFirst t)) h) (
-          Steps.atPlace t k (working (f4-clear c u d (n .state) (regionOf y)))
+          Steps.atPlace t k (working (f4-clear c z d (n .state) (regionOf y)))
               (setDescriptor d (chained (m .descriptor d) EMPTY J) m),
           going (gave d),
         )
@@ -170,8 +182,8 @@ module _ {regions : ℕ} {v : View} {area : List ℕ} {m : Mem} {t : ℕ} {k : �
           says = refl;
           keeps = (refl, refl);
           rel = rw (← (G .region)) (gives EMPTY (rw i) tt _ (part F4-CLEAR)
-              (working (f4-clear c u d (n .state) (v (TaskRegion t))))
-              (place-written F4-CLEAR) refl refl (r-working (r-f4-clear refl (N .state))));
+              (working (f4-clear c z d (n .state) (v (TaskRegion t))))
+              (place-written F4-CLEAR) (mine (w .pair) .fits) refl (r-working (r-f4-clear refl (N .state))));
           sound = (omega (arith, w .pair .turn .fits), sound);
           apart = tt;
         })
@@ -180,7 +192,7 @@ module _ {regions : ℕ} {v : View} {area : List ℕ} {m : Mem} {t : ℕ} {k : �
     some : (length J ≡ perRegion c → ⊥)
         → Both regions v area m
         (Free.f3Won v (link area) regions t c d a (v (GroupFirst t)) h) (
-          Steps.atWork t k (Steps.f5 (n .state) (k c) c u d)
+          Steps.atWork t k (Steps.f5 (n .state) k c z d)
               (setDescriptor d (chained (m .descriptor d) PARTIAL J) m),
           going (gave d),
         )
@@ -188,30 +200,44 @@ module _ {regions : ℕ} {v : View} {area : List ℕ} {m : Mem} {t : ℕ} {k : �
     some e =
         let i = ne-eqb (anchorOf a .count + h) (perRegion c) (λ f. e (sym counted ∙ f)) in
         let to = gives PARTIAL (rw i) (record { linked = rw (own .class) joined; counts = counted }) in
+        let fits = mine (w .pair) .fits in
         let v₂ = assigned (TaskPlace t := F2 ∷ GroupCount t := 0 ∷ ws) v in
-        miss _ _ i (five w (gave d) ws (setDescriptor d (chained (m .descriptor d) PARTIAL J) m) u sound (refl, refl)
-        (to _ (part F1) (working (f1 c u)) (place-written F1) refl refl (r-working (r-f1 refl)))
-        (to v₂ (toGrouped 0 (part F2)) (working (f2 c u []))
+        miss _ _ i (five w (gave d) ws (setDescriptor d (chained (m .descriptor d) PARTIAL J) m) unit sound (refl, refl)
         (record {
-          shared = anchor-written v (slotOf v₂) area d (anchorWord new);
-          own = rw (eq-eqb t t refl);
-          others = λ j d. rw (ne-eqb t j d);
-        }) refl refl (r-working (r-f2 refl refl)))
+          at-f1 = to _ (part F1) (working (f1 c u)) (place-written F1) fits refl (r-working (r-f1 refl));
+          at-f2 = to v₂ (toGrouped 0 (part F2)) (working (f2 c z []))
+              (record {
+                shared = anchor-written v (slotOf v₂) area d (anchorWord new);
+                own = rw (eq-eqb t t refl);
+                others = λ j d. rw (ne-eqb t j d);
+              }) fits refl (r-working (r-f2 refl refl));
+          at-cache = λ e j l.
+              let v₃ = assigned (TaskPlace t := F2 ∷ TaskClass t := j ∷ GroupCount t := 0 ∷ ws) v in
+              rw (← (is-leaving e))
+              (to v₃ (toRequest F2 j u (toGrouped 0 (part F2))) (working (f2 j z []))
+              (record {
+                shared = anchor-written v (slotOf v₃) area d (anchorWord new);
+                own = rw (eq-eqb t t refl);
+                others = λ j d. rw (ne-eqb t j d);
+              }) l refl (r-working (r-f2 refl refl)));
+          at-end = to _ (part LEAVE-END) (working leave-end) (place-written LEAVE-END) fits refl
+              (r-working (r-leave-end refl));
+        })
         (anchorOf a .state) (n .state) d (N .state)
-        (to _ (part PUSH-OFFER) (working (pushing (offer c u d) read)) (place-written PUSH-OFFER) refl refl
+        (to _ (part PUSH-OFFER) (working (pushing (offer c z d) read)) (place-written PUSH-OFFER) fits refl
         (r-working (r-pushing Offer EMPTY tt (at-read refl)))))
 
     won : (e : Dec (length J ≡ perRegion c))
         → Both regions v area m
         (Free.f3Won v (link area) regions t c d a (v (GroupFirst t)) h)
-        (Steps.f3Won t k e c u y g d (n .state) m)
+        (Steps.f3Won t k e c z y g d (n .state) m)
     won (yes e) = whole e
     won (no e) = some e
 
   -- ---- won or lost
 
   pub f3-exchange-both : Both regions v area m (Free.f3Exchange v (link area) regions t (v (TaskClass t)))
-      (Steps.stepAt t k (f3-exchange (v (TaskClass t)) (v (TaskUnit t)) y g (v (TaskDescriptor t)) n) m)
+      (Steps.stepAt t k (f3-exchange (v (TaskClass t)) (purposeOf (v (TaskUnit t))) y g (v (TaskDescriptor t)) n) m)
   unfolding Free.f3Exchange Free.f3ExchangeOf
   f3-exchange-both =
       let b = v (Anchor d) in
@@ -232,7 +258,7 @@ module _ {regions : ℕ} {v : View} {area : List ℕ} {m : Mem} {t : ℕ} {k : �
       (λ e q. record {
         says = refl;
         keeps = (refl, refl);
-        rel = goes w (TaskPlace t := F3-READ ∷ []) (toPlace F3-READ (slotOf v t)) (working (f3-read c u y g))
+        rel = goes w (TaskPlace t := F3-READ ∷ []) (toPlace F3-READ (slotOf v t)) (working (f3-read c z y g))
             refl (rw (eq-eqb t t refl)) (λ j n. rw (ne-eqb t j n)) refl refl
             (r-working (r-f3-read refl (same-group refl refl refl refl G)));
         sound = omega (arith, w .pair .turn .fits);

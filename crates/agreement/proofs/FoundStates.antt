@@ -11,7 +11,7 @@ use Rattle.limits.specs.Limits.{CONTROL-BYTES, REGIONS, REGION-BYTES, TASKS}
 use Rattle.fields.specs.Columns.{Field, View, Write, _:=_, assign, assigned}
 use Rattle.fields.specs.Little.{Bytes}
 use Rattle.words.specs.Anchor.{FULL}
-use Rattle.plain.specs.Calls.{Call, Start, start, allocate, free, step, Lengths, StartTested}
+use Rattle.plain.specs.Calls.{Call, Start, start, allocate, free, leave, step, Lengths, StartTested}
 use Rattle.plain.specs.Calls as Plain
 use Rattle.control.specs.Layout.{seen, changed, TaskPlace, TaskState}
 use Rattle.control.proofs.Fields.{seen-changed}
@@ -27,7 +27,7 @@ use Rattle.agreement.proofs.StartRelated.{at-state}
 use Rattle.agreement.proofs.Starting.{image-view}
 use Rattle.agreement.proofs.SoundMoves.{Own, Owns, Fit}
 use Rattle.agreement.proofs.SoundSteps.{step-fit}
-use Rattle.agreement.proofs.SoundCalls.{allocate-fit, free-fit}
+use Rattle.agreement.proofs.SoundCalls.{allocate-fit, free-fit, leave-fit}
 use Rattle.agreement.proofs.Both.{seen-fitting}
 use Rattle.agreement.proofs.Ways.{tests, start-tests}
 use Rattle.agreement.specs.Events.{write-strip}
@@ -99,7 +99,7 @@ accepted-found s b lent T =
 
 call-found : (k : Call) (lent : Lent) (s : Memories) → length (s .control) ≡ CONTROL-BYTES → Bytes (s .control)
     → FoundStates (s .control) → FoundStates (effectIn k lent s .control)
-unfolding Calls.allocateOutcome Calls.freeOutcome Calls.stepOutcome
+unfolding Calls.allocateOutcome Calls.freeOutcome Calls.leaveOutcome Calls.stepOutcome
 call-found (start b) lent s long bytes old = start-found b lent s old
 call-found (allocate t size) lent s long bytes old =
     tested-found (s .control) long old (lengths lent) t _
@@ -107,6 +107,8 @@ call-found (allocate t size) lent s long bytes old =
 call-found (free t u) lent s long bytes old =
     tested-found (s .control) long old (lengths lent) t _
     (λ T. free-fit (seen-fitting (s .control) bytes) T u)
+call-found (leave t) lent s long bytes old =
+    tested-found (s .control) long old (lengths lent) t _ (λ T. leave-fit (seen-fitting (s .control) bytes) T)
 call-found (step t) lent s long bytes old =
     tested-found (s .control) long old (lengths lent) t _
     (λ T. step-fit (seen-fitting (s .control) bytes) _ T)

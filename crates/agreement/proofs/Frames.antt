@@ -1,7 +1,7 @@
 -- What a task's step leaves to the other tasks.
 use mathlib.Core.Path.{_≡_, refl, sym, ap, subst, _∙_}
 use mathlib.Core.Logic.{_≢_}
-use mathlib.Core.List.{List, [], _∷_}
+use mathlib.Core.List.{List, [], _∷_, _++_}
 use Prim.Native.Nat.{ℕ, _≤_, _<_}
 use native.Mathlib.Omega.{arith}
 use Rattle.limits.specs.Limits.{TASKS, CLASSES}
@@ -16,19 +16,20 @@ use Rattle.rows.proofs.Totals.{total-one}
 use Rattle.rows.proofs.Update.{update-all₂}
 use Rattle.rows.proofs.Weights.{when-same}
 use Rattle.links.specs.Link.{link}
-use Rattle.plain.specs.State.{Mem, Note, Phase, Work, Place, working, Task, region}
+use Rattle.plain.specs.State.{Mem, Note, Phase, Work, Place, working, Task, region, Purpose}
 use Rattle.plain.specs.Noted.{Noted, unnoted, pop-noted, push-noted, anchor-noted, entry-noted, noted}
-use Rattle.plain.specs.Held.{holdsDescriptor, holdsRegion, underWay}
+use Rattle.plain.specs.Held.{holdsDescriptor, holdsRegion, underWay, ownBlocks}
 use Rattle.plain.specs.HolderWeights.{blockWeight, rowWeight}
 use Rattle.stepped.specs.Lists.{Items, descriptor-items, region-items, pushItems}
-use Rattle.agreement.specs.Contents.{Lists, Contents, Slot}
+use Rattle.agreement.specs.Contents.{Lists, Contents, Slot, purposeOf}
 use Rattle.agreement.specs.Relation.{HeadNoted, MoveRelated, at-read, at-next, at-exchange, PopReady, nexts}
 use Rattle.agreement.specs.Relation.{inHand, NoteRelated, GroupRelated, WorkRelated, r-a1, r-popping, r-pushing}
 use Rattle.agreement.specs.Relation.{r-a3-read, r-a3-exchange, r-a4, r-a7, r-a8, r-f1, r-f2, r-f2-more, r-f3-read}
 use Rattle.agreement.specs.Relation.{r-f3-link, r-f3-exchange, r-f4-clear, PlaceRelated, r-idle, r-working}
 use Rattle.agreement.specs.Relation.{SlotRelated, Core, Related}
 use Rattle.agreement.proofs.HeldItems.{HoldsItem, push-holds}
-use Rattle.agreement.specs.Relation.{r-strip-take, r-strip-give}
+use Rattle.agreement.specs.Relation.{r-strip-take, r-strip-give, r-leave-end}
+use Rattle.agreement.proofs.Purposes.{group-in}
 
 -- x is the descriptor whose anchor is noted
 abbrev pub Reads : ℕ → Noted → Type 0
@@ -109,6 +110,11 @@ under-links : {a a′ : Contents} {m m′ : Mem} {T : Task} → Framed a a′ m 
     → link (a′ .area) v ≡ link (a .area) v
 under-links K v h = K .links v (omega arith)
 
+-- the blocks of a group count with the task's, behind its own
+group-links : {a a′ : Contents} {m m′ : Mem} {T : Task} → Framed a a′ m m′ T → (z : Purpose) (q : List ℕ)
+    → underWay (T .place) ≡ ownBlocks z ++ q → (v : ℕ) → 1 ≤ count v q → link (a′ .area) v ≡ link (a .area) v
+group-links K z q e v h = under-links K v (omega (arith, ap (count v) e, group-in z q v))
+
 -- the next of an item that the other task holds
 kept-next : {a a′ : Contents} {m m′ : Mem} {T : Task} (items : Items) (x : ℕ) → Framed a a′ m m′ T
     → HoldsItem items x (T .place)
@@ -124,7 +130,7 @@ kept-work K (r-a1 e) = r-a1 e
 kept-work K (r-popping P h) = r-popping P (kept-move K (kept-ready K) h)
 kept-work {s = s} K (r-pushing P z {φ} f h) =
     let same = kept-next (pushItems P) (inHand (pushItems P) (s .hand)) K
-    (push-holds P (s .class) (s .unit) (s .hand) z φ) in
+    (push-holds P (s .class) (purposeOf (s .unit)) (s .hand) z φ) in
     r-pushing P z f (kept-move K (λ n N r. record { written = same ∙ r .written }) h)
 kept-work K (r-a3-read e) = r-a3-read e
 kept-work {s = s} K (r-a3-exchange e N i j k l) =
@@ -134,13 +140,15 @@ kept-work K (r-a7 e) = r-a7 e
 kept-work K (r-a8 e) = r-a8 e
 kept-work K (r-f1 e) = r-f1 e
 kept-work K (r-f2 e z) = r-f2 e z
-kept-work K (r-f2-more e G) = r-f2-more e (kept-group K (λ v h. under-links K v (omega arith)) G)
-kept-work K (r-f3-read e G) = r-f3-read e (kept-group K (λ v h. under-links K v (omega arith)) G)
-kept-work {s = s} K (r-f3-link e G N l) =
-    r-f3-link e (kept-group K (λ v h. under-links K v (omega arith)) G)
+kept-work {s = s} K (r-f2-more {y = y} {g = g} e G) =
+    r-f2-more e (kept-group K (group-links K (purposeOf (s .unit)) (y ∷ g) refl) G)
+kept-work {s = s} K (r-f3-read {y = y} {g = g} e G) =
+    r-f3-read e (kept-group K (group-links K (purposeOf (s .unit)) (y ∷ g) refl) G)
+kept-work {s = s} K (r-f3-link {y = y} {g = g} e G N l) =
+    r-f3-link e (kept-group K (group-links K (purposeOf (s .unit)) (y ∷ g) refl) G)
     (kept-note K (K .regions (s .hand .descriptor) refl) N) l
-kept-work {s = s} K (r-f3-exchange e G N l f) =
-    r-f3-exchange e (kept-group K (λ v h. under-links K v (omega arith)) G)
+kept-work {s = s} K (r-f3-exchange {y = y} {g = g} e G N l f) =
+    r-f3-exchange e (kept-group K (group-links K (purposeOf (s .unit)) (y ∷ g) refl) G)
     (kept-note K (K .regions (s .hand .descriptor) refl) N) l
     (under-links K (G .last)
     (omega (
@@ -149,10 +157,12 @@ kept-work {s = s} K (r-f3-exchange e G N l f) =
       count-append (G .last) (G .front) (G .last ∷ []),
       when-same (G .last)
           1,
+      group-in (purposeOf (s .unit)) (y ∷ g) (G .last),
     )) ∙ f)
 kept-work K (r-f4-clear e h) = r-f4-clear e h
 kept-work K (r-strip-take e) = r-strip-take e
 kept-work K (r-strip-give e h) = r-strip-give e h
+kept-work K (r-leave-end e) = r-leave-end e
 
 kept-place : {regions : ℕ} {a a′ : Contents} {m m′ : Mem} {s : Slot} {p : Place} {k : ℕ → List ℕ}
     → Framed a a′ m m′ (record { place = p; cache = k }) → PlaceRelated regions a m s p → PlaceRelated regions a′ m′ s p

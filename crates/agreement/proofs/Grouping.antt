@@ -25,7 +25,8 @@ use Rattle.control.specs.Layout.{CacheTop, CacheCount, GroupCount, GroupFirst, 
 use Rattle.control.specs.Layout.{TaskPlace, TaskUnit}
 use Rattle.control.specs.Places.{F2, F3-READ}
 use Rattle.stepped.specs.Free as Free
-use Rattle.agreement.specs.Contents.{slotOf, contentsOf}
+use Rattle.agreement.proofs.Purposes.{group-in}
+use Rattle.agreement.specs.Contents.{slotOf, contentsOf, purposeOf}
 use Rattle.agreement.specs.Relation.{GroupRelated, r-f2-more, r-f3-read, r-working}
 use Rattle.agreement.proofs.BothPass.{both-true}
 use Rattle.agreement.proofs.Slots.{toPlace, toGroup, toCache}
@@ -40,12 +41,13 @@ use Rattle.agreement.proofs.GroupBlocks.{region-below}
 
 module _ {regions : ℕ} {v : View} {area : List ℕ} {m : Mem} {t : ℕ} {k : ℕ → List ℕ} where
   -- the first block of a group
-  first-both : At regions v area m t (working (f2 (v (TaskClass t)) (v (TaskUnit t)) [])) k → v (TaskPlace t) ≡ F2
+  first-both : At regions v area m t (working (f2 (v (TaskClass t)) (purposeOf (v (TaskUnit t))) [])) k
+      → v (TaskPlace t) ≡ F2
       → (x : ℕ) (q : List ℕ) → k (v (TaskClass t)) ≡ x ∷ q
       → Both regions v area m
       (Free.f2First v (link area) regions t (v (TaskClass t)) (v (CacheCount t (v (TaskClass t))))
       (v (CacheTop t (v (TaskClass t)))))
-      (Steps.f2Step t k (v (TaskClass t)) (v (TaskUnit t)) (x ∷ q) [] m)
+      (Steps.f2Step t k (v (TaskClass t)) (purposeOf (v (TaskUnit t))) (x ∷ q) [] m)
   unfolding Free.f2First
   first-both w e x q f =
       let c = v (TaskClass t) in
@@ -54,7 +56,7 @@ module _ {regions : ℕ} {v : View} {area : List ℕ} {m : Mem} {t : ℕ} {k : �
       let T = topped w x q f in
       let i = indexOf c u in
       let s = toGroup (regionOf u) i i 1 (toCache c (link area u) (n - 1) (slotOf v t)) in
-      let p = working (f2 c (v (TaskUnit t)) (u ∷ [])) in
+      let p = working (f2 c (purposeOf (v (TaskUnit t))) (u ∷ [])) in
       let v₁ =
       assigned (TaskRegion t := regionOf u ∷ GroupFirst t := i ∷ GroupLast t := i ∷ GroupCount t := 1 ∷ []) v in
       pass _ (T .below) (record {
@@ -86,14 +88,16 @@ module _ {regions : ℕ} {v : View} {area : List ℕ} {m : Mem} {t : ℕ} {k : �
         apart = tt;
       })
 
-  module _ {y : ℕ} {g : List ℕ} (w : At regions v area m t (working (f2 (v (TaskClass t)) (v (TaskUnit t)) (y ∷ g))) k)
+  module _ {y : ℕ} {g : List ℕ}
+      (w : At regions v area m t (working (f2 (v (TaskClass t)) (purposeOf (v (TaskUnit t))) (y ∷ g))) k)
       (G : GroupRelated (contentsOf v area) (slotOf v t) y g) where
     -- a further block, linked behind the last
     more-both : v (TaskPlace t) ≡ F2 → (x : ℕ) (q : List ℕ) → k (v (TaskClass t)) ≡ x ∷ q
         → Both regions v area m
         (Free.f2More v (link area) regions t (v (TaskClass t)) (v (CacheCount t (v (TaskClass t))))
         (v (CacheTop t (v (TaskClass t)))) (v (GroupCount t)) (v (TaskRegion t))) (
-          Steps.cached t k (v (TaskClass t)) q (working (f2 (v (TaskClass t)) (v (TaskUnit t)) (y ∷ (g ++ (x ∷ [])))))
+          Steps.cached t k (v (TaskClass t)) q
+              (working (f2 (v (TaskClass t)) (purposeOf (v (TaskUnit t))) (y ∷ (g ++ (x ∷ [])))))
               m,
           going nothing,
         )
@@ -107,19 +111,20 @@ module _ {regions : ℕ} {v : View} {area : List ℕ} {m : Mem} {t : ℕ} {k : �
         let l = G .last in
         let o = placeHolds (w .pair .turn) in
         let T = topped w x q f in
-        let L = last-at (w .pair) G (λ z. omega arith) refl (o .3) in
-        let lu = last-under (w .pair) G (λ z. omega arith) refl (o .3) in
-        let fo = front-out (w .pair) G (λ z. omega arith) refl (o .3) in
-        let fs = front-sub (w .pair) G (λ z. omega arith) refl (o .3) in
+        let L = last-at (w .pair) G (group-in (purposeOf (v (TaskUnit t))) (y ∷ g)) refl (o .3) in
+        let lu = last-under (w .pair) G (group-in (purposeOf (v (TaskUnit t))) (y ∷ g)) refl (o .3) in
+        let fo = front-out (w .pair) G (group-in (purposeOf (v (TaskUnit t))) (y ∷ g)) refl (o .3) in
+        let fs = front-sub (w .pair) G (group-in (purposeOf (v (TaskUnit t))) (y ∷ g)) refl (o .3) in
         let room : h < perRegion c = omega (arith, G .counts, o .2, ap length f) in
         let wr = wrote (w .pair) l i lu (omega (arith, T .index, perRegion-high c)) in
         let kept = cache-agrees (w .pair) l i lu in
         let s =
         toGroup (v (TaskRegion t)) (v (GroupFirst t)) i (h + 1) (toCache c (link area u) (n - 1) (slotOf v t)) in
-        let p = working (f2 c (v (TaskUnit t)) (y ∷ (g ++ (u ∷ [])))) in
+        let p = working (f2 c (purposeOf (v (TaskUnit t))) (y ∷ (g ++ (u ∷ [])))) in
         let v₁ = assigned (GroupLast t := i ∷ GroupCount t := (h + 1) ∷ []) v in
         pass _ (both-true (both-true (lt-ltb h (perRegion c) room)
-        (lt-ltb (v (GroupLast t)) (perRegion c) (last-below (w .pair) G (λ z. omega arith) refl (o .3)))) (T .below))
+        (lt-ltb (v (GroupLast t)) (perRegion c)
+        (last-below (w .pair) G (group-in (purposeOf (v (TaskUnit t))) (y ∷ g)) refl (o .3)))) (T .below))
         (record {
           says = refl;
           keeps = (refl, refl);
@@ -153,13 +158,13 @@ module _ {regions : ℕ} {v : View} {area : List ℕ} {m : Mem} {t : ℕ} {k : �
 
     -- the group is closed
     close-both : Both regions v area m (Free.f2Close v (link area) regions t (v (TaskClass t)))
-        (Steps.atPlace t k (working (f3-read (v (TaskClass t)) (v (TaskUnit t)) y g)) m, going nothing)
+        (Steps.atPlace t k (working (f3-read (v (TaskClass t)) (purposeOf (v (TaskUnit t))) y g)) m, going nothing)
     close-both = record {
       says = refl;
       keeps = (refl, refl);
       rel =
           goes w (TaskPlace t := F3-READ ∷ []) (toPlace F3-READ (slotOf v t))
-          (working (f3-read (v (TaskClass t)) (v (TaskUnit t)) y g))
+          (working (f3-read (v (TaskClass t)) (purposeOf (v (TaskUnit t))) y g))
           refl (rw (eq-eqb t t refl)) (λ j n. rw (ne-eqb t j n)) refl refl
           (r-working (r-f3-read refl (same-group refl refl refl refl G)));
       sound = omega (arith, w .pair .turn .fits);
@@ -167,10 +172,11 @@ module _ {regions : ℕ} {v : View} {area : List ℕ} {m : Mem} {t : ℕ} {k : �
     }
 
   -- step 2 with an empty group: the cache has a block
-  pub f2-both : At regions v area m t (working (f2 (v (TaskClass t)) (v (TaskUnit t)) [])) k → v (TaskPlace t) ≡ F2
+  pub f2-both : At regions v area m t (working (f2 (v (TaskClass t)) (purposeOf (v (TaskUnit t))) [])) k
+      → v (TaskPlace t) ≡ F2
       → v (GroupCount t) ≡ 0
       → Both regions v area m (Free.f2 v (link area) regions t (v (TaskClass t)))
-      (Steps.stepAt t k (f2 (v (TaskClass t)) (v (TaskUnit t)) []) m)
+      (Steps.stepAt t k (f2 (v (TaskClass t)) (purposeOf (v (TaskUnit t))) []) m)
   unfolding Free.f2 Free.f2Top
   f2-both w e z =
       let c = v (TaskClass t) in
@@ -181,15 +187,16 @@ module _ {regions : ℕ} {v : View} {area : List ℕ} {m : Mem} {t : ℕ} {k : �
       (le-leb n (perRegion c) (omega (arith, cache-count w, lengths (w .pair .turn) c)))
       (le-leb h (perRegion c) (omega arith)))
       (miss _ (eqb n 0) (ne-eqb n 0 (λ i. absurd (omega (arith, cache-count w, o .1))))
-      (has-top (λ q. Steps.f2Step t k c (v (TaskUnit t)) q [] m) (k c) (λ f. omega (arith, ap length f, o .1)) (λ x q f.
+      (has-top (λ q. Steps.f2Step t k c (purposeOf (v (TaskUnit t))) q [] m) (k c)
+      (λ f. omega (arith, ap length f, o .1)) (λ x q f.
       pass _ (topped w x q f .block) (meet _ (eqb h 0) (eq-eqb h 0 z) (first-both w e x q f)))))
 
   -- step 2 with a group that has blocks: the cache may be empty
   pub f2-more-both : {y : ℕ} {g : List ℕ} → At regions v area m t
-      (working (f2 (v (TaskClass t)) (v (TaskUnit t)) (y ∷ g))) k
+      (working (f2 (v (TaskClass t)) (purposeOf (v (TaskUnit t))) (y ∷ g))) k
       → v (TaskPlace t) ≡ F2 → GroupRelated (contentsOf v area) (slotOf v t) y g
       → Both regions v area m (Free.f2 v (link area) regions t (v (TaskClass t)))
-      (Steps.stepAt t k (f2 (v (TaskClass t)) (v (TaskUnit t)) (y ∷ g)) m)
+      (Steps.stepAt t k (f2 (v (TaskClass t)) (purposeOf (v (TaskUnit t))) (y ∷ g)) m)
   unfolding Free.f2 Free.f2Top
   f2-more-both {y} {g} w e G =
       let c = v (TaskClass t) in
@@ -202,7 +209,7 @@ module _ {regions : ℕ} {v : View} {area : List ℕ} {m : Mem} {t : ℕ} {k : �
       pass (leb n (perRegion c) && leb h (perRegion c)) (both-true
       (le-leb n (perRegion c) (omega (arith, cache-count w, lengths (w .pair .turn) c)))
       (le-leb h (perRegion c) (omega (arith, G .counts, o .2))))
-      (by-row (eqb n 0) (λ q. Steps.f2Step t k c (v (TaskUnit t)) q (y ∷ g) m) (k c)
+      (by-row (eqb n 0) (λ q. Steps.f2Step t k c (purposeOf (v (TaskUnit t))) q (y ∷ g) m) (k c)
       (λ f. eq-eqb n 0 (cache-count w ∙ ap length f))
       (λ x q f. ne-eqb n 0 (λ i. absurd (omega (arith, topped w x q f .counts))))
       (λ f. close-both w G)
@@ -210,7 +217,8 @@ module _ {regions : ℕ} {v : View} {area : List ℕ} {m : Mem} {t : ℕ} {k : �
       let T = topped w x q f in
       let i : regionOf u ≡ regionOf x = ap regionOf (T .is) in
       pass _ (T .block) (miss _ (eqb h 0) some
-      (pass (ltb r regions) (lt-ltb r regions (region-below (w .pair) G (λ z. omega arith) refl (o .3)))
+      (pass (ltb r regions)
+      (lt-ltb r regions (region-below (w .pair) G (group-in (purposeOf (v (TaskUnit t))) (y ∷ g)) refl (o .3)))
       (decide (eqb (regionOf u) r) (ℕ-discrete (regionOf x) (regionOf y))
       (λ b. sym i ∙ eqb-true (regionOf u) r b ∙ G .region) (λ b. eq-eqb (regionOf u) r (i ∙ b ∙ sym (G .region)))
       (λ a b. more-both w G e x q f) (λ a b. close-both w G))))))

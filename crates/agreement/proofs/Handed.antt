@@ -10,10 +10,9 @@ use Rattle.limits.specs.Limits.{TASKS, CLASSES, ORDERS, WHOLE-ORDER}
 use Rattle.fields.specs.Columns.{View}
 use Rattle.links.specs.Link.{link}
 use Rattle.classes.specs.Geometry.{regionOf, isFirst}
-use Rattle.classes.proofs.Sizes.{holds, smallest}
 use Rattle.classes.proofs.BlockUnits.{first-block, block-aligned}
-use Rattle.plain.specs.State.{strip-take, strip-give, working, Mem}
-use Rattle.plain.specs.Requests.{allocation, freeing, strip-allocation, strip-freeing, freesStrip}
+use Rattle.plain.specs.State.{strip-take, strip-give, working, Mem, leave-end, Place}
+use Rattle.plain.specs.Requests.{allocation, freeing, strip-allocation, strip-freeing, freesStrip, leaving}
 use Rattle.plain.specs.Calls.{Pool, Lengths}
 use Rattle.control.specs.Layout.{SlotByte, TaskUnit, TaskPlace, TaskClass, Regions, seen}
 use Rattle.control.specs.Places.{A1, STRIP-TAKE}
@@ -22,11 +21,13 @@ use Rattle.stepped.specs.Outcome.{Memories}
 use Rattle.stepped.specs.Ranges.{isBlock}
 use Rattle.stepped.specs.Calls.{Tested, stepOutcome}
 use Rattle.stepped.proofs.Conjunction.{left-true, right-true}
+use Rattle.plain.specs.Leaving.{EmptyFrom, emptyBelow}
 use Rattle.agreement.specs.Reached.{History, Reached}
-use Rattle.agreement.specs.Asked.{Asked, nothing-yet, for-bytes, for-free, asked}
+use Rattle.agreement.specs.Asked.{Asked, nothing-yet, for-bytes, for-free, asked, for-leave}
 use Rattle.agreement.specs.AtWhatAsked.{StripServes, AsAsked}
-use Rattle.agreement.specs.Handed.{AlignedBlock, StripHanded, StripGiven, Gives, EndsWith16}
+use Rattle.agreement.specs.Handed.{AlignedBlock, StripHanded, StripGiven, Gives, EndsWith16, AllEmpty}
 use Rattle.agreement.proofs.WorkKinds.{takes}
+use Rattle.agreement.proofs.GivesAsked.{gives, gives-none, gives-strip, gives-left, hands-strip}
 use Rattle.agreement.proofs.Ways.{TakesTop, TakesStrip}
 use Rattle.agreement.proofs.Ends.{ends-by, no-strip}
 use Rattle.agreement.proofs.Reaching.{reached-tied, reached-asked}
@@ -49,7 +50,7 @@ use Rattle.strips_agreement.proofs.StripsAgree.{take-agrees}
 use Rattle.plain.specs.Steps.{stepOf}
 use Rattle.plain.specs.TaskHolds.{PlaceHolds}
 use Rattle.stepped.specs.StripSteps.{treeOf}
-use Rattle.agreement.proofs.AskedAtPlaces.{AtFirstStep, asked-at, after-take, after-give}
+use Rattle.agreement.proofs.AskedAtPlaces.{AtFirstStep, asked-at, after-take, after-give, after-leave}
 
 -- ---- whatever the memories hold
 
@@ -78,41 +79,6 @@ hands-out lent v links t u here e =
     (ends-by lent v links t (Allocated u) tt e .1)
 
 -- ---- along runs
-
-module _ (regions : ℕ) (before after : Mem) (t : ℕ) where
-  -- an aligned block of the class of the request that was asked for is what is handed out
-  gives : {c u : ℕ} (a : Asked) → AsAsked a (allocation c) → AlignedBlock regions c u → Gives regions before after t a u
-  gives {u = u} (for-bytes size) Z B = (
-    λ l. record {
-      given = subst (λ (c : ℕ). AlignedBlock regions c u) (Z .2) B;
-      holds = holds size (Z .1);
-      smallest = smallest size;
-    },
-    λ l. absurd (omega (arith, Z .1)),
-  )
-  gives nothing-yet Z B = absurd Z
-  gives (for-free unit) Z B = absurd Z
-
-  -- a free that was asked for gives no unit
-  gives-none : (c u : ℕ) (a : Asked) → AsAsked a (freeing c u) → Gives regions before after t a 0
-  gives-none c u (for-free unit) Z = (refl, λ l. absurd (omega (arith, Z .1)))
-  gives-none c u nothing-yet Z = absurd Z
-  gives-none c u (for-bytes size) Z = absurd Z
-
-  -- so does one of a strip, whose pieces are joined
-  gives-strip : (q : ℕ) (a : Asked) → AsAsked a (strip-freeing q)
-      → ((u : ℕ) → u ≡ stripUnit q → StripGiven (before .strips) (after .strips) t u) → Gives regions before after t a 0
-  gives-strip q (for-free unit) Z G = (refl, λ l. G unit (sym Z))
-  gives-strip q nothing-yet Z G = absurd Z
-  gives-strip q (for-bytes size) Z G = absurd Z
-
-  -- a strip of the order of the size that was asked for is what is handed out
-  hands-strip : {c u : ℕ} (a : Asked) → AsAsked a (strip-allocation c)
-      → ((size : ℕ) → StripServes size c → StripHanded (before .strips) (after .strips) size u)
-      → Gives regions before after t a u
-  hands-strip (for-bytes size) Z H = (λ l. absurd (omega (arith, Z .0)), λ l. H size Z)
-  hands-strip nothing-yet Z H = absurd Z
-  hands-strip (for-free unit) Z H = absurd Z
 
 module _ {h : History} {s₁ : Memories} {s : Pool} (R : Reached h s₁ s) (lent : Lengths) (t : ℕ) where
   abbrev v : View
@@ -211,7 +177,15 @@ module _ {h : History} {s₁ : Memories} {s : Pool} (R : Reached h s₁ s) (lent
             (none-left (giveStrip q (m .strips)) (give-joined (m .strips) q (H .joined)));
       }
 
-  -- a step that finishes a free finishes one that was asked for
+  -- ---- a task has left
+
+  left : t < TASKS → m .task t .place ≡ working leave-end → 1 ≤ s .tasks → AllEmpty (after .task t .cache)
+  left l p k =
+      after-leave t m p
+      (subst (λ (x : Place). EmptyFrom (m .task t .cache) 0 (emptyBelow x)) p
+      (reached-tied R .good .leaves k .empty t l))
+
+  -- a step that finishes a free, or leaving, finishes one that was asked for
   pub freed : stepOutcome lent v links t .answer ≡ Freed → Gives (s .regions) m after t (asked t h) 0
   freed e =
       let E = ends-by lent v links t Freed tt e in
@@ -219,8 +193,11 @@ module _ {h : History} {s₁ : Memories} {s : Pool} (R : Reached h s₁ s) (lent
       let l : t < TASKS = omega (arith, T .below, T .tasks) in
       ⊎-elim
       (λ H. gives-none (s .regions) m after t (v (TaskClass t)) (v (TaskUnit t)) (asked t h) (at-task T .at-f1 H))
+      (⊎-elim
       (λ H. let B = at-task T .at-give H in
       gives-strip (s .regions) m after t (B .0) (asked t h) (B .1 .1) (given l (B .0) (B .1 .0) (started T)))
+      (λ H. let B = at-task T .at-leave H in
+      gives-left (s .regions) m after t (asked t h) (B .1) (left l (B .0) (started T))))
       (E .1)
 
   -- ---- 16
@@ -284,3 +261,4 @@ module _ {h : History} {s₁ : Memories} {s : Pool} (R : Reached h s₁ s) (lent
           record { size = size; asked-for = e; is-strip = Z .0; exactly = exact (orderOf size) (sym (Z .2)) }
       by nothing-yet e Z = absurd Z
       by (for-free unit) e Z = absurd Z
+      by for-leave e Z = absurd Z

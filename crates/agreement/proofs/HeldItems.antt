@@ -2,7 +2,7 @@
 use Prim.Native.Nat.{ℕ, _≤_}
 use native.Mathlib.Omega.{arith}
 use Rattle.rows.proofs.Weights.{when-same}
-use Rattle.plain.specs.State.{State, Phase, Place, pushing, working}
+use Rattle.plain.specs.State.{State, Phase, Place, pushing, working, Purpose}
 use Rattle.plain.specs.Held.{holdsDescriptor, holdsRegion}
 use Rattle.control.specs.declared.moves.Push.{Push}
 use Rattle.control.specs.declared.moves.Push.the-variants.{Retire, Back, Release, Offer}
@@ -16,9 +16,9 @@ HoldsItem descriptor-items x p = 1 ≤ holdsDescriptor x p
 HoldsItem region-items x p = 1 ≤ holdsRegion x p
 
 -- a push holds the item that it has in hand
-pub push-holds : (P : Push) (c u : ℕ) (h : TaskHand) (z : State) (φ : Phase)
-    → HoldsItem (pushItems P) (inHand (pushItems P) h) (working (pushing (plainPush P c u h z) φ))
-push-holds Retire c u h z φ = omega (arith, when-same (h .descriptor) 1)
-push-holds Back c u h z φ = omega (arith, when-same (h .descriptor) 1)
-push-holds Release c u h z φ = omega (arith, when-same (h .region) 1)
-push-holds Offer c u h z φ = omega (arith, when-same (h .descriptor) 1)
+pub push-holds : (P : Push) (c : ℕ) (z : Purpose) (h : TaskHand) (w : State) (φ : Phase)
+    → HoldsItem (pushItems P) (inHand (pushItems P) h) (working (pushing (plainPush P c z h w) φ))
+push-holds Retire c z h w φ = omega (arith, when-same (h .descriptor) 1)
+push-holds Back c z h w φ = omega (arith, when-same (h .descriptor) 1)
+push-holds Release c z h w φ = omega (arith, when-same (h .region) 1)
+push-holds Offer c z h w φ = omega (arith, when-same (h .descriptor) 1)

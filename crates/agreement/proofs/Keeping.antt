@@ -13,13 +13,14 @@ use Rattle.fields.specs.Columns.{View, _:=_}
 use Rattle.links.specs.Link.{link}
 use Rattle.classes.specs.Classes.{perRegion}
 use Rattle.classes.proofs.Tables.{perRegion-high}
-use Rattle.plain.specs.State.{Mem, f1, f2, idle, working}
+use Rattle.plain.specs.State.{Mem, f1, f2, idle, working, to-free}
 use Rattle.plain.specs.Moves.{finished}
 use Rattle.plain.specs.Steps as Steps
 use Rattle.plain.proofs.PlaceAlone.{lengths}
 use Rattle.control.specs.Layout.{CacheCount, CacheTop, GroupCount, TaskClass, TaskPlace, TaskUnit}
 use Rattle.control.specs.Places.{IDLE, F2}
 use Rattle.stepped.specs.Free as Free
+use Rattle.agreement.proofs.Purposes.{is-freeing}
 use Rattle.agreement.specs.Contents.{slotOf}
 use Rattle.agreement.specs.Relation.{r-f2, r-idle, r-working}
 use Rattle.agreement.proofs.BothPass.{both-true}
@@ -69,8 +70,10 @@ module _ {regions : ℕ} {v : View} {area : List ℕ} {m : Mem} {t : ℕ} {k : �
         says = refl;
         keeps = (refl, refl);
         rel = goes w (TaskPlace t := F2 ∷ GroupCount t := 0 ∷ []) (toPlace F2 (toGrouped 0 (slotOf v t)))
-            (working (f2 c (v (TaskUnit t)) [])) refl (rw (eq-eqb t t refl)) (λ j n. rw (ne-eqb t j n)) refl refl
-            (r-working (r-f2 refl refl));
+            (working (f2 c (to-free (v (TaskUnit t))) [])) refl (rw (eq-eqb t t refl)) (λ j n. rw (ne-eqb t j n)) refl
+            refl
+            (rw (← (is-freeing {u = v (TaskUnit t)} (λ i. omega (arith, under-max w (v (TaskUnit t)) under))))
+            (r-working (r-f2 refl refl)));
         sound = omega (arith, w .pair .turn .fits);
         apart = tt;
       }))

@@ -5,7 +5,7 @@ use mathlib.Core.Logic.{_⊎_, ⊎-elim, inl, inr}
 use Prim.Native.Nat.{ℕ, _≤_}
 use native.Mathlib.Omega.{arith}
 use Rattle.links.specs.Link.{link}
-use Rattle.plain.specs.Calls.{Start, Call, start, allocate, free, step, Lengths}
+use Rattle.plain.specs.Calls.{Start, Call, start, allocate, free, leave, step, Lengths}
 use Rattle.plain.proofs.CallTests.{start-tested, start-numbers}
 use Rattle.control.specs.Layout.{seen}
 use Rattle.control.specs.Answers.{codeOf}
@@ -31,6 +31,8 @@ same-lengths (allocate t size) l l′ s n e =
     ap (λ (z : Lengths). effect (Stepped.allocateOutcome z (seen (s .control)) t size) s) e
 same-lengths (free t u) l l′ s n e =
     ap (λ (z : Lengths). effect (Stepped.freeOutcome z (seen (s .control)) t u) s) e
+same-lengths (leave t) l l′ s n e =
+    ap (λ (z : Lengths). effect (Stepped.leaveOutcome z (seen (s .control)) t) s) e
 same-lengths (step t) l l′ s n e =
     ap (λ (z : Lengths). effect (Stepped.stepOutcome z (seen (s .control)) (link (s .area)) t) s) e
 

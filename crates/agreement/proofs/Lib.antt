@@ -15,6 +15,8 @@ pub mod NotedAnchors
 pub mod Both
 pub mod TaskBlocks
 pub mod Turns
+pub mod Purposes
+pub mod LeavingBoth
 pub mod FollowingBoth
 pub mod Images
 pub mod StartRelated
@@ -25,6 +27,7 @@ pub mod ListMoves
 pub mod WorkPlaces
 pub mod WorkKinds
 pub mod BeginsBoth
+pub mod LeavingBegins
 pub mod UserWrites
 pub mod GroupBlocks
 pub mod Caching
@@ -69,6 +72,7 @@ pub mod Reaching
 pub mod BeginningEnds
 pub mod Ends
 pub mod AskedAtPlaces
+pub mod GivesAsked
 pub mod Handed
 pub mod Theorem
 pub mod FreeUnderWay

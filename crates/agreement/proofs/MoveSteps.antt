@@ -8,7 +8,7 @@ use native.Mathlib.Omega.{arith}
 use native.Mathlib.Decide.{ℕ-discrete}
 use borrow.Author.Tests.{eq-eqb, ne-eqb, eqb-true}
 use lib.Dec.{eqb}
-use Rattle.limits.specs.Limits.{DESCRIPTORS, TAGS, SPARE-REGIONS, LISTS, DESCRIPTOR-LISTS}
+use Rattle.limits.specs.Limits.{CLASSES, DESCRIPTORS, TAGS, SPARE-REGIONS, LISTS, DESCRIPTOR-LISTS}
 use Rattle.rows.specs.Branch.{if}
 use Rattle.rows.specs.Linked.{Linked}
 use Rattle.fields.specs.Columns.{View, Write, _:=_, assigned}
@@ -147,7 +147,7 @@ module _ {regions : ℕ} {v : View} {area : List ℕ} {m : Mem} {t : ℕ} {p : P
       → contentsOf (assigned ws v) area
       ≡ withSlots (slotOf (assigned ws v)) (setHead ℓ (headOf (advancedWord (v (TaskHead t)) x)) (contentsOf v area))
       → slotOf (assigned ws v) t ≡ s → ((j : ℕ) → t ≢ j → slotOf (assigned ws v) j ≡ slotOf v j)
-      → s .class ≡ slotOf v t .class → s .caches ≡ slotOf v t .caches
+      → s .class < CLASSES → s .caches ≡ slotOf v t .caches
       → PlaceRelated regions (setSlot t s (setHead ℓ (headOf (advancedWord (v (TaskHead t)) x)) (contentsOf v area)))
       (atPlace t k p′ (setRow ℓ q m)) s p′
       → Related regions (contentsOf (assigned ws v) area) (atPlace t k p′ (setRow ℓ q m))

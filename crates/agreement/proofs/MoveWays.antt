@@ -15,7 +15,8 @@ use Rattle.words.specs.Anchor.{FULL, isState}
 use Rattle.classes.specs.Classes.{perRegion}
 use Rattle.plain.specs.Moves.{Decided, found-empty, popped, pushed}
 use Rattle.control.specs.Layout.{Head, TaskHead, CacheCount, TaskPlace, TaskClass, TaskNext, TaskState, Regions}
-use Rattle.control.specs.Places.{A3-READ, A7, F1, F2}
+use Rattle.control.specs.Layout.{TaskUnit, LEAVING}
+use Rattle.control.specs.Places.{A3-READ, A7, F1, F2, LEAVE-END}
 use Rattle.control.specs.Places.{TO-NEXT, TO-EXCHANGE}
 use Rattle.control.specs.declared.moves.Pop.{Pop}
 use Rattle.control.specs.declared.moves.Pop.the-variants.{Partial, Spare, Region}
@@ -26,6 +27,7 @@ use Rattle.stepped.specs.Ranges.{oneTo}
 use Rattle.stepped.specs.Lists as Lists
 use Rattle.stepped.specs.Lists.{Items, descriptor-items, region-items, howMany, nextField, popPlace, popItems}
 use Rattle.stepped.specs.Lists.{pushPlace, pushItems}
+use Rattle.stepped.specs.Leaving.{nextCached, countFits, leaveFrom}
 use Rattle.agreement.specs.Ends.{FindsEmpty, WinsPush, InPush}
 use Rattle.stepped.proofs.Conjunction.{left-true, right-true}
 use Rattle.agreement.proofs.ListMoves.{pop-first}
@@ -114,12 +116,25 @@ module _ (v : View) (t : ℕ) (fits : v (TaskClass t) < CLASSES) where
       test (ltb x items && leb below items)
       (within p (pushPlace p + TO-EXCHANGE) (omega arith) (omega arith) (next-keeps t (pushItems p) x below))
 
+  -- where leaving goes on
+  leave-from : (j : ℕ) (e : Decided) (ws : List Write) → Keeps t ws → End (leaveFrom v t j e ws)
+  unfolding leaveFrom
+  leave-from j e ws h =
+      let i = nextCached v t j in
+      test (countFits v t i)
+      (branch (λ x. End (accept e x [])) (eqb i CLASSES) (λ b. to LEAVE-END (omega arith) h)
+      (λ b. to F2 (omega arith) (λ u. h _)))
+
   -- free, steps 6 and 5
   f6 : (e : Decided) (ws : List Write) → Keeps t ws → End (Lists.f6 v regions t c e ws)
-  unfolding Lists.f6
+  unfolding Lists.f6 Lists.whenReturned
   f6 e ws h =
       let k = v (CacheCount t c) in
-      test (leb k (perRegion c)) (either (eqb k 0) (to F1 (omega arith) h) (to F2 (omega arith) (λ u. h _)))
+      let u = v (TaskUnit t) in
+      test (leb k (perRegion c))
+      (either (eqb k 0)
+      (test (leb u LEAVING) (either (eqb u LEAVING) (leave-from (c + 1) e ws h) (to F1 (omega arith) h)))
+      (to F2 (omega arith) (λ u. h _)))
 
   pub f5 : (was : ℕ) (e : Decided) (ws : List Write) → Keeps t ws → End (Lists.f5 v regions t c was e ws)
   unfolding Lists.f5

@@ -13,6 +13,7 @@ use Rattle.plain.proofs.PlaceAlone.{taskOf}
 use Rattle.control.specs.Layout.{DescriptorNext, RegionNext, TaskPlace}
 use Rattle.stepped.specs.Outcome.{accept}
 use Rattle.stepped.specs.Lists.{Items, descriptor-items, region-items, howMany, nextField}
+use Rattle.agreement.proofs.TurnInBoth.{mine}
 use Rattle.agreement.specs.Contents.{Slot, Contents, slotOf, contentsOf}
 use Rattle.agreement.specs.Relation.{nexts, PlaceRelated}
 use Rattle.agreement.proofs.HeldItems.{HoldsItem}
@@ -58,7 +59,7 @@ module _ {regions : ℕ} {v : View} {area : List ℕ} {m : Mem} {t : ℕ} {p : P
             shares w ws s p′ (setDescriptorNext x n (contentsOf v area)) m
             (descriptor-nexting (w .pair) x n s (taskOf p′ k) h i)
             (descriptorNext-written v (slotOf (assigned ws v)) area x n) refl refl
-            (rw (eq-eqb t t refl)) (λ j n. rw (ne-eqb t j n)) refl refl pl;
+            (rw (eq-eqb t t refl)) (λ j n. rw (ne-eqb t j n)) (mine (w .pair) .fits) refl pl;
         sound = omega (arith, w .pair .turn .fits, descriptor-in-hand (w .pair .turn) x h);
         apart = tt;
       }
@@ -71,7 +72,7 @@ module _ {regions : ℕ} {v : View} {area : List ℕ} {m : Mem} {t : ℕ} {p : P
         rel = shares w ws s p′ (setRegionNext x n (contentsOf v area)) m
             (region-nexting (w .pair) x n s (taskOf p′ k) h i)
             (regionNext-written v (slotOf (assigned ws v)) area x n) refl refl
-            (rw (eq-eqb t t refl)) (λ j n. rw (ne-eqb t j n)) refl refl pl;
+            (rw (eq-eqb t t refl)) (λ j n. rw (ne-eqb t j n)) (mine (w .pair) .fits) refl pl;
         sound = omega (arith, w .pair .turn .fits, w .pair .small, region-in-hand (w .pair .turn) x h);
         apart = tt;
       }

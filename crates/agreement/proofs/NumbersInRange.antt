@@ -1,7 +1,7 @@
 -- The fields of a task are in their ranges, by its place.
 use Prim.Native.Nat.{ℕ, suc, _+_, _-_, _≤_, _<_}
 use mathlib.Core.Path.{_≡_, refl, sym, ap, _∙_}
-use mathlib.Core.List.{List, _∷_}
+use mathlib.Core.List.{List, _∷_, []}
 use native.Mathlib.Omega.{arith}
 use Rattle.limits.specs.Limits.{DESCRIPTORS}
 use Rattle.rows.specs.Counting.{count}
@@ -14,7 +14,7 @@ use Rattle.classes.specs.Classes.{perRegion}
 use Rattle.classes.specs.Geometry.{BlockOf, unitOf}
 use Rattle.classes.proofs.BlockUnits.{block-at, index-below, region-is}
 use Rattle.plain.specs.State.{State, stateNumber, Place, Note, Mem, region, Work, working}
-use Rattle.plain.specs.Held.{owed, classAt, underWay, holdsDescriptor, holdsRegion}
+use Rattle.plain.specs.Held.{owed, classAt, underWay, holdsDescriptor, holdsRegion, ownBlocks}
 use Rattle.plain.specs.Blocks.{blocksFrom}
 use Rattle.plain.specs.TaskHolds.{Together}
 use Rattle.plain.proofs.Blocks.{counts-block}
@@ -22,24 +22,26 @@ use Rattle.plain.proofs.Owners.{home-of, owner}
 use Rattle.plain.proofs.PlaceAlone.{placeHolds, noteHolds}
 use Rattle.control.specs.Layout.{TaskAnchor, TaskIndex, GroupFirst, GroupLast, GroupCount, TaskPlace, TaskClass}
 use Rattle.control.specs.Layout.{TaskDescriptor, TaskRegion, TaskUnit, TaskState}
-use Rattle.control.specs.Places.{POP-PARTIAL, PUSH-OFFER, A3-READ, F3-LINK, F3-EXCHANGE}
+use Rattle.control.specs.Places.{POP-PARTIAL, PUSH-OFFER, A3-READ, F3-LINK, F3-EXCHANGE, F1}
 use Rattle.control.specs.declared.moves.Pop.the-variants.{Partial, Spare, Region}
 use Rattle.control.specs.declared.moves.Push.the-variants.{Retire, Back, Release, Offer}
-use Rattle.agreement.specs.Contents.{Slot, slotOf, contentsOf}
+use mathlib.Core.Logic.{_≢_}
+use Rattle.agreement.proofs.Purposes.{group-in, own-in, owned}
+use Rattle.agreement.specs.Contents.{Slot, slotOf, contentsOf, purposeOf}
 use Rattle.agreement.specs.Relation.{NoteRelated, GroupRelated, WorkRelated, r-a1, r-popping, r-pushing}
 use Rattle.agreement.specs.Relation.{r-a3-read, r-a3-exchange, r-a4, r-a7, r-a8, r-f1, r-f2, r-f2-more, r-f3-read}
 use Rattle.agreement.specs.Relation.{r-f3-link, r-f3-exchange, r-f4-clear, PlaceRelated, r-idle, r-working}
 use Rattle.agreement.specs.InRange.{ListsInRange, HandInRange, ChainsInRange}
 use Rattle.agreement.proofs.WorkPlaces.{span}
-use Rattle.agreement.proofs.FreeUnderWay.{Freeing, allocates, fills, frees, owes, owed-one}
+use Rattle.agreement.proofs.FreeUnderWay.{Freeing, allocates, fills, puts, returns, owes, owed-one}
 use Rattle.agreement.proofs.ListsInRange.{none, of-pop, of-push}
 use Rattle.agreement.proofs.ListTops.{first-of, descriptor-in-hand, region-in-hand}
 use Rattle.agreement.proofs.TurnInBoth.{Pair}
 use Rattle.agreement.proofs.TaskBlocks.{home-below}
 use Rattle.agreement.proofs.GroupBlocks.{first-below, last-below, region-below}
 use Rattle.agreement.proofs.NotedAnchors.{first-max, number-max}
-use Rattle.agreement.specs.Relation.{r-strip-take, r-strip-give}
-use Rattle.agreement.proofs.FreeUnderWay.{of-strip}
+use Rattle.agreement.specs.Relation.{r-strip-take, r-strip-give, r-leave-end}
+use Rattle.agreement.proofs.FreeUnderWay.{past-frees}
 
 -- a noted anchor
 note-in : {m : Mem} {c d : ℕ} {n : Note} {b : Anchor} → NoteRelated m c d n b
@@ -102,25 +104,27 @@ module _ (regions : ℕ) (v : View) (area : List ℕ) (m : Mem) (t : ℕ) (k : �
   }
 
   -- a group that is about to return to the chain of the noted anchor
-  returns : {n : Note} → F3-LINK ≤ v (TaskPlace t) → v (TaskPlace t) ≤ F3-EXCHANGE → GroupFound → d < DESCRIPTORS
+  joins : {n : Note} → F3-LINK ≤ v (TaskPlace t) → v (TaskPlace t) ≤ F3-EXCHANGE → GroupFound → d < DESCRIPTORS
       → NoteRelated m c d n (anchorOf (v (TaskAnchor t)))
       → v (GroupCount t) + anchorOf (v (TaskAnchor t)) .count ≤ perRegion c → Numbers
-  returns i j F f N l = let a = note-in N in (omega arith, omega arith)
+  joins i j F f N l = let a = note-in N in (omega arith, omega arith)
 
   abbrev u : ℕ
   u = v (TaskUnit t)
 
-  -- the block that is freed, alone or with what follows it
-  freeing : {p : Place} → PUSH-OFFER ≤ v (TaskPlace t) → v (TaskPlace t) ≤ F3-EXCHANGE → classAt p ≡ c
-      → one u u ≤ count u (underWay p)
-      → Freeing v t p
-  freeing i j e h = frees i j e (omega (arith, when-same u 1))
+  -- what the task returns for
+  abbrev own : List ℕ
+  own = ownBlocks (purposeOf u)
 
-  -- the block that is freed, and the descriptor that is owed where the anchor was found FULL
+  -- the block that is freed, if there is one, alone or with what follows it
+  returning : {p : Place} → PUSH-OFFER ≤ v (TaskPlace t) → v (TaskPlace t) ≤ F3-EXCHANGE → v (TaskPlace t) ≢ F1
+      → classAt p ≡ c → ((x : ℕ) → count x own ≤ count x (underWay p)) → Freeing v t p
+  returning {p} i j n e h = returns i j n e (owned u (underWay p) h)
+
+  -- the block that is freed, if there is one, and the descriptor that is owed where the anchor was found FULL
   owing : {p : Place} (z : State) → v (TaskState t) ≡ stateNumber z → count d (owed z d) ≤ holdsDescriptor d p
-      → classAt p ≡ c
-      → one u u ≤ count u (underWay p) → Freeing v t p
-  owing z i o e h = owes (λ f. omega (arith, owed-one z d (sym i ∙ f))) e (omega (arith, when-same u 1))
+      → v (TaskPlace t) ≢ F1 → classAt p ≡ c → ((x : ℕ) → count x own ≤ count x (underWay p)) → Freeing v t p
+  owing {p} z i o n e h = owes (λ f. omega (arith, owed-one z d (sym i ∙ f))) n e (owned u (underWay p) h)
 
   abbrev ListsAt : Type 0
   ListsAt = ListsInRange regions v t
@@ -157,15 +161,18 @@ module _ (regions : ℕ) (v : View) (area : List ℕ) (m : Mem) (t : ℕ) (k : �
   numbers-at-work w (r-pushing Release z e h) =
       let f = region-held w (omega arith) in
       let i = span h in
-      let n : v (TaskState t) ≤ FULL = omega (arith, number-max z, e) in
-      (of-push regions v m t Release h, (omega arith, omega arith), owing z e (omega arith) refl (omega arith))
+      let n : v (TaskState t) ≤ FULL = omega (arith, number-max z, e) in (
+        of-push regions v m t Release h,
+        (omega arith, omega arith),
+        owing z e (omega arith) (λ g. omega arith) refl
+            (λ x. omega arith),
+      )
   numbers-at-work w (r-pushing Offer z e h) =
       let i = span h in
       let f = descriptor-held w (omega arith) in (
         of-push regions v m t Offer h,
         (omega arith, omega arith),
-        freeing (omega arith) (omega arith) refl
-            (omega arith),
+        returning (omega arith) (omega arith) (λ g. omega arith) refl (λ x. omega arith),
       )
   numbers-at-work w (r-a3-read e) =
       let f = descriptor-held w (omega arith) in
@@ -193,39 +200,53 @@ module _ (regions : ℕ) (v : View) (area : List ℕ) (m : Mem) (t : ℕ) (k : �
       let o : r < regions = under-region w (block-at r c i h) b in
       (no-move (omega arith), (omega arith, omega arith), fills (omega arith) (omega arith))
   numbers-at-work w (r-f1 e) =
-      (no-move (omega arith), (omega arith, omega arith), freeing (omega arith) (omega arith) refl (omega arith))
-  numbers-at-work w (r-f2 e z) =
-      (no-move (omega arith), (omega arith, omega arith), freeing (omega arith) (omega arith) refl (omega arith))
-  numbers-at-work w (r-f2-more e G) =
+      (no-move (omega arith), (omega arith, omega arith), puts e refl (omega (arith, when-same u 1)))
+  numbers-at-work w (r-f2 e z) = (
+    no-move (omega arith),
+    (omega arith, omega arith),
+    returning (omega arith) (omega arith) (λ g. omega arith) refl (own-in (purposeOf u) []),
+  )
+  numbers-at-work w (r-f2-more {y = y} {g = g} e G) =
       let o = placeHolds (w .turn) in
-      let F = grouped w G (λ x. omega arith) refl (o .3) in
-      let n : v (GroupCount t) ≤ perRegion c = omega (arith, G .counts, o .2) in
-      (no-move (omega arith), (omega arith, omega arith), freeing (omega arith) (omega arith) refl (omega arith))
-  numbers-at-work w (r-f3-read e G) =
-      let o = placeHolds (w .turn) in
-      let F = grouped w G (λ x. omega arith) refl (o .2) in
-      let n : v (GroupCount t) ≤ perRegion c = omega (arith, G .counts, o .1) in
-      (no-move (omega arith), (omega arith, omega arith), freeing (omega arith) (omega arith) refl (omega arith))
-  numbers-at-work w (r-f3-link {y = y} e G N l) =
-      let n = noteHolds (w .turn) in
-      let F = grouped w G (λ x. omega arith) refl (placeHolds (w .turn) .2) in (
+      let F = grouped w G (group-in (purposeOf u) (y ∷ g)) refl (o .3) in
+      let n : v (GroupCount t) ≤ perRegion c = omega (arith, G .counts, o .2) in (
         no-move (omega arith),
-        returns (omega arith) (omega arith) F (owner (w .turn) y d (n .0) (n .1) .fits) N l,
-        freeing (omega arith) (omega arith) refl (omega arith),
+        (omega arith, omega arith),
+        returning (omega arith) (omega arith) (λ g. omega arith) refl (own-in (purposeOf u) (y ∷ g)),
       )
-  numbers-at-work w (r-f3-exchange {y = y} e G N l i) =
-      let n = noteHolds (w .turn) in
-      let F = grouped w G (λ x. omega arith) refl (placeHolds (w .turn) .2) in (
+  numbers-at-work w (r-f3-read {y = y} {g = g} e G) =
+      let o = placeHolds (w .turn) in
+      let F = grouped w G (group-in (purposeOf u) (y ∷ g)) refl (o .2) in
+      let n : v (GroupCount t) ≤ perRegion c = omega (arith, G .counts, o .1) in (
         no-move (omega arith),
-        returns (omega arith) (omega arith) F (owner (w .turn) y d (n .0) (n .1) .fits) N l,
-        freeing (omega arith) (omega arith) refl (omega arith),
+        (omega arith, omega arith),
+        returning (omega arith) (omega arith) (λ g. omega arith) refl (own-in (purposeOf u) (y ∷ g)),
+      )
+  numbers-at-work w (r-f3-link {y = y} {g = g} e G N l) =
+      let n = noteHolds (w .turn) in
+      let F = grouped w G (group-in (purposeOf u) (y ∷ g)) refl (placeHolds (w .turn) .2) in (
+        no-move (omega arith),
+        joins (omega arith) (omega arith) F (owner (w .turn) y d (n .0) (n .1) .fits) N l,
+        returning (omega arith) (omega arith) (λ h. omega arith) refl (own-in (purposeOf u) (y ∷ g)),
+      )
+  numbers-at-work w (r-f3-exchange {y = y} {g = g} e G N l i) =
+      let n = noteHolds (w .turn) in
+      let F = grouped w G (group-in (purposeOf u) (y ∷ g)) refl (placeHolds (w .turn) .2) in (
+        no-move (omega arith),
+        joins (omega arith) (omega arith) F (owner (w .turn) y d (n .0) (n .1) .fits) N l,
+        returning (omega arith) (omega arith) (λ h. omega arith) refl (own-in (purposeOf u) (y ∷ g)),
       )
   numbers-at-work w (r-f4-clear {w = z} e i) =
       let f = region-held w (omega arith) in
-      let n : v (TaskState t) ≤ FULL = omega (arith, number-max z, i) in
-      (no-move (omega arith), (omega arith, omega arith), owing z i (omega arith) refl (omega arith))
-  numbers-at-work w (r-strip-take e) = (no-move (omega arith), (omega arith, omega arith), of-strip (omega arith))
-  numbers-at-work w (r-strip-give e i) = (no-move (omega arith), (omega arith, omega arith), of-strip (omega arith))
+      let n : v (TaskState t) ≤ FULL = omega (arith, number-max z, i) in (
+        no-move (omega arith),
+        (omega arith, omega arith),
+        owing z i (omega arith) (λ g. omega arith) refl
+            (λ x. omega arith),
+      )
+  numbers-at-work w (r-strip-take e) = (no-move (omega arith), (omega arith, omega arith), past-frees (omega arith))
+  numbers-at-work w (r-strip-give e i) = (no-move (omega arith), (omega arith, omega arith), past-frees (omega arith))
+  numbers-at-work w (r-leave-end e) = (no-move (omega arith), (omega arith, omega arith), past-frees (omega arith))
 
   -- every place
   pub numbers-at : {p : Place} → Turning p → PlaceRelated regions (contentsOf v area) m s p → RangedAt p

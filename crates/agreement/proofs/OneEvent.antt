@@ -10,7 +10,7 @@ use Rattle.plain.specs.State.{idle}
 use Rattle.plain.specs.Moves.{Answer}
 use Rattle.plain.specs.Steps.{Result}
 use Rattle.plain.specs.Steps as Steps
-use Rattle.plain.specs.Calls.{Pool, Call, start, allocate, free, step, Lengths}
+use Rattle.plain.specs.Calls.{Pool, Call, start, allocate, free, leave, step, Lengths}
 use Rattle.plain.specs.Calls as Plain
 use Rattle.plain.specs.Invariant.{Good}
 use Rattle.plain.proofs.StartInvariant.{start-inv}
@@ -22,6 +22,9 @@ use Rattle.stepped.specs.Outcome.{Outcome, Memories}
 use Rattle.stepped.specs.Steps as Stepping₁
 use Rattle.stepped.specs.Calls.{Lent, lengths}
 use Rattle.stepped.specs.Calls as Stepped
+use Rattle.plain.proofs.LeaveInvariant.{start-leaves}
+use Rattle.stepped.specs.Leaving.{beginLeave}
+use Rattle.agreement.proofs.LeavingBegins.{leave-both}
 use Rattle.agreement.specs.Events.{Event, write, write-strip, stepped, whole, Premise, call, CallPremise}
 use Rattle.agreement.specs.Agreement.{HandsKept}
 use Rattle.agreement.proofs.Both.{Both, seen-fitting}
@@ -79,6 +82,14 @@ module _ {s₁ : Memories} {s : Pool} (S : Tied s₁ s) where
       let R = S .related (T .started) in
       when-idle R t _ _ (s .mem .task t .place) (R .slots t l .place) (λ e. free-both (turn T t l e) u)
 
+  begin-leave : (lent : Lengths) (t : ℕ) → Plain.Tested t lent s
+      → Both (s .regions) v (s₁ .area) (s .mem) (Stepped.whenIdle v t (beginLeave v t))
+      (Plain.whenIdle (s .mem .task t .place) (Plain.beginLeave t (s .mem)) (s .mem))
+  begin-leave lent t T =
+      let l : t < TASKS = omega (arith, T .below, S .good .few) in
+      let R = S .related (T .started) in
+      when-idle R t _ _ (s .mem .task t .place) (R .slots t l .place) (λ e. leave-both (turn T t l e))
+
 -- the plain pool's own invariant after a call that passes the tests
 good-after : {lent : Lengths} {t : ℕ} {s : Pool} (y : Result) → Good (Plain.tested t lent s y .0)
     → Plain.Tested t lent s → Good (Plain.became s y .0)
@@ -89,6 +100,7 @@ abbrev pub CallKeeps : Call → Memories → Pool → Memories → Type 0
 CallKeeps (start b) s₁ s z = Unit {0}
 CallKeeps (allocate t size) s₁ s z = HandsKept s₁ s z
 CallKeeps (free t u) s₁ s z = HandsKept s₁ s z
+CallKeeps (leave t) s₁ s z = HandsKept s₁ s z
 CallKeeps (step t) s₁ s z = HandsKept s₁ s z
 
 abbrev pub EventKeeps : Event → Memories → Pool → Memories → Type 0
@@ -99,7 +111,7 @@ EventKeeps (write-strip at b) s₁ s z = Unit {0}
 -- one call: the same answer, in relation again, and each byte in hands as it was
 call-alike : (k : Call) (lent : Lent) (s₁ : Memories) (s : Pool) → Tied s₁ s → CallPremise k (lengths lent) s
     → Alike (CallKeeps k s₁ s) (stepped (call k lent) s₁) (whole (call k lent) s)
-unfolding Plain.plainCall Stepped.allocateOutcome Stepped.freeOutcome Stepped.stepOutcome
+unfolding Plain.plainCall Stepped.allocateOutcome Stepped.freeOutcome Stepped.leaveOutcome Stepped.stepOutcome
 call-alike (start b) lent s₁ s S h =
     start-alike S b lent
     (λ T. record {
@@ -107,6 +119,7 @@ call-alike (start b) lent s₁ s S h =
       small = λ k. omega (arith, T .lengths .0);
       inv = λ k. start-inv (length (lent .area) / REGION-BYTES);
       strips = λ k. start-strips (length (lent .area) / REGION-BYTES);
+      leaves = λ k. start-leaves (length (lent .area) / REGION-BYTES);
     })
 call-alike (allocate t size) lent s₁ s S h =
     let y = Plain.whenIdle (s .mem .task t .place) (Plain.beginAllocate t size (s .mem)) (s .mem) in
@@ -120,6 +133,11 @@ call-alike (free t u) lent s₁ s S h =
     (good-after y (call-good (free t u) (lengths lent) s (S .good)))
     (λ T. at-regions S (λ r. Stepped.whenIdle v₁ t (Stepped.beginFree v₁ r t u)) y T
     (begin-free S (lengths lent) t u T))
+call-alike (leave t) lent s₁ s S h =
+    let y = Plain.whenIdle (s .mem .task t .place) (Plain.beginLeave t (s .mem)) (s .mem) in
+    tested-alike S (lengths lent) t _ y
+    (good-after y (call-good (leave t) (lengths lent) s (S .good)))
+    (begin-leave S (lengths lent) t)
 call-alike (step t) lent s₁ s S h =
     let y = Steps.stepOf t (s .mem) in
     tested-alike S (lengths lent) t _ y

@@ -173,7 +173,8 @@ module _ {regions : ℕ} {v : View} {area : List ℕ} {m : Mem} {t : ℕ} {k : �
             (opening (w .pair) (d + 1) s (taskOf (working (a8 c r 0)) k) (mine (w .pair) .fits) (add-one d))
             (owner-written v S area d word r c (d + 1)
             ∙ ap (λ (z : Anchor). withSlots S (setOwner d z r c (d + 1) (contentsOf v area))) (full-read c))
-            refl refl (rw (eq-eqb t t refl)) (λ j n. rw (ne-eqb t j n)) refl refl (r-working (r-a8 refl));
+            refl refl (rw (eq-eqb t t refl)) (λ j n. rw (ne-eqb t j n)) (mine (w .pair) .fits) refl
+            (r-working (r-a8 refl));
         sound = omega (
           arith,
           w .pair .turn .fits,

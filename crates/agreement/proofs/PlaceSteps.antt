@@ -10,8 +10,9 @@ use Rattle.stepped.specs.Outcome.{refuse}
 use Rattle.stepped.specs.Allocate as Allocate
 use Rattle.stepped.specs.Free as Free
 use Rattle.stepped.specs.Steps.{stepList, stepAt}
-use Rattle.control.specs.Places.{STRIP-TAKE, STRIP-GIVE}
+use Rattle.control.specs.Places.{STRIP-TAKE, STRIP-GIVE, LEAVE-END}
 use Rattle.stepped.specs.StripSteps.{stripTake, stripGive}
+use Rattle.stepped.specs.Leaving.{leaveEnd}
 
 -- there are as many steps as places
 pub steps-places : (v : View) (link : ℕ → ℕ) (regions t c : ℕ) → length (stepList v link regions t c) ≡ PLACES
@@ -34,6 +35,7 @@ pub record PlaceSteps (v : View) (link : ℕ → ℕ) (regions t c : ℕ) : Type
   pub f4-clear : stepAt v link regions t c F4-CLEAR ≡ Free.f4Clear v link regions t c
   pub strip-take : stepAt v link regions t c STRIP-TAKE ≡ stripTake v t c
   pub strip-give : stepAt v link regions t c STRIP-GIVE ≡ stripGive v t
+  pub leave-end : stepAt v link regions t c LEAVE-END ≡ leaveEnd v t
 
 pub place-steps : (v : View) (link : ℕ → ℕ) (regions t c : ℕ) → PlaceSteps v link regions t c
 unfolding stepAt
@@ -53,4 +55,5 @@ place-steps v link regions t c = record {
   f4-clear = refl;
   strip-take = refl;
   strip-give = refl;
+  leave-end = refl;
 }

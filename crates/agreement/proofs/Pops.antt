@@ -153,7 +153,7 @@ module _ {regions : ℕ} {v : View} {area : List ℕ} {m : Mem} {t : ℕ} {k : �
         keeps = (refl, refl);
         rel = wins w K W ws (toPlace b (toDescriptor x (slotOf v t))) p′
             (head-written v (slotOf (assigned ws v)) area ℓ (advanced v t))
-            (rw (eq-eqb t t refl)) (λ j n. rw (ne-eqb t j n)) refl refl pl;
+            (rw (eq-eqb t t refl)) (λ j n. rw (ne-eqb t j n)) (mine (w .pair) .fits) refl pl;
         sound = omega (arith, w .pair .turn .fits, list-of w K .below, advanced-fits W);
         apart = tt;
       }
@@ -182,7 +182,8 @@ module _ {regions : ℕ} {v : View} {area : List ℕ} {m : Mem} {t : ℕ} {k : �
         rel = wins w (kind Region w) W ws (toPlace A7 (toRegion x (slotOf v t)))
             (working (Plain.a7 (v (TaskClass t)) (v (TaskDescriptor t)) x))
             (head-written v (slotOf (assigned ws v)) area SPARE-REGIONS (advanced v t))
-            (rw (eq-eqb t t refl)) (λ j n. rw (ne-eqb t j n)) refl refl (r-working (r-a7 refl));
+            (rw (eq-eqb t t refl)) (λ j n. rw (ne-eqb t j n)) (mine (w .pair) .fits) refl
+            (r-working (r-a7 refl));
         sound = omega (arith, w .pair .turn .fits, advanced-fits W);
         apart = tt;
       }

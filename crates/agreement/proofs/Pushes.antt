@@ -30,8 +30,9 @@ use Rattle.stepped.specs.Lists as Lists
 use Rattle.stepped.specs.Lists.{Items, descriptor-items, region-items, howMany, nextField, handField, pushItems}
 use Rattle.stepped.specs.Steps as Stepped
 use Rattle.stepped.proofs.MovePlaces.{push-steps}
+use Rattle.agreement.proofs.TaskBlocks.{unit-fits}
 use Rattle.agreement.specs.Events.{Recent}
-use Rattle.agreement.specs.Contents.{slotOf, contentsOf}
+use Rattle.agreement.specs.Contents.{slotOf, contentsOf, purposeOf}
 use Rattle.agreement.specs.Relation.{at-read, at-next, at-exchange, nexts, inHand, PushRelated, plainPush}
 use Rattle.agreement.specs.Relation.{ReleaseNoted, r-popping, r-pushing, r-idle, r-working}
 use Rattle.agreement.proofs.BothPass.{both-true}
@@ -49,7 +50,7 @@ use Rattle.agreement.proofs.PushLeads.{advanced, leads-to, leads-five, 
 -- ---- the push that the task t has under way, where z is the state found; its list; and its item
 
 abbrev pub pushOf : View → ℕ → State → Push → Plain.Push
-pushOf v t z P = plainPush P (v (TaskClass t)) (v (TaskUnit t)) (slotOf v t .hand) z
+pushOf v t z P = plainPush P (v (TaskClass t)) (purposeOf (v (TaskUnit t))) (slotOf v t .hand) z
 
 abbrev pub listOf : View → ℕ → Push → ℕ
 listOf v t P = Lists.pushList P (v (TaskClass t))
@@ -78,7 +79,8 @@ next-is v area region-items x = refl
 item-held : (v : View) (t : ℕ) (P : Push) (z : State) (φ : Phase)
     → HoldsItem (pushItems P) (itemAt v t P) (working (pushing (pushOf v t z P) φ))
 item-held v t P z φ =
-    rw (item-is v t (pushItems P)) at (push-holds P (v (TaskClass t)) (v (TaskUnit t)) (slotOf v t .hand) z φ)
+    rw (item-is v t (pushItems P)) at
+    (push-holds P (v (TaskClass t)) (purposeOf (v (TaskUnit t))) (slotOf v t .hand) z φ)
 
 module _ {regions : ℕ} {v : View} {area : List ℕ} {m : Mem} {t : ℕ} {k : ℕ → List ℕ} where
   kind : {p : Place} (P : Push) → At regions v area m t p k → ListOf (pushItems P) (listOf v t P)
@@ -145,10 +147,10 @@ module _ {regions : ℕ} {v : View} {area : List ℕ} {m : Mem} {t : ℕ} {k : �
       let r = v (TaskRegion t) in
       let was = v (TaskState t) in
       pass (isState was) (le-leb was Words.FULL (rw f (number-max z)))
-      (leads-five w (kind Release w) r W (pushed SPARE-REGIONS r) z f)
+      (leads-five w (kind Release w) r W (pushed SPARE-REGIONS r) z (unit-fits (w .pair) (λ x. omega arith)) f)
   push-won Offer z w f W =
       let d = v (TaskDescriptor t) in
-      leads-six w (kind Offer w) d W (pushed (v (TaskClass t)) d)
+      leads-six w (kind Offer w) d W (pushed (v (TaskClass t)) d) (unit-fits (w .pair) (λ x. omega arith))
 
   pub push-exchange : (P : Push) (z : State) {n : ℕ}
       → At regions v area m t (working (pushing (pushOf v t z P) (exchange n))) k

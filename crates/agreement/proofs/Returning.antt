@@ -26,7 +26,9 @@ use Rattle.control.specs.Layout.{Anchor, GroupCount, GroupLast, Map, TaskAnchor
 use Rattle.control.specs.Layout.{TaskRegion, TaskUnit}
 use Rattle.control.specs.Places.{F3-LINK, F3-EXCHANGE}
 use Rattle.stepped.specs.Free as Free
-use Rattle.agreement.specs.Contents.{slotOf, contentsOf}
+use Rattle.agreement.proofs.TurnInBoth.{mine}
+use Rattle.agreement.proofs.Purposes.{group-in}
+use Rattle.agreement.specs.Contents.{slotOf, contentsOf, purposeOf}
 use Rattle.agreement.specs.Relation.{GroupRelated, NoteRelated, r-f3-exchange, r-f3-link, r-working}
 use Rattle.agreement.proofs.BothPass.{both-true}
 use Rattle.agreement.proofs.Slots.{toPlace, toAnchor, toDescriptor}
@@ -42,18 +44,19 @@ use Rattle.agreement.proofs.GroupBlocks.{region-below}
 module _ {regions : ℕ} {v : View} {area : List ℕ} {m : Mem} {t : ℕ} {k : ℕ → List ℕ} {y : ℕ} {g : List ℕ} where
   -- ---- the read
 
-  module _ (w : At regions v area m t (working (f3-read (v (TaskClass t)) (v (TaskUnit t)) y g)) k) where
+  module _ (w : At regions v area m t (working (f3-read (v (TaskClass t)) (purposeOf (v (TaskUnit t))) y g)) k) where
     -- the group and the chain are no more than the region's blocks
     group-fits : (d : ℕ) → m .map (regionOf y) ≡ suc d
         → length (y ∷ (g ++ m .descriptor d .chain)) ≤ perRegion (v (TaskClass t))
     group-fits d e =
-        Joined.group-fits (w .pair .turn)
+        Joined.group-fits {z = purposeOf (v (TaskUnit t))} {g = g} (w .pair .turn)
         (record { blocks = refl; class = refl; together = placeHolds (w .pair .turn) .2; named = e })
 
     -- the anchor of the descriptor d
     read-of : (d : ℕ) → m .map (regionOf y) ≡ suc d → GroupRelated (contentsOf v area) (slotOf v t) y g
         → Both regions v area m (Free.f3ReadOf v (link area) regions t (v (TaskClass t)) d (v (GroupCount t))) (
-          Steps.atPlace t k (working (f3-link (v (TaskClass t)) (v (TaskUnit t)) y g d (noteOf (m .descriptor d)))) m,
+          Steps.atPlace t k
+              (working (f3-link (v (TaskClass t)) (purposeOf (v (TaskUnit t))) y g d (noteOf (m .descriptor d)))) m,
           going
               nothing,
         )
@@ -61,7 +64,8 @@ module _ {regions : ℕ} {v : View} {area : List ℕ} {m : Mem} {t : ℕ} {k : �
     read-of d e G =
         let c = v (TaskClass t) in
         let n = v (GroupCount t) in
-        let F = owner (w .pair .turn) y d (omega (arith, when-same y 1)) e in
+        let F = owner (w .pair .turn) y d
+        (omega (arith, when-same y 1, group-in (purposeOf (v (TaskUnit t))) (y ∷ g) y)) e in
         let D = w .pair .rel .core .descriptors .each d (F .fits) in
         let C = open-holds (m .descriptor d .state) (F .counts) (D .chain) in
         let O = open-holds (m .descriptor d .state) (F .counts) (w .pair .turn .inv .chains d (F .fits)) in
@@ -73,25 +77,26 @@ module _ {regions : ℕ} {v : View} {area : List ℕ} {m : Mem} {t : ℕ} {k : �
           keeps = (refl, refl);
           rel = goes w (TaskPlace t := F3-LINK ∷ TaskDescriptor t := d ∷ TaskAnchor t := v (Anchor d) ∷ [])
               (toPlace F3-LINK (toDescriptor d (toAnchor (anchorOf (v (Anchor d))) (slotOf v t))))
-              (working (f3-link c (v (TaskUnit t)) y g d (noteOf (m .descriptor d))))
+              (working (f3-link c (purposeOf (v (TaskUnit t))) y g d (noteOf (m .descriptor d))))
               refl (rw (eq-eqb t t refl)) (λ j n. rw (ne-eqb t j n)) refl refl
               (r-working (r-f3-link refl (same-group refl refl refl refl G) (re-note refl refl N) l));
           sound = omega (arith, w .pair .turn .fits, F .fits, w .fitting (Anchor d) (omega (arith, F .fits)));
           apart = tt;
         })
 
-  pub f3-read-both : At regions v area m t (working (f3-read (v (TaskClass t)) (v (TaskUnit t)) y g)) k
+  pub f3-read-both : At regions v area m t (working (f3-read (v (TaskClass t)) (purposeOf (v (TaskUnit t))) y g)) k
       → GroupRelated (contentsOf v area) (slotOf v t) y g
       → Both regions v area m (Free.f3Read v (link area) regions t (v (TaskClass t)))
-      (Steps.stepAt t k (f3-read (v (TaskClass t)) (v (TaskUnit t)) y g) m)
+      (Steps.stepAt t k (f3-read (v (TaskClass t)) (purposeOf (v (TaskUnit t))) y g) m)
   unfolding Free.f3Read Free.f3ReadBy
   f3-read-both w G =
       let c = v (TaskClass t) in
       let n = v (GroupCount t) in
       let r = v (TaskRegion t) in
       let o = placeHolds (w .pair .turn) in
-      let h = home-of (w .pair .turn) y (omega (arith, when-same y 1)) in
-      let l : r < regions = region-below (w .pair) G (λ z. omega arith) refl (o .2) in
+      let h = home-of (w .pair .turn) y
+      (omega (arith, when-same y 1, group-in (purposeOf (v (TaskUnit t))) (y ∷ g) y)) in
+      let l : r < regions = region-below (w .pair) G (group-in (purposeOf (v (TaskUnit t))) (y ∷ g)) refl (o .2) in
       let e : v (Map r) ≡ suc (h .d) = w .pair .rel .core .entries .maps r l ∙ ap (m .map) (G .region) ∙ h .named in
       let i : v (Map r) - 1 ≡ h .d = omega arith in
       pass _ (both-true (lt-ltb r regions l)
@@ -102,12 +107,13 @@ module _ {regions : ℕ} {v : View} {area : List ℕ} {m : Mem} {t : ℕ} {k : �
   -- ---- the last link
 
   pub f3-link-both : {n : Note}
-      → At regions v area m t (working (f3-link (v (TaskClass t)) (v (TaskUnit t)) y g (v (TaskDescriptor t)) n)) k
+      → At regions v area m t
+      (working (f3-link (v (TaskClass t)) (purposeOf (v (TaskUnit t))) y g (v (TaskDescriptor t)) n)) k
       → GroupRelated (contentsOf v area) (slotOf v t) y g
       → NoteRelated m (v (TaskClass t)) (v (TaskDescriptor t)) n (anchorOf (v (TaskAnchor t)))
       → v (GroupCount t) + anchorOf (v (TaskAnchor t)) .count ≤ perRegion (v (TaskClass t))
       → Both regions v area m (Free.f3Link v (link area) regions t (v (TaskClass t)))
-      (Steps.stepAt t k (f3-link (v (TaskClass t)) (v (TaskUnit t)) y g (v (TaskDescriptor t)) n) m)
+      (Steps.stepAt t k (f3-link (v (TaskClass t)) (purposeOf (v (TaskUnit t))) y g (v (TaskDescriptor t)) n) m)
   unfolding Free.f3Link
   f3-link-both {n} w G N b =
       let c = v (TaskClass t) in
@@ -115,17 +121,19 @@ module _ {regions : ℕ} {v : View} {area : List ℕ} {m : Mem} {t : ℕ} {k : �
       let x = anchorOf a .avail in
       let l = G .last in
       let o = placeHolds (w .pair .turn) in
-      let L = last-at (w .pair) G (λ z. omega arith) refl (o .2) in
-      let lu = last-under (w .pair) G (λ z. omega arith) refl (o .2) in
-      let fo = front-out (w .pair) G (λ z. omega arith) refl (o .2) in
-      let fs = front-sub (w .pair) G (λ z. omega arith) refl (o .2) in
+      let L = last-at (w .pair) G (group-in (purposeOf (v (TaskUnit t))) (y ∷ g)) refl (o .2) in
+      let lu = last-under (w .pair) G (group-in (purposeOf (v (TaskUnit t))) (y ∷ g)) refl (o .2) in
+      let fo = front-out (w .pair) G (group-in (purposeOf (v (TaskUnit t))) (y ∷ g)) refl (o .2) in
+      let fs = front-sub (w .pair) G (group-in (purposeOf (v (TaskUnit t))) (y ∷ g)) refl (o .2) in
       let z : 0 + anchorOf a .count ≤ perRegion c = omega arith in
       let wr = wrote (w .pair) l x lu (omega (arith, note-max N)) in
       let s = toPlace F3-EXCHANGE (slotOf v t) in
-      let p = working (f3-exchange c (v (TaskUnit t)) y g (v (TaskDescriptor t)) n) in
+      let p = working (f3-exchange c (purposeOf (v (TaskUnit t))) y g (v (TaskDescriptor t)) n) in
       pass _ (both-true (both-true (both-true
-      (lt-ltb (v (TaskRegion t)) regions (region-below (w .pair) G (λ z. omega arith) refl (o .2)))
-      (lt-ltb (v (GroupLast t)) (perRegion c) (last-below (w .pair) G (λ z. omega arith) refl (o .2))))
+      (lt-ltb (v (TaskRegion t)) regions
+      (region-below (w .pair) G (group-in (purposeOf (v (TaskUnit t))) (y ∷ g)) refl (o .2)))
+      (lt-ltb (v (GroupLast t)) (perRegion c)
+      (last-below (w .pair) G (group-in (purposeOf (v (TaskUnit t))) (y ∷ g)) refl (o .2))))
       (note-anchor a 0 N z)) (note-first a 0 N z))
       (record {
         says = refl;
@@ -133,7 +141,8 @@ module _ {regions : ℕ} {v : View} {area : List ℕ} {m : Mem} {t : ℕ} {k : �
         rel = rw (L .at) (link-written w (assigned (TaskPlace t := F3-EXCHANGE ∷ []) v) s (taskOf p k) l x
             (record { shared = refl; own = rw (eq-eqb t t refl); others = λ j d. rw (ne-eqb t j d) })
             (mine-under (w .pair) l lu .0)
-            (re-link (w .pair) _ _ s p (λ e i. cache-agrees (w .pair) l x lu e i) refl refl
+            (re-link (w .pair) _ _ s p (λ e i. cache-agrees (w .pair) l x lu e i) (mine (w .pair) .fits)
+            refl
             (r-working (r-f3-exchange refl (record {
               front = G .front;
               last = l;

@@ -2,7 +2,8 @@
 use mathlib.Core.Path.{_≡_, sym, subst}
 use mathlib.Core.Logic.{_≢_}
 use mathlib.Core.List.{List}
-use Prim.Native.Nat.{ℕ}
+use Prim.Native.Nat.{ℕ, _<_}
+use Rattle.limits.specs.Limits.{CLASSES}
 use Rattle.fields.specs.Columns.{View, Write, assigned}
 use Rattle.plain.specs.State.{Place, Mem}
 use Rattle.plain.specs.Steps.{atPlace}
@@ -24,7 +25,7 @@ module _ {regions : ℕ} {v : View} {area : List ℕ} {m : Mem} {t : ℕ} {p : P
       → Related regions (setSlot t s b) (atPlace t k p′ m₁))
       → contentsOf (assigned ws v) area ≡ withSlots (slotOf (assigned ws v)) b → b .slot ≡ slotOf v → b .area ≡ area
       → slotOf (assigned ws v) t ≡ s → ((j : ℕ) → t ≢ j → slotOf (assigned ws v) j ≡ slotOf v j)
-      → s .class ≡ slotOf v t .class → s .caches ≡ slotOf v t .caches
+      → s .class < CLASSES → s .caches ≡ slotOf v t .caches
       → PlaceRelated regions (setSlot t s b) (atPlace t k p′ m₁) s p′
       → Related regions (contentsOf (assigned ws v) area) (atPlace t k p′ m₁)
   shares ws s p′ b m₁ change e f i own others g h pl =

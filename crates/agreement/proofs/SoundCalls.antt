@@ -20,7 +20,8 @@ use Rattle.classes.specs.Geometry.{regionOf, isFirst}
 use Rattle.classes.proofs.Sizes.{is-class}
 use Rattle.pieces.proofs.StripSizes.{rounds}
 use Rattle.plain.specs.Calls.{Lengths}
-use Rattle.control.specs.Layout.{layout, seen, changed, Anchor, Marks, Map, Regions, DescriptorRegion}
+use Rattle.control.specs.Layout.{layout, seen, changed, Anchor, Marks, Map, Regions, DescriptorRegion, TaskUnit}
+use Rattle.control.specs.Layout.{LEAVING}
 use Rattle.control.specs.Layout.{DescriptorClass, TaskPlace}
 use Rattle.control.specs.Places.{IDLE, PLACES}
 use Rattle.control.proofs.Fields.{seen-changed}
@@ -29,9 +30,11 @@ use Rattle.stepped.specs.Ranges.{isAnchor}
 use Rattle.stepped.specs.Steps as Steps
 use Rattle.stepped.specs.Calls as Calls
 use Rattle.stepped.specs.Calls.{Tested}
+use Rattle.stepped.specs.Leaving.{beginLeave}
+use Rattle.plain.specs.Moves.{nothing}
 use Rattle.agreement.specs.Ends.{placeAfter}
 use Rattle.agreement.proofs.Both.{Fitting, seen-fitting}
-use Rattle.agreement.proofs.SoundMoves.{Own, Owns, Fit, none, test}
+use Rattle.agreement.proofs.SoundMoves.{Own, Owns, Fit, none, test, leave-from}
 use Rattle.agreement.proofs.SoundStrips.{begin-strip}
 use Rattle.agreement.proofs.SoundSteps.{step-fit}
 use Rattle.agreement.proofs.Ways.{branch, tests}
@@ -101,6 +104,12 @@ module _ {lent : Lengths} {v : View} (fits : Fitting v) {t : ℕ} (T : Tested le
       idle-fit (Calls.beginFree v (v Regions) t u)
       (branch (Fit t) (ltb u UNITS) (λ e. small-fit u) (λ e. begin-strip v fits task u))
 
+  pub leave-fit : Fit t (Calls.whenIdle v t (beginLeave v t))
+  leave-fit =
+      idle-fit (beginLeave v t)
+      (leave-from v task 0 (omega arith) nothing (TaskUnit t := LEAVING ∷ [])
+      (record { sound = omega (arith, task); own = omega arith }))
+
 -- ---- the bytes
 
 -- A step on bytes, with any bytes: the task's place is afterwards the one that its outcome leads to.
@@ -163,3 +172,7 @@ module _ {t u : ℕ} (other : u ≢ t) where
     pub free-others : (unit : ℕ) → Stays (Calls.freeOutcome lent (seen b) t unit)
     unfolding Calls.freeOutcome
     free-others unit = tested-stays _ (λ T. free-fit (seen-fitting b bytes) T unit)
+
+    pub leave-others : Stays (Calls.leaveOutcome lent (seen b) t)
+    unfolding Calls.leaveOutcome
+    leave-others = tested-stays _ (λ T. leave-fit (seen-fitting b bytes) T)

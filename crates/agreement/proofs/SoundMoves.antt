@@ -1,6 +1,6 @@
 -- Every write of a list move is to a field of the layout, its value fits there, and it is to no other task's place,
 -- whatever the two memories hold.
-use Prim.Native.Nat.{ℕ, _+_, _-_, _≤_, _<_}
+use Prim.Native.Nat.{ℕ, zero, suc, _+_, _-_, _≤_, _<_}
 use mathlib.Core.Path.{_≡_, refl}
 use mathlib.Core.Bool.{Bool, true, cond, _&&_}
 use mathlib.Core.List.{List, [], _∷_}
@@ -15,12 +15,14 @@ use Rattle.words.proofs.Heads.{advancedWord-below}
 use Rattle.classes.specs.Classes.{perRegion}
 use Rattle.plain.specs.Moves.{Decided}
 use Rattle.control.specs.Layout.{layout, Head, TaskHead, TaskPlace, TaskNext, TaskState, CacheCount}
+use Rattle.control.specs.Layout.{TaskUnit, LEAVING}
 use Rattle.control.specs.declared.moves.Pop.{Pop}
 use Rattle.control.specs.declared.moves.Pop.the-variants.{Partial, Spare, Region}
 use Rattle.control.specs.declared.moves.Push.{Push}
 use Rattle.control.specs.declared.moves.Push.the-variants.{Retire, Back, Release, Offer}
-use Rattle.stepped.specs.Outcome.{Outcome, refuse, bad}
+use Rattle.stepped.specs.Outcome.{Outcome, refuse, bad, accept}
 use Rattle.stepped.specs.Ranges.{oneTo}
+use Rattle.stepped.specs.Leaving.{firstCached, nextCached, countFits, leaveFrom, leaveEnd}
 use Rattle.stepped.specs.Lists as Lists
 use Rattle.stepped.specs.Lists.{Items, descriptor-items, region-items, howMany, nextField, handField, popList, popItems}
 use Rattle.stepped.specs.Lists.{pushList, pushItems}
@@ -58,6 +60,37 @@ none = record { sound = tt; own = tt }
 pub test : {t : ℕ} (b : Bool) {x : Outcome} → (b ≡ true → Fit t x) → Fit t (cond b x bad)
 test {t} b h = branch (Fit t) b h (λ e. none)
 
+-- the search for the next cache finds one of the classes, or none
+first-max : (v : View) (t n c : ℕ) → firstCached v t c n ≤ c + n
+unfolding firstCached
+first-max v t zero c = omega arith
+first-max v t (suc n) c =
+    branch (λ (j : ℕ). j ≤ c + suc n) (eqb (v (CacheCount t c)) 0) (λ e. omega (arith, first-max v t n (c + 1)))
+    (λ e. omega arith)
+
+next-max : (v : View) (t c : ℕ) → c ≤ CLASSES → nextCached v t c ≤ CLASSES
+next-max v t c l = omega (arith, first-max v t (CLASSES - c) c)
+
+-- the last step of leaving
+pub leave-end : (v : View) {t : ℕ} → t < TASKS → Fit t (leaveEnd v t)
+leave-end v task = record { sound = omega (arith, task); own = omega arith }
+
+-- where leaving goes on
+pub leave-from : (v : View) {t : ℕ} → t < TASKS → (j : ℕ) → j ≤ CLASSES → (e : Decided) (ws : List Write)
+    → Written t ws → Fit t (leaveFrom v t j e ws)
+unfolding leaveFrom
+leave-from v {t} task j l e ws s =
+    let i = nextCached v t j in
+    test (countFits v t i) (λ h. branch (λ x. Fit t (accept e x [])) (eqb i CLASSES)
+    (λ b. record { sound = (omega (arith, task), s .sound); own = (refl, s .own) })
+    (λ b. record {
+      sound = (
+        omega (arith, task),
+        (omega (arith, task, next-max v t j l), (omega (arith, task), s .sound)),
+      );
+      own = (refl, (tt, (tt, s .own)));
+    }))
+
 module _ (v : View) (fits : Fitting v) {regions t c : ℕ} (few : regions ≤ REGIONS) (task : t < TASKS)
     (class : c < CLASSES) where
   -- a move's list is one of the lists, and no list has more items than there are descriptors
@@ -70,14 +103,18 @@ module _ (v : View) (fits : Fitting v) {regions t c : ℕ} (few : regions ≤ RE
   most : (items : Items) → howMany items regions ≤ DESCRIPTORS
   most items = most-items items few
 
-  -- ---- the end of a free's return
+  -- ---- the end of a return
 
   pub f6 : (e : Decided) (ws : List Write) → Written t ws → Fit t (Lists.f6 v regions t c e ws)
-  unfolding Lists.f6
+  unfolding Lists.f6 Lists.whenReturned
   f6 e ws s =
       let k = v (CacheCount t c) in
+      let u = v (TaskUnit t) in
       test (leb k (perRegion c)) (λ h.
-      branch (Fit t) (eqb k 0) (λ i. record { sound = (omega (arith, task), s .sound); own = (refl, s .own) })
+      branch (Fit t) (eqb k 0)
+      (λ i. test (leb u LEAVING)
+      (λ z. branch (Fit t) (eqb u LEAVING) (λ y. leave-from v task (c + 1) (omega arith) e ws s)
+      (λ y. record { sound = (omega (arith, task), s .sound); own = (refl, s .own) })))
       (λ i. record { sound = (omega (arith, task), (omega (arith, task), s .sound)); own = (refl, (tt, s .own)) }))
 
   pub f5 : (was : ℕ) (e : Decided) (ws : List Write) → Written t ws → Fit t (Lists.f5 v regions t c was e ws)

@@ -92,6 +92,7 @@ module _ (v : View) (fits : Fitting v) (link : ℕ → ℕ) {regions t c : ℕ} 
       then Free.f4-clear v fits link few task class
       then Strips.strip-take v fits task c
       then Strips.strip-give v fits task
+      then Moves.leave-end v task
       then end
 
   found : (os : List Outcome) → EachSound os → (place : ℕ) → Fit t (getD os place bad)

@@ -24,6 +24,7 @@ use Rattle.stepped.specs.Start.{fill, nextUp, startWrites, startImage}
 use Rattle.stepped.specs.Calls.{Lent, lengths, startEffect}
 use Rattle.stepped.specs.Calls as Stepped
 use Rattle.stepped.proofs.CallTests as Steps₁
+use Rattle.plain.proofs.LeaveInvariant.{start-leaves}
 use Rattle.agreement.specs.Events.{ran, stepped}
 use Rattle.agreement.specs.Reached.{starting}
 use Rattle.fields.proofs.Layouts.{assigned-same}
@@ -139,4 +140,5 @@ accepted-start s₁ s b lent T =
       small = λ k. omega (arith, T .lengths .0);
       inv = λ k. start-inv regions;
       strips = λ k. start-strips regions;
+      leaves = λ k. start-leaves regions;
     })))

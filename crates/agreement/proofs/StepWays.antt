@@ -25,6 +25,7 @@ use Rattle.stepped.specs.Ranges.{oneTo, isBlock, isTop, isAnchor, hasChain, has
 use Rattle.stepped.specs.Lists.{popPlace, pushPlace}
 use Rattle.stepped.specs.Allocate as Allocate
 use Rattle.stepped.specs.Free as Free
+use Rattle.stepped.specs.Leaving.{leaveEnd}
 use Rattle.stepped.specs.Steps as Steps
 use Rattle.stepped.proofs.Conjunction.{left-true}
 use Rattle.agreement.proofs.Ways.{branch, PlaceEnding, wrong, either, test, to, stay, finish}
@@ -37,7 +38,7 @@ use Rattle.strip_tree.specs.declared.find.Found.the-variants.{At, Nothing}
 use Rattle.strip_tree.specs.TreeMoves.{find, canBegin}
 use Rattle.strip_tree.specs.SlotStates.{FREE-BEGUN, LAST-BYTE, orderIn}
 use Rattle.control.specs.Layout.{SlotByte}
-use Rattle.control.specs.Places.{STRIP-TAKE, STRIP-GIVE}
+use Rattle.control.specs.Places.{STRIP-TAKE, STRIP-GIVE, LEAVE-END}
 use Rattle.stepped.specs.StripSteps as Strips
 use Rattle.stepped.specs.StripSteps.{treeOf}
 use Rattle.strip_tree.proofs.NoFreeNodes.{none-free}
@@ -194,7 +195,10 @@ module _ (v : View) (link : ℕ → ℕ) (t : ℕ) (fits : v (TaskClass t) < CLA
       let s = slotOfUnit (v (TaskUnit t)) in
       let x = v (SlotByte s) in
       test (isStripUnit (v (TaskUnit t)))
-      (test (leb FREE-BEGUN x && leb x LAST-BYTE && canBegin s (orderIn x)) (finish (inr here) (λ u. refl)))
+      (test (leb FREE-BEGUN x && leb x LAST-BYTE && canBegin s (orderIn x)) (finish (inr (inl here)) (λ u. refl)))
+
+  leave-end : v (TaskPlace t) ≡ LEAVE-END → End (leaveEnd v t)
+  leave-end here = finish (inr (inr here)) (λ u. refl)
 
   f4-clear : End (Free.f4Clear v link regions t c)
   unfolding Free.f4Clear
@@ -251,6 +255,7 @@ module _ (v : View) (link : ℕ → ℕ) (t : ℕ) (fits : v (TaskClass t) < CLA
       then (λ e. f4-clear)
       then (λ e. strip-take e)
       then (λ e. strip-give e)
+      then leave-end
       then end
 
   -- the step at a place ends so, and a place past the list is outside its range

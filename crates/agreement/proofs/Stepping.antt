@@ -8,15 +8,19 @@ use lib.Dec.{ltb}
 use Rattle.limits.specs.Limits.{REGIONS, TASKS, CLASSES}
 use Rattle.fields.specs.Columns.{View}
 use Rattle.links.specs.Link.{link}
-use Rattle.plain.specs.State.{Place, Mem, Work, working}
+use Rattle.plain.specs.State.{Place, Mem, Work, working, idle}
 use Rattle.plain.specs.Steps as Steps
 use Rattle.plain.specs.Invariant.{Invariant, StripsHold}
 use Rattle.plain.specs.Noted.{notedAt, noted}
 use Rattle.control.specs.Layout.{TaskPlace, TaskClass}
 use Rattle.control.specs.Places.{IDLE}
 use Rattle.stepped.specs.Steps as Stepped
+use Rattle.plain.specs.Moves.{nothing}
+use Rattle.control.specs.declared.answer.Answer.the-variants.{Freed}
+use Rattle.agreement.proofs.MoveSteps.{moves}
 use Rattle.agreement.specs.Contents.{slotOf, contentsOf}
 use Rattle.agreement.specs.Relation.{WorkRelated, r-a1, r-popping, r-pushing, r-a3-read, r-a3-exchange, r-a4}
+use Rattle.agreement.specs.Relation.{r-leave-end}
 use Rattle.agreement.specs.Relation.{r-a7, r-a8, r-f1, r-f2, r-f2-more, r-f3-read, r-f3-link, r-f3-exchange}
 use Rattle.agreement.specs.Relation.{r-f4-clear, r-strip-take, r-strip-give, PlaceRelated, r-idle, r-working}
 use Rattle.agreement.specs.Relation.{Related}
@@ -62,6 +66,7 @@ module _ {regions : ℕ} {v : View} {area : List ℕ} {m : Mem} {t : ℕ} {k : �
   work-both w H (r-f4-clear e i) n = rw e (f4-clear-both w i)
   work-both w H (r-strip-take e) n = rw e (strip-take-both w)
   work-both w H (r-strip-give e i) n = rw e (strip-give-both w H i)
+  work-both w H (r-leave-end e) n = rw e (moves w Freed nothing IDLE idle (omega arith) (r-idle refl))
 
   -- one step: test 7, the class, and the step at the place
   place-both : {p : Place} → At regions v area m t p k → StripsHold m → v (TaskClass t) < CLASSES

@@ -83,7 +83,7 @@ module _ {regions : ℕ} {v : View} {area : List ℕ} {m : Mem} {t : ℕ} {p : P
         own = rw (eq-eqb t t refl);
         others = λ j n. rw (ne-eqb t j n);
       })
-      F (re-slot (w .pair) _ _ z idle refl refl refl (r-idle refl))
+      F (re-slot (w .pair) _ _ z idle refl (mine (w .pair) .fits) refl (r-idle refl))
 
   -- ---- the step that takes a strip
 
@@ -249,7 +249,8 @@ module _ {regions : ℕ} {v : View} {area : List ℕ} {m : Mem} {t : ℕ} {k : �
               own = rw (eq-eqb t t refl);
               others = λ i n. rw (ne-eqb t i n);
             })
-            F (re-slot (w .pair) _ _ z (working (strip-give s)) refl refl refl (r-working (r-strip-give refl e))));
+            F (re-slot (w .pair) _ _ z (working (strip-give s)) refl
+            (mine (w .pair) .fits) refl (r-working (r-strip-give refl e))));
         sound = omega (arith, w .pair .turn .fits, l, e, A .is, A .order);
         apart = tt;
       })))

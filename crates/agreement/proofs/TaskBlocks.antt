@@ -1,5 +1,6 @@
 -- Blocks in a task's hand: where they lie, and what a written link leaves of the task's rows.
 use mathlib.Core.Path.{_≡_, sym, ap, subst}
+use mathlib.Core.Logic.{⊎-elim}
 use mathlib.Core.Bool.{true}
 use mathlib.Core.List.{List, [], _∷_}
 use Prim.Native.Nat.{ℕ, suc, _≤_, _<_}
@@ -19,16 +20,18 @@ use Rattle.classes.specs.Geometry.{BlockOf, regionOf}
 use Rattle.classes.proofs.BlockUnits.{block-first, region-is}
 use Rattle.links.specs.Link.{link, withLink}
 use Rattle.plain.specs.State.{Mem, Place}
-use Rattle.plain.specs.Held.{classAt, underWay}
+use Rattle.plain.specs.Held.{classAt, underWay, ownBlocks}
 use Rattle.plain.specs.HolderWeights.{blockClassWeight, blockWeight, insideWeight, rowWeight}
 use Rattle.plain.proofs.Homes.{Home, home}
 use Rattle.plain.proofs.Owners.{home-of}
 use Rattle.plain.proofs.PlaceAlone.{taskOf}
 use Rattle.stepped.specs.Ranges
 use Rattle.stepped.specs.Ranges.{isTop}
-use Rattle.agreement.specs.Contents.{TaskCaches, Contents, Slot}
+use Rattle.agreement.specs.Contents.{TaskCaches, Contents, Slot, purposeOf}
 use Rattle.agreement.specs.Relation.{CachesRelated, PlaceRelated, SlotRelated}
+use Rattle.control.specs.Layout.{LEAVING}
 use Rattle.agreement.proofs.BothPass.{both-true}
+use Rattle.agreement.proofs.Purposes.{owned}
 use Rattle.agreement.proofs.Slots.{toCache}
 use Rattle.agreement.proofs.TurnInBoth
 use Rattle.agreement.proofs.TurnInBoth.{Pair, agrees, mine, own-block, region-below}
@@ -110,10 +113,10 @@ module _ {regions : ℕ} {a : Contents} {m : Mem} {t : ℕ} {p : Place} {k : ℕ
 
   -- the caches as they were, after a link under way is written
   pub re-link : (a′ : Contents) (m′ : Mem) (s : Slot) (p′ : Place)
-      → ((e : ℕ) → e < CLASSES → LinksAgree (link (a .area)) (link (a′ .area)) (k e)) → s .class ≡ a .slot t .class
+      → ((e : ℕ) → e < CLASSES → LinksAgree (link (a .area)) (link (a′ .area)) (k e)) → s .class < CLASSES
       → s .caches ≡ a .slot t .caches → PlaceRelated regions a′ m′ s p′ → SlotRelated regions a′ m′ s (taskOf p′ k)
   re-link a′ m′ s p′ g f i pl = record {
-    fits = rw f (mine w .fits);
+    fits = f;
     place = pl;
     caches = subst (λ (z : TaskCaches). CachesRelated (link (a′ .area)) z k) (sym i) (record {
       tops = λ e i. linked-frame (g e i) (mine w .caches .tops e i);
@@ -121,8 +124,8 @@ module _ {regions : ℕ} {a : Contents} {m : Mem} {t : ℕ} {p : Place} {k : ℕ
     });
   }
 
-  -- the caches as they were
-  pub re-slot : (a′ : Contents) (m′ : Mem) (s : Slot) (p′ : Place) → a′ .area ≡ a .area → s .class ≡ a .slot t .class
+  -- the caches as they were, and any of the classes
+  pub re-slot : (a′ : Contents) (m′ : Mem) (s : Slot) (p′ : Place) → a′ .area ≡ a .area → s .class < CLASSES
       → s .caches ≡ a .slot t .caches → PlaceRelated regions a′ m′ s p′ → SlotRelated regions a′ m′ s (taskOf p′ k)
   re-slot a′ m′ s p′ e f g pl = re-link a′ m′ s p′ (λ c l u i. ap (λ (z : List ℕ). link z u) e) f g pl
 
@@ -138,3 +141,9 @@ module _ {regions : ℕ} {a : Contents} {m : Mem} {t : ℕ} {p : Place} {k : ℕ
   pub mine-apart : (u : ℕ) → 1 ≤ blockWeight u t (taskOf p k)
       → (m .hands u ≡ 0) × (1 ≤ total DESCRIPTORS (insideWeight u) (m .descriptor))
   mine-apart u o = (own-block w u o .2, own-block w u o .0)
+
+  -- the unit of a task that returns a cache is in its range: that of its own block, or none
+  pub unit-fits : {u : ℕ} → ((x : ℕ) → count x (ownBlocks (purposeOf u)) ≤ count x (underWay p)) → u ≤ LEAVING
+  unit-fits {u} h =
+      ⊎-elim (λ e. omega arith) (λ o. omega (arith, w .small, home-below (home-of (w .turn) u o)))
+      (owned u (underWay p) h)

@@ -19,15 +19,17 @@ use Rattle.stepped.specs.Calls.{lengths}
 use Rattle.plain.proofs.Turn.{taskHolds}
 use Rattle.control.specs.Layout.{CacheTop, CacheCount, TaskUnit, TaskPlace, TaskClass, TaskDescriptor}
 use Rattle.control.specs.Layout.{TaskState}
-use Rattle.control.specs.Places.{PUSH-RELEASE, PUSH-OFFER, A3-READ, F1, F4-CLEAR}
+use Rattle.control.specs.Places.{PUSH-RELEASE, PUSH-OFFER, A3-READ, F1, F2, F4-CLEAR}
 use Rattle.stepped.specs.Ranges.{isBlock, isTop}
+use mathlib.Core.Logic.{⊎-map}
+use Rattle.agreement.proofs.Purposes.{Owned}
 use Rattle.agreement.specs.Contents.{slotOf, contentsOf}
 use Rattle.agreement.specs.Relation.{PlaceRelated}
-use Rattle.agreement.specs.InRange.{TaskInRange}
+use Rattle.agreement.specs.InRange.{TaskInRange, ReturnUnit}
 use Rattle.agreement.proofs.ListTops.{descriptor-in-hand}
 use Rattle.agreement.proofs.TurnInBoth.{Pair, mine}
 use Rattle.agreement.proofs.TaskBlocks.{under-unit, below-tested, top-max}
-use Rattle.agreement.proofs.FreeUnderWay.{Freeing, allocates, fills, frees, owes}
+use Rattle.agreement.proofs.FreeUnderWay.{Freeing, allocates, fills, past-frees, puts, returns, owes}
 use Rattle.agreement.proofs.NumbersInRange.{numbers-at}
 use mathlib.Core.Path.{ap, subst⁻¹}
 use Prim.Native.Nat.{suc}
@@ -49,7 +51,6 @@ use Rattle.agreement.specs.Relation.{r-idle, r-working}
 use Rattle.agreement.proofs.WorkKinds as Kinds
 use Rattle.agreement.proofs.WorkKinds.{Works, gives-back, takes, works}
 use Rattle.agreement.proofs.StripsBoth.{unit-is, slot-is}
-use Rattle.agreement.proofs.FreeUnderWay.{of-strip}
 
 -- ---- a task
 
@@ -72,6 +73,8 @@ module _ (regions : ℕ) (v : View) (area : List ℕ) (m : Mem) (t : ℕ) where
       by : Works (slotOf v t) q → v (TaskClass t) < ORDERS
       by (Kinds.allocates e n l) = absurd (omega arith)
       by (Kinds.frees e n l) = absurd (omega arith)
+      by (Kinds.leaves e i j l) = absurd (omega arith)
+      by (Kinds.ends-leaving e l) = absurd (omega arith)
       by (takes e l) = subst (HoldsAt k) e (placeHolds (w .turn))
       by (gives-back z e i l) = absurd (omega arith)
 
@@ -90,6 +93,8 @@ module _ (regions : ℕ) (v : View) (area : List ℕ) (m : Mem) (t : ℕ) where
       by : Works (slotOf v t) q → FreedStrip (working q)
       by (Kinds.allocates e n l) = absurd (omega arith)
       by (Kinds.frees e n l) = absurd (omega arith)
+      by (Kinds.leaves e i j l) = absurd (omega arith)
+      by (Kinds.ends-leaving e l) = absurd (omega arith)
       by (takes e l) = absurd (omega arith)
       by (gives-back z e i l) = record {
         slot = z;
@@ -116,14 +121,28 @@ module _ (regions : ℕ) (v : View) (area : List ℕ) (m : Mem) (t : ℕ) where
     freed-unit : classAt p ≡ c → 1 ≤ count u (underWay p) → isBlock regions c u ≡ true
     freed-unit e h = subst (λ (z : ℕ). isBlock regions z u ≡ true) e (under-unit w u h)
 
-    -- at the places of a free: the two pushes, and its own steps
-    unit-at : Freeing v t p → PUSH-RELEASE ≤ v (TaskPlace t) → (A3-READ ≤ v (TaskPlace t) → F1 ≤ v (TaskPlace t))
-        → v (TaskPlace t) ≤ F4-CLEAR → isBlock regions c u ≡ true
+    -- or it is none
+    returned-unit : classAt p ≡ c → Owned u (underWay p) → ReturnUnit regions v t
+    returned-unit e o = ⊎-map (λ i. i) (freed-unit e) o
+
+    -- at step 1 of a free
+    put-at : Freeing v t p → v (TaskPlace t) ≡ F1 → isBlock regions c u ≡ true
+    put-at (allocates h) i = absurd (omega arith)
+    put-at (fills h g) i = absurd (omega arith)
+    put-at (past-frees h) i = absurd (omega arith)
+    put-at (puts h e o) i = freed-unit e o
+    put-at (returns h g n e o) i = absurd (n i)
+    put-at (owes f n e o) i = absurd (n i)
+
+    -- at the places of a return: the two pushes, and its own steps
+    unit-at : Freeing v t p → PUSH-RELEASE ≤ v (TaskPlace t) → (A3-READ ≤ v (TaskPlace t) → F2 ≤ v (TaskPlace t))
+        → v (TaskPlace t) ≤ F4-CLEAR → ReturnUnit regions v t
     unit-at (allocates h) i j l = absurd (omega arith)
     unit-at (fills h g) i j l = absurd (omega (arith, j h))
-    unit-at (of-strip h) i j l = absurd (omega arith)
-    unit-at (frees h g e o) i j l = freed-unit e o
-    unit-at (owes f e o) i j l = freed-unit e o
+    unit-at (past-frees h) i j l = absurd (omega arith)
+    unit-at (puts h e o) i j l = absurd (omega (arith, j (omega arith)))
+    unit-at (returns h g n e o) i j l = returned-unit e o
+    unit-at (owes f n e o) i j l = returned-unit e o
 
     -- at those where a descriptor may be owed: the map entry is cleared, and the region released
     owed-at : Freeing v t p → PUSH-RELEASE ≤ v (TaskPlace t)
@@ -131,9 +150,10 @@ module _ (regions : ℕ) (v : View) (area : List ℕ) (m : Mem) (t : ℕ) where
         → v (TaskState t) ≡ FULL → d < DESCRIPTORS
     owed-at (allocates h) i j n f = absurd (omega arith)
     owed-at (fills h l) i j n f = absurd (omega (arith, j (omega arith)))
-    owed-at (of-strip h) i j n f = absurd (omega arith)
-    owed-at (frees h l e o) i j n f = absurd (omega (arith, j h))
-    owed-at (owes g e o) i j n f = descriptor-in-hand (w .turn) d (g f)
+    owed-at (past-frees h) i j n f = absurd (omega arith)
+    owed-at (puts h e o) i j n f = absurd (omega (arith, j (omega arith)))
+    owed-at (returns h l b e o) i j n f = absurd (omega (arith, j h))
+    owed-at (owes g b e o) i j n f = descriptor-in-hand (w .turn) d (g f)
 
     -- a cache's two fields
     module _ (e : ℕ) (l : e < CLASSES) where
@@ -164,6 +184,7 @@ module _ (regions : ℕ) (v : View) (area : List ℕ) (m : Mem) (t : ℕ) where
           lists = N .0;
           hand = N .1 .0;
           chains = N .1 .1;
+          unit-put = λ i j. put-at F (omega arith);
           unit-pushing = λ i j. unit-at F i (λ h. absurd (omega arith)) (omega arith);
           unit = λ i j. unit-at F (omega arith) (λ h. i) j;
           strip-order = λ i j. order-at w P (omega arith);

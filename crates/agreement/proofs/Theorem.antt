@@ -5,7 +5,7 @@ use mathlib.Core.List.{List, _∷_}
 use Prim.Native.Nat.{ℕ}
 use native.Mathlib.Omega.{arith}
 use Rattle.plain.specs.Moves.{Answer}
-use Rattle.plain.specs.Calls.{Pool, Call, Start, start, allocate, free, step, unstarted}
+use Rattle.plain.specs.Calls.{Pool, Call, Start, start, allocate, free, leave, step, unstarted}
 use Rattle.plain.specs.Calls as Plain
 use Rattle.plain.proofs.CallAnswers.{never-14}
 use Rattle.stepped.specs.Outcome.{Memories}
@@ -34,6 +34,7 @@ call-untouched : (k : Call) (lent : Lent) (s₁ : Memories) (s : Pool) → CallK
 call-untouched (start b) lent s₁ s h = start-leaves b lent s₁
 call-untouched (allocate t size) lent s₁ s h = h
 call-untouched (free t u) lent s₁ s h = h
+call-untouched (leave t) lent s₁ s h = h
 call-untouched (step t) lent s₁ s h = h
 
 untouched : (e : Event) (s₁ : Memories) (s : Pool) → EventKeeps e s₁ s (stepped e s₁ .0)

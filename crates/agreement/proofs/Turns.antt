@@ -37,7 +37,7 @@ module _ {regions : ℕ} {v : View} {area : List ℕ} {m : Mem} {t : ℕ} {p : P
   goes ws s p′ e own others f g pl =
       subst (λ (z : Contents). Related regions z (atPlace t k p′ m))
       (sym (becomes v (assigned ws v) area t s (contentsOf v area) e refl own others))
-      (quiet (w .pair) s (taskOf p′ k) (re-slot (w .pair) _ _ s p′ refl f g pl))
+      (quiet (w .pair) s (taskOf p′ k) (re-slot (w .pair) _ _ s p′ refl (rw f (mine (w .pair) .fits)) g pl))
 
   -- the top of the cache of the request's class, and how many it has, as the fields say
   pub cache-top : slotOf v t .caches .top (v (TaskClass t)) ≡ v (CacheTop t (v (TaskClass t)))

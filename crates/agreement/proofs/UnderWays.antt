@@ -10,8 +10,8 @@ use Rattle.rows.proofs.Linked.{linked-walk, linked-append-one}
 use Rattle.classes.specs.Geometry.{unitOf, indexOf}
 use Rattle.classes.proofs.BlockUnits.{unit-again}
 use Rattle.links.specs.Link.{link}
-use Rattle.plain.specs.State.{Phase, Place, Mem, Work, working}
-use Rattle.plain.specs.Held.{underWay, classAt}
+use Rattle.plain.specs.State.{Phase, Place, Mem, Work, working, Purpose}
+use Rattle.plain.specs.Held.{underWay, classAt, ownBlocks}
 use Rattle.plain.specs.TaskHolds.{Together}
 use Rattle.plain.proofs.Blocks.{counts-block}
 use Rattle.plain.proofs.PlaceAlone.{placeHolds}
@@ -20,7 +20,7 @@ use Rattle.control.specs.Places.{F4-CLEAR}
 use Rattle.control.specs.Places.{TO-NEXT, TO-EXCHANGE}
 use Rattle.control.specs.declared.moves.Pop.the-variants.{Partial, Spare, Region}
 use Rattle.control.specs.declared.moves.Push.the-variants.{Retire, Back, Release, Offer}
-use Rattle.agreement.specs.Contents.{Contents}
+use Rattle.agreement.specs.Contents.{Contents, purposeOf}
 use Rattle.agreement.specs.Relation.{MoveRelated, at-read, at-next, at-exchange, GroupRelated, WorkRelated, r-a1}
 use Rattle.agreement.specs.Relation.{r-popping, r-pushing, r-a3-read, r-a3-exchange, r-a4, r-a7, r-a8, r-f1, r-f2}
 use Rattle.agreement.specs.Relation.{r-f2-more, r-f3-read, r-f3-link, r-f3-exchange, r-f4-clear, PlaceRelated}
@@ -28,12 +28,13 @@ use Rattle.agreement.specs.Relation.{r-idle, r-working}
 use Rattle.agreement.specs.Observe.{underWays, blocksAt}
 use Rattle.agreement.proofs.TurnInBoth.{Pair}
 use Rattle.agreement.proofs.GroupBlocks.{of-region}
-use Rattle.control.specs.Places.{STRIP-TAKE, STRIP-GIVE}
-use Rattle.agreement.specs.Relation.{r-strip-take, r-strip-give}
+use Rattle.control.specs.Places.{STRIP-TAKE, STRIP-GIVE, LEAVE-END}
+use Rattle.agreement.specs.Relation.{r-strip-take, r-strip-give, r-leave-end}
+use Rattle.agreement.proofs.Purposes.{group-in}
 
--- the block that is freed, and a group behind it
-freed-with : {u : ℕ} {q r : List ℕ} → q ≡ r → u ∷ q ≡ u ∷ r
-freed-with {u} e = ap (λ (z : List ℕ). u ∷ z) e
+-- the task's own block, if there is one, and a group behind it
+own-with : (z : Purpose) {q r : List ℕ} → q ≡ r → ownBlocks z ++ q ≡ ownBlocks z ++ r
+own-with z e = ap (λ (q : List ℕ). ownBlocks z ++ q) e
 
 module _ {regions : ℕ} {a : Contents} {m : Mem} {t : ℕ} {k : ℕ → List ℕ} where
   group-is : {p : Place} {y : ℕ} {g : List ℕ} (w : Pair regions a m t p k) (G : GroupRelated a (a .slot t) y g)
@@ -75,8 +76,8 @@ module _ {regions : ℕ} {a : Contents} {m : Mem} {t : ℕ} {k : ℕ → List �
   at-work w (r-popping Region h) = in-move w [] (refl, refl, refl) h
   at-work w (r-pushing Retire z f h) = in-move w [] (refl, refl, refl) h
   at-work w (r-pushing Back z f h) = in-move w [] (refl, refl, refl) h
-  at-work w (r-pushing Release z f h) = in-move w (a .slot t .unit ∷ []) (refl, refl, refl) h
-  at-work w (r-pushing Offer z f h) = in-move w (a .slot t .unit ∷ []) (refl, refl, refl) h
+  at-work w (r-pushing Release z f h) = in-move w (ownBlocks (purposeOf (a .slot t .unit))) (refl, refl, refl) h
+  at-work w (r-pushing Offer z f h) = in-move w (ownBlocks (purposeOf (a .slot t .unit))) (refl, refl, refl) h
   at-work w (r-a3-read e) = at-place w A3-READ [] e refl
   at-work w (r-a3-exchange e N i j l o) = at-place w A3-EXCHANGE [] e refl
   at-work w (r-a4 {x = x} {q = q} e l n f) =
@@ -90,23 +91,29 @@ module _ {regions : ℕ} {a : Contents} {m : Mem} {t : ℕ} {k : ℕ → List �
   at-work w (r-f1 e) = at-place w F1 (a .slot t .unit ∷ []) e refl
   at-work w (r-f2 e z) =
       let s = a .slot t in
-      at-place w F2 (s .unit ∷ []) e
-      (freed-with (ap (walk (link (a .area)) (unitOf (s .hand .region) (s .class)) (s .group .first)) z))
+      at-place w F2 (ownBlocks (purposeOf (s .unit)) ++ []) e
+      (own-with (purposeOf (s .unit))
+      (ap (walk (link (a .area)) (unitOf (s .hand .region) (s .class)) (s .group .first)) z))
   at-work w (r-f2-more {y = y} {g = g} e G) =
-      at-place w F2 (a .slot t .unit ∷ y ∷ g) e
-      (freed-with (group-is w G (λ v. omega arith) refl (placeHolds (w .turn) .3)))
+      at-place w F2 (ownBlocks (purposeOf (a .slot t .unit)) ++ (y ∷ g)) e
+      (own-with (purposeOf (a .slot t .unit))
+      (group-is w G (group-in (purposeOf (a .slot t .unit)) (y ∷ g)) refl (placeHolds (w .turn) .3)))
   at-work w (r-f3-read {y = y} {g = g} e G) =
-      at-place w F3-READ (a .slot t .unit ∷ y ∷ g) e
-      (freed-with (group-is w G (λ v. omega arith) refl (placeHolds (w .turn) .2)))
+      at-place w F3-READ (ownBlocks (purposeOf (a .slot t .unit)) ++ (y ∷ g)) e
+      (own-with (purposeOf (a .slot t .unit))
+      (group-is w G (group-in (purposeOf (a .slot t .unit)) (y ∷ g)) refl (placeHolds (w .turn) .2)))
   at-work w (r-f3-link {y = y} {g = g} e G N l) =
-      at-place w F3-LINK (a .slot t .unit ∷ y ∷ g) e
-      (freed-with (group-is w G (λ v. omega arith) refl (placeHolds (w .turn) .2)))
+      at-place w F3-LINK (ownBlocks (purposeOf (a .slot t .unit)) ++ (y ∷ g)) e
+      (own-with (purposeOf (a .slot t .unit))
+      (group-is w G (group-in (purposeOf (a .slot t .unit)) (y ∷ g)) refl (placeHolds (w .turn) .2)))
   at-work w (r-f3-exchange {y = y} {g = g} e G N l f) =
-      at-place w F3-EXCHANGE (a .slot t .unit ∷ y ∷ g) e
-      (freed-with (group-is w G (λ v. omega arith) refl (placeHolds (w .turn) .2)))
-  at-work w (r-f4-clear e f) = at-place w F4-CLEAR (a .slot t .unit ∷ []) e refl
+      at-place w F3-EXCHANGE (ownBlocks (purposeOf (a .slot t .unit)) ++ (y ∷ g)) e
+      (own-with (purposeOf (a .slot t .unit))
+      (group-is w G (group-in (purposeOf (a .slot t .unit)) (y ∷ g)) refl (placeHolds (w .turn) .2)))
+  at-work w (r-f4-clear e f) = at-place w F4-CLEAR (ownBlocks (purposeOf (a .slot t .unit))) e refl
   at-work w (r-strip-take e) = at-place w STRIP-TAKE [] e refl
   at-work w (r-strip-give e f) = at-place w STRIP-GIVE [] e refl
+  at-work w (r-leave-end e) = at-place w LEAVE-END [] e refl
 
   pub under-way : {p : Place} (w : Pair regions a m t p k) → PlaceRelated regions a m (a .slot t) p
       → blocksAt (underWays (a .slot t) a) (a .slot t .place) ≡ underWay p

@@ -17,6 +17,7 @@ unstarted-tied U = record {
     small = λ h. absurd (omega arith);
     inv = λ h. absurd (omega arith);
     strips = λ h. absurd (omega arith);
+    leaves = λ h. absurd (omega arith);
   };
   some = λ h. absurd (omega arith);
   regions = λ h. absurd (omega arith);

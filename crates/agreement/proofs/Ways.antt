@@ -14,7 +14,7 @@ use Rattle.plain.specs.Moves.{Decided}
 use Rattle.plain.specs.Calls.{Start, Lengths, StartTested, StartFails, start-control, start-lengths, start-tasks}
 use Rattle.plain.proofs.CallTests.{start-tested}
 use Rattle.control.specs.Layout.{CacheTop, TaskPlace, TaskClass, Tasks, Regions}
-use Rattle.control.specs.Places.{IDLE, A1, F1, STRIP-TAKE, STRIP-GIVE}
+use Rattle.control.specs.Places.{IDLE, A1, F1, STRIP-TAKE, STRIP-GIVE, LEAVE-END}
 use Rattle.control.specs.declared.answer.Answer.{Answer}
 use Rattle.control.specs.declared.answer.Answer.the-variants.{Accepted, Allocated, Freed, NoDescriptor, NoRegion}
 use Rattle.control.specs.declared.answer.Answer.the-variants.{NoStrip, Refused}
@@ -154,7 +154,7 @@ pub record TakesStrip (v : View) (t u : ℕ) : Type 0 where
 abbrev pub Cause : View → ℕ → Answer → Type 0
 Cause v t Accepted = ⊥
 Cause v t (Allocated u) = TakesTop v t u ⊎ TakesStrip v t u
-Cause v t Freed = (v (TaskPlace t) ≡ F1) ⊎ (v (TaskPlace t) ≡ STRIP-GIVE)
+Cause v t Freed = (v (TaskPlace t) ≡ F1) ⊎ ((v (TaskPlace t) ≡ STRIP-GIVE) ⊎ (v (TaskPlace t) ≡ LEAVE-END))
 Cause v t NoDescriptor = FindsEmpty Spare v t
 Cause v t NoRegion = WinsPush Back v t
 Cause v t NoStrip = FindsNoPiece v t

@@ -8,6 +8,7 @@ use Rattle.agreement.specs.Contents.{Contents, Slot}
 use Rattle.agreement.specs.Relation.{MoveRelated, at-read, at-next, at-exchange, WorkRelated, r-a1, r-popping}
 use Rattle.agreement.specs.Relation.{r-pushing, r-a3-read, r-a3-exchange, r-a4, r-a7, r-a8, r-f1, r-f2, r-f2-more}
 use Rattle.agreement.specs.Relation.{r-f3-read, r-f3-link, r-f3-exchange, r-f4-clear, r-strip-take, r-strip-give}
+use Rattle.agreement.specs.Relation.{r-leave-end}
 use Rattle.agreement.proofs.ListMoves.{pop-first, push-later}
 
 -- a move's places, which are three
@@ -38,3 +39,4 @@ work-place (r-f3-exchange e G N l i) = omega arith
 work-place (r-f4-clear e i) = omega arith
 work-place (r-strip-take e) = omega arith
 work-place (r-strip-give e i) = omega arith
+work-place (r-leave-end e) = omega arith

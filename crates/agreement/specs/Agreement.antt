@@ -7,7 +7,7 @@ use Prim.Native.Nat.{ℕ, _*_, _≤_}
 use lib.ListN.{length, getD}
 use Rattle.limits.specs.Limits.{CONTROL-BYTES, REGION-BYTES, STRIPS-BYTES}
 use Rattle.plain.specs.Moves.{Answer}
-use Rattle.plain.specs.Calls.{Pool, Call, start, allocate, free, step}
+use Rattle.plain.specs.Calls.{Pool, Call, start, allocate, free, leave, step}
 use Rattle.control.specs.Layout.{Tasks, Regions, seen}
 use Rattle.agreement.specs.Contents.{Contents, contentsOf}
 use Rattle.stepped.specs.Outcome.{Memories}
@@ -50,6 +50,7 @@ CallUntouched (start b) lent s₁ x s =
     x .1 .code ≡ 0 → (x .0 .area ≡ lent .area) × (x .0 .strips ≡ lent .strips)
 CallUntouched (allocate t size) lent s₁ x s = HandsKept s₁ s (x .0)
 CallUntouched (free t u) lent s₁ x s = HandsKept s₁ s (x .0)
+CallUntouched (leave t) lent s₁ x s = HandsKept s₁ s (x .0)
 CallUntouched (step t) lent s₁ x s = HandsKept s₁ s (x .0)
 
 -- An event that is a call is as `CallUntouched` says; of a user's own write nothing is asked.

@@ -7,9 +7,10 @@ use Rattle.classes.specs.Sizes.{classOf}
 use Rattle.pieces.specs.StripSizes.{orderOf}
 use Rattle.pieces.specs.StripUnits.{stripUnit}
 use Rattle.plain.specs.State.{Place, idle, working, Mem}
-use Rattle.plain.specs.Requests.{Request, allocation, freeing, strip-allocation, strip-freeing, requestAt}
+use Rattle.plain.specs.Requests.{Request, allocation, freeing, strip-allocation, strip-freeing, leaving}
+use Rattle.plain.specs.Requests.{requestAt}
 use Rattle.agreement.specs.Reached.{History}
-use Rattle.agreement.specs.Asked.{Asked, nothing-yet, for-bytes, for-free, asked}
+use Rattle.agreement.specs.Asked.{Asked, nothing-yet, for-bytes, for-free, for-leave, asked}
 
 -- the class c serves the size
 abbrev pub Serves : ℕ → ℕ → Type 0
@@ -26,10 +27,17 @@ AsAsked (for-bytes size) (allocation c) = Serves size c
 AsAsked (for-bytes size) (freeing c u) = ⊥
 AsAsked (for-bytes size) (strip-allocation k) = StripServes size k
 AsAsked (for-bytes size) (strip-freeing s) = ⊥
+AsAsked (for-bytes size) leaving = ⊥
 AsAsked (for-free unit) (allocation c) = ⊥
 AsAsked (for-free unit) (freeing c u) = (u ≡ unit) × (unit < UNITS)
 AsAsked (for-free unit) (strip-allocation k) = ⊥
 AsAsked (for-free unit) (strip-freeing s) = stripUnit s ≡ unit
+AsAsked (for-free unit) leaving = ⊥
+AsAsked for-leave (allocation c) = ⊥
+AsAsked for-leave (freeing c u) = ⊥
+AsAsked for-leave (strip-allocation k) = ⊥
+AsAsked for-leave (strip-freeing s) = ⊥
+AsAsked for-leave leaving = Unit {0}
 
 -- a task that is at work is at what it has asked for
 abbrev pub AtWhatAsked : Asked → Place → Type 0

@@ -2,7 +2,9 @@
 -- The control memory and the area, column by column: what each field and each link says.
 use Prim.Native.Nat.{ℕ, _/_, _%_}
 use native.Mathlib.Decide.{decLt}
+use mathlib.Core.Bool.{cond}
 use mathlib.Core.List.{List}
+use lib.Dec.{eqb}
 use Rattle.limits.specs.Limits.{CLASSES, WORD-MARKS}
 use Rattle.rows.specs.Branch.{if}
 use Rattle.fields.specs.Columns.{View}
@@ -11,6 +13,7 @@ use Rattle.words.specs.Anchor.{anchorOf}
 use Rattle.words.specs.Mark.{bitAt}
 use Rattle.words.specs.declared.head.Head.{Head}
 use Rattle.words.specs.declared.anchor.Anchor.{Anchor}
+use Rattle.plain.specs.State.{Purpose, to-free, to-leave}
 use Rattle.control.specs.Layout
 use Rattle.strip_tree.specs.declared.tree.Tree.{Tree}
 use Rattle.stepped.specs.StripSteps.{treeOf}
@@ -24,7 +27,7 @@ pub record TaskNotes : Type 0 where
   pub anchor : Anchor
 
 -- what a task has in hand: a descriptor; a region, in it the next block's index and how many are left; and the state in
--- which a free found the anchor
+-- which a return found the anchor
 pub record TaskHand : Type 0 where
   pub descriptor : ℕ
   pub region : ℕ
@@ -32,7 +35,7 @@ pub record TaskHand : Type 0 where
   pub left : ℕ
   pub state : ℕ
 
--- the group of a free: the indexes of its first and its last block, and how many it has
+-- the group of a return, for a free or for leaving: the indexes of its first and its last block, and how many it has
 pub record TaskGroup : Type 0 where
   pub first : ℕ
   pub last : ℕ
@@ -44,7 +47,7 @@ pub record TaskCaches : Type 0 where
   pub count : ℕ → ℕ
 
 -- a task's part of the control memory: its place in the step list, the class of its request or the order of its strip,
--- and the block or strip that it frees; what it noted, what it has in hand, its group and its caches
+-- and the block or strip that it frees, or that it leaves; what it noted, what it has in hand, its group and its caches
 pub record Slot : Type 0 where
   pub place : ℕ
   pub class : ℕ
@@ -53,6 +56,10 @@ pub record Slot : Type 0 where
   pub hand : TaskHand
   pub group : TaskGroup
   pub caches : TaskCaches
+
+-- what a task returns a cache for, by its unit: the block that it frees, or leaving
+abbrev pub purposeOf : ℕ → Purpose
+purposeOf u = cond (eqb u Layout.LEAVING) to-leave (to-free u)
 
 -- ---- the control memory and the area
 

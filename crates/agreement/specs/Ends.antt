@@ -17,8 +17,8 @@ use Rattle.strip_tree.specs.Trees.{isFreeNode}
 use Rattle.control.specs.Places.{IDLE, A1, STRIP-TAKE}
 use Rattle.control.specs.Places.{TO-EXCHANGE}
 use Rattle.control.specs.declared.answer.Answer.{Answer}
-use Rattle.control.specs.declared.answer.Answer.the-variants.{Accepted, Allocated, Freed, NoDescriptor, NoRegion}
-use Rattle.control.specs.declared.answer.Answer.the-variants.{NoStrip, Refused}
+use Rattle.control.specs.declared.answer.Answer.the-variants.{Accepted, Allocated, Freed, NoDescriptor}
+use Rattle.control.specs.declared.answer.Answer.the-variants.{NoRegion, NoStrip, Refused}
 use Rattle.control.specs.declared.moves.Pop.{Pop}
 use Rattle.control.specs.declared.moves.Push.{Push}
 use Rattle.stepped.specs.Outcome.{Outcome, Memories, Effect, memoriesAfter}
@@ -56,6 +56,11 @@ allocateRefusals = testRefusals ++ (6 ∷ 8 ∷ 9 ∷ [])
 -- the numbers by which the beginning of a free can be refused: those of the tests, and "6 .., then .. 10, 11"
 abbrev pub freeRefusals : List ℕ
 freeRefusals = testRefusals ++ (6 ∷ 10 ∷ 11 ∷ [])
+
+-- the numbers by which the beginning of leaving can be refused: those of the tests, and 6: "Tests for a request in hand
+-- apply as for any other" (the request for leaving)
+abbrev pub leaveRefusals : List ℕ
+leaveRefusals = testRefusals ++ (6 ∷ [])
 
 -- the numbers by which a step can be refused: those of the tests, "or 7"
 abbrev pub stepRefusals : List ℕ

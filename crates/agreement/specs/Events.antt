@@ -15,7 +15,7 @@ use Rattle.plain.specs.State.{Phase, read, next, exchange}
 use Rattle.plain.specs.Moves.{Answer, going, nothing}
 use Rattle.plain.specs.Steps.{popList, pushList}
 use Rattle.plain.specs.Noted.{Noted, unnoted, pop-noted, push-noted, anchor-noted, entry-noted, noted}
-use Rattle.plain.specs.Calls.{Pool, Call, start, allocate, free, step, Lengths}
+use Rattle.plain.specs.Calls.{Pool, Call, start, allocate, free, leave, step, Lengths}
 use Rattle.plain.specs.Calls as Plain
 use Rattle.control.specs.Layout.{Tasks, seen}
 use Rattle.control.specs.Answers.{codeOf, valueOf}
@@ -36,6 +36,7 @@ abbrev pub NoStart : Call → Type 0
 NoStart (start b) = ⊥
 NoStart (allocate t size) = Unit {0}
 NoStart (free t u) = Unit {0}
+NoStart (leave t) = Unit {0}
 NoStart (step t) = Unit {0}
 
 -- ---- the stepped run: on the bytes of the three memories
@@ -111,6 +112,7 @@ abbrev pub CallPremise : Call → Lengths → Pool → Type 0
 CallPremise (start b) lent s = Unit {0}
 CallPremise (allocate t size) lent s = Unit {0}
 CallPremise (free t u) lent s = Unit {0}
+CallPremise (leave t) lent s = Unit {0}
 CallPremise (step t) lent s = Plain.Tested t lent s → Near (s .mem .won) (noted (s .mem .task t .place))
 
 -- the premise of an event, in the plain pool before it

@@ -2,6 +2,7 @@
 -- What a finished allocation hands out.
 use mathlib.Core.Path.{_≡_}
 use mathlib.Core.Logic.{_↔_}
+use mathlib.Core.List.{List}
 use Prim.Native.Nat.{ℕ, _+_, _*_, _≤_, _<_}
 use Rattle.limits.specs.Limits.{CLASSES, LARGEST-SIZE, SLOTS, UNITS, WHOLE-ORDER}
 use Rattle.classes.specs.Classes.{block}
@@ -13,7 +14,8 @@ use Rattle.pieces.specs.StripSlots.{FreeStretch}
 use Rattle.pieces.specs.StripSizes.{stripBytes, orderOf, RoundsTo}
 use Rattle.pieces.specs.StripUnits.{stripUnit}
 use Rattle.plain.specs.State.{Mem}
-use Rattle.agreement.specs.Asked.{Asked, nothing-yet, for-bytes, for-free}
+use Rattle.plain.specs.Leaving.{EmptyFrom}
+use Rattle.agreement.specs.Asked.{Asked, nothing-yet, for-bytes, for-free, for-leave}
 
 -- The unit u is the first of a block of the class c, in an area of so many regions, and the block is aligned.
 pub record AlignedBlock (regions c u : ℕ) : Type 0 where
@@ -50,6 +52,10 @@ pub record StripGiven (before after : Pieces WHOLE-ORDER) (t u : ℕ) : Type 0 w
   pub given : RowGives order slot (begun t) (piecesRow 0 before) (piecesRow 0 after)
   pub none-left : NoneToJoin (piecesRow 0 after)
 
+-- all caches are empty: what a task that has left leaves behind
+abbrev pub AllEmpty : (ℕ → List ℕ) → Type 0
+AllEmpty k = EmptyFrom k 0 CLASSES
+
 -- What a finished request of the task t gives as its value, by what the task has asked for: "the value is the unit of a
 -- finished allocation, else 0". No request finishes that was not asked for. The memories are those of the plain pool
 -- before and after the step.
@@ -60,6 +66,7 @@ Gives regions before after t (for-bytes size) value =
     × (LARGEST-SIZE < size → StripHanded (before .strips) (after .strips) size value)
 Gives regions before after t (for-free unit) value =
     (value ≡ 0) × (UNITS ≤ unit → StripGiven (before .strips) (after .strips) t unit)
+Gives regions before after t for-leave value = (value ≡ 0) × AllEmpty (after .task t .cache)
 
 -- "16 ends a request exactly if no aligned free stretch of the rounded size exists", slot by slot: a step of a task
 -- whose request is for a strip, by the size that it has asked for and the plain pool's pieces before it

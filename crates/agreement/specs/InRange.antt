@@ -3,6 +3,7 @@
 -- demand 3's premises stores in the field".
 use Prim.Native.Nat.{ℕ, _+_, _^_, _≤_, _<_}
 use mathlib.Core.Path.{_≡_}
+use mathlib.Core.Logic.{_⊎_}
 use mathlib.Core.Bool.{true}
 use Rattle.limits.specs.Limits.{REGIONS, UNITS, TASKS, CLASSES, DESCRIPTORS, MOST-BLOCKS, SPARE-REGIONS}
 use Rattle.limits.specs.Limits.{DESCRIPTOR-LISTS, ORDERS, SLOTS}
@@ -13,7 +14,7 @@ use Rattle.classes.specs.Classes.{perRegion}
 use Rattle.pieces.specs.StripUnits.{slotOfUnit, isStripUnit}
 use Rattle.strip_tree.specs.TreeMoves.{canBegin}
 use Rattle.strip_tree.specs.SlotStates.{FREE-BEGUN, LAST-BYTE, orderIn}
-use Rattle.control.specs.Layout.{layout, Head, Anchor, TaskHead, TaskAnchor, CacheTop, CacheCount, TaskUnit}
+use Rattle.control.specs.Layout.{layout, Head, Anchor, TaskHead, TaskAnchor, CacheTop, CacheCount, TaskUnit, LEAVING}
 use Rattle.control.specs.Layout.{TaskIndex, TaskLeft, GroupFirst, GroupLast, GroupCount}
 use Rattle.control.specs.Layout.{TaskPlace, TaskClass, TaskNext, TaskDescriptor, TaskRegion, TaskState}
 use Rattle.control.specs.Layout.{DescriptorNext, RegionNext, DescriptorRegion, DescriptorClass, Map, Tasks, Regions}
@@ -67,7 +68,7 @@ pub record HandInRange (regions : ℕ) (v : View) (t : ℕ) : Type 0 where
   pub region-filled : AtPlaces v t A4 A8 (v (TaskRegion t) < regions)
   pub region-grouped : AtPlaces v t F2 F2 (1 ≤ v (GroupCount t) → v (TaskRegion t) < regions)
   pub region-group : AtPlaces v t F3-READ F4-CLEAR (v (TaskRegion t) < regions)
-  -- the state in which a free found the anchor, where it is still to be read
+  -- the state in which a return found the anchor, where it is still to be read
   pub state-released : AtPlaces v t PUSH-RELEASE (PUSH-RELEASE + TO-EXCHANGE) (v (TaskState t) ≤ FULL)
   pub state-cleared : AtPlaces v t F4-CLEAR F4-CLEAR (v (TaskState t) ≤ FULL)
 
@@ -79,7 +80,7 @@ pub record ChainsInRange (v : View) (t : ℕ) : Type 0 where
       (anchorOf (v (TaskAnchor t)) .avail < perRegion (v (TaskClass t)))
   pub anchor-count : AtPlaces v t A3-EXCHANGE A3-EXCHANGE
       (OneTo (perRegion (v (TaskClass t))) (anchorOf (v (TaskAnchor t)) .count))
-  -- the noted anchor before whose chain a free puts its group: n as avail is none
+  -- the noted anchor before whose chain a return puts its group: n as avail is none
   pub returns-state : AtPlaces v t F3-LINK F3-EXCHANGE (anchorOf (v (TaskAnchor t)) .state ≤ FULL)
   pub returns-avail : AtPlaces v t F3-LINK F3-EXCHANGE
       (anchorOf (v (TaskAnchor t)) .avail ≤ perRegion (v (TaskClass t)))
@@ -99,22 +100,28 @@ pub record ChainsInRange (v : View) (t : ℕ) : Type 0 where
   pub last-grouped : AtPlaces v t F2 F2 (1 ≤ v (GroupCount t) → v (GroupLast t) < perRegion (v (TaskClass t)))
   pub last : AtPlaces v t F3-READ F3-EXCHANGE (v (GroupLast t) < perRegion (v (TaskClass t)))
 
+-- the unit of a task that returns a cache: that of a block of the class, which is freed, or none
+abbrev pub ReturnUnit : ℕ → View → ℕ → Type 0
+ReturnUnit regions v t =
+    (v (TaskUnit t) ≡ LEAVING) ⊎ (isBlock regions (v (TaskClass t)) (v (TaskUnit t)) ≡ true)
+
 -- the fields of the task t
 pub record TaskInRange (regions : ℕ) (v : View) (t : ℕ) : Type 0 where
-  -- the class of the request is one of the classes; so is the order of a strip, where a class would stand
+  -- the class of the request, or of the cache that leaving returns, is one of the classes; so is the order of a strip,
+  -- where a class would stand
   pub class : v (TaskClass t) < CLASSES
   pub lists : ListsInRange regions v t
   pub hand : HandInRange regions v t
   pub chains : ChainsInRange v t
-  -- the unit that is freed: a block of the class
-  pub unit-pushing : AtPlaces v t PUSH-RELEASE (PUSH-OFFER + TO-EXCHANGE)
-      (isBlock regions (v (TaskClass t)) (v (TaskUnit t)) ≡ true)
-  pub unit : AtPlaces v t F1 F4-CLEAR (isBlock regions (v (TaskClass t)) (v (TaskUnit t)) ≡ true)
+  -- the unit that is freed: a block of the class; or none, where the task leaves
+  pub unit-put : AtPlaces v t F1 F1 (isBlock regions (v (TaskClass t)) (v (TaskUnit t)) ≡ true)
+  pub unit-pushing : AtPlaces v t PUSH-RELEASE (PUSH-OFFER + TO-EXCHANGE) (ReturnUnit regions v t)
+  pub unit : AtPlaces v t F2 F4-CLEAR (ReturnUnit regions v t)
   -- the order of the strip that is to be taken, and the unit of the one that is freed: its free has begun
   pub strip-order : AtPlaces v t STRIP-TAKE STRIP-TAKE (v (TaskClass t) < ORDERS)
   pub strip-unit : AtPlaces v t STRIP-GIVE STRIP-GIVE (isStripUnit (v (TaskUnit t)) ≡ true)
   pub strip-freed : AtPlaces v t STRIP-GIVE STRIP-GIVE (FREE-BEGUN ≤ v (SlotByte (slotOfUnit (v (TaskUnit t)))))
-  -- the descriptor that a free has in hand where it found the anchor FULL
+  -- the descriptor that a return has in hand where it found the anchor FULL
   pub descriptor-released : AtPlaces v t PUSH-RELEASE (PUSH-RELEASE + TO-EXCHANGE)
       (v (TaskState t) ≡ FULL → v (TaskDescriptor t) < DESCRIPTORS)
   pub descriptor-cleared : AtPlaces v t F4-CLEAR F4-CLEAR (v (TaskState t) ≡ FULL → v (TaskDescriptor t) < DESCRIPTORS)

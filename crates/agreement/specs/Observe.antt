@@ -3,7 +3,7 @@
 -- chain in order and each block's holder"; and of the strips "both are compared", strips and free pieces. It is read
 -- off the memories, through the links and by the counts, and off the plain pool.
 use mathlib.Core.Path.{_≡_}
-use mathlib.Core.List.{List, [], _∷_}
+use mathlib.Core.List.{List, [], _∷_, _++_}
 use Prim.Native.Nat.{ℕ, zero, suc, _+_, _-_, _≤_, _<_}
 use mathlib.Core.Bool.{cond, _&&_}
 use native.Mathlib.Decide.{ℕ-discrete, decLt, decLe}
@@ -26,11 +26,12 @@ use Rattle.strips_agreement.specs.SlotsCounted.{freeOver, stripsOver}
 use Rattle.plain.specs.State.{Mem}
 use Rattle.plain.specs.Calls.{opens?}
 use Rattle.plain.specs.Blocks.{blocksFrom}
+use Rattle.plain.specs.Held.{ownBlocks}
 use Rattle.plain.specs.HolderWeights.{blockWeight}
 use Rattle.plain.specs.OnePlace.{OpenBlock}
 use Rattle.control.specs.Places.{A4, A8, F1, F2, F3-EXCHANGE, F4-CLEAR, PUSH-RELEASE, PUSH-OFFER}
 use Rattle.control.specs.Places.{TO-EXCHANGE, STRIP-GIVE}
-use Rattle.agreement.specs.Contents.{Slot, Contents}
+use Rattle.agreement.specs.Contents.{Slot, Contents, purposeOf}
 
 -- ---- lists
 
@@ -101,18 +102,18 @@ blocksAt (line ∷ table) place = cond (leb (line .0) place && leb place (line .
 -- task's cache": what a task has under way, by its place
 abbrev pub underWays : Slot → Contents → List (ℕ × ℕ × List ℕ)
 underWays s a =
-    let freed = s .unit ∷ [] in
+    let own = ownBlocks (purposeOf (s .unit)) in
     -- the rest of the chain that was taken
     (A4, A4, walk (link (a .area)) (unitOf (s .hand .region) (s .class)) (s .hand .index) (s .hand .left))
     -- the blocks still to be carved
     ∷ (A8, A8, blocksFrom (s .hand .region) (s .class) (s .hand .index) (perRegion (s .class) - s .hand .index))
     -- the block that is freed; from step 2 on, with the group; and alone again while its map entry is cleared, its
-    -- region released and its descriptor offered
-    ∷ (F1, F1, freed)
-    ∷ (F2, F3-EXCHANGE, s .unit ∷ groupOf s a)
-    ∷ (F4-CLEAR, F4-CLEAR, freed)
-    ∷ (PUSH-RELEASE, PUSH-RELEASE + TO-EXCHANGE, freed)
-    ∷ (PUSH-OFFER, PUSH-OFFER + TO-EXCHANGE, freed)
+    -- region released and its descriptor offered. Leaving has the group alone
+    ∷ (F1, F1, s .unit ∷ [])
+    ∷ (F2, F3-EXCHANGE, own ++ groupOf s a)
+    ∷ (F4-CLEAR, F4-CLEAR, own)
+    ∷ (PUSH-RELEASE, PUSH-RELEASE + TO-EXCHANGE, own)
+    ∷ (PUSH-OFFER, PUSH-OFFER + TO-EXCHANGE, own)
     ∷ []
 
 -- how often a cache of n blocks with the top u has the block v

@@ -19,13 +19,13 @@ use Rattle.pieces.specs.StripUnits.{stripUnit}
 use Rattle.strips_agreement.specs.TreeFollows.{Follows}
 use Rattle.plain.specs.State.{State, stateNumber, Descriptor, Note, Phase, read, next, exchange, Place, idle, a1}
 use Rattle.plain.specs.State.{popping, pushing, a3-read, a3-exchange, a4, a7, a8, f1, f2, f3-read, f3-link, f3-exchange}
-use Rattle.plain.specs.State.{f4-clear, strip-take, strip-give, Task, Mem, Work, working}
+use Rattle.plain.specs.State.{f4-clear, strip-take, strip-give, leave-end, Task, Mem, Work, working, Purpose}
 use Rattle.plain.specs.State as Plain
 use Rattle.plain.specs.Steps.{top}
 use Rattle.plain.specs.ByState.{IfOpen}
 use Rattle.plain.specs.Blocks.{countBlock}
 use Rattle.control.specs.Places.{IDLE, A1, A3-READ, A3-EXCHANGE, A4, A7, A8, F1, F2, F3-READ, F3-LINK, F3-EXCHANGE}
-use Rattle.control.specs.Places.{F4-CLEAR, STRIP-TAKE, STRIP-GIVE, TO-NEXT, TO-EXCHANGE}
+use Rattle.control.specs.Places.{F4-CLEAR, STRIP-TAKE, STRIP-GIVE, LEAVE-END, TO-NEXT, TO-EXCHANGE}
 use Rattle.control.specs.declared.moves.Pop.{Pop}
 use Rattle.control.specs.declared.moves.Pop.the-variants.{Partial, Spare, Region}
 use Rattle.control.specs.declared.moves.Push.{Push}
@@ -33,7 +33,7 @@ use Rattle.control.specs.declared.moves.Push.the-variants.{Retire, Back, Releas
 use Rattle.stepped.specs.Lists.{Items, descriptor-items, region-items, howMany, popPlace, popList, popItems, pushPlace}
 use Rattle.stepped.specs.Lists.{pushList, pushItems}
 use Rattle.agreement.specs.Contents.{TaskHand, TaskCaches, Slot, Lists, Descriptors, Entries, StripFields}
-use Rattle.agreement.specs.Contents.{Contents}
+use Rattle.agreement.specs.Contents.{Contents, purposeOf}
 
 -- the tag of a number of won exchanges
 abbrev pub wrap : ℕ → ℕ
@@ -103,19 +103,19 @@ plainPop Partial c h = Plain.partial c
 plainPop Spare c h = Plain.spare c
 plainPop Region c h = Plain.Pop.region c (h .descriptor)
 
--- the plain pool's push for a request of the class c; u is the block that is freed, z the state that a release found
-abbrev pub plainPush : Push → ℕ → ℕ → TaskHand → State → Plain.Push
-plainPush Retire c u h z = Plain.retire c (h .descriptor)
-plainPush Back c u h z = Plain.back c (h .descriptor)
-plainPush Release c u h z = Plain.release c u (h .descriptor) z (h .region)
-plainPush Offer c u h z = Plain.offer c u (h .descriptor)
+-- the plain pool's push for a request of the class c; z is what a return is for, w the state that a release found
+abbrev pub plainPush : Push → ℕ → Purpose → TaskHand → State → Plain.Push
+plainPush Retire c z h w = Plain.retire c (h .descriptor)
+plainPush Back c z h w = Plain.back c (h .descriptor)
+plainPush Release c z h w = Plain.release c z (h .descriptor) w (h .region)
+plainPush Offer c z h w = Plain.offer c z (h .descriptor)
 
 -- a release has noted the state that it found, for the step after it; of the other pushes nothing is asked
 abbrev pub ReleaseNoted : Push → ℕ → State → Type 0
-ReleaseNoted Retire was z = Unit {0}
-ReleaseNoted Back was z = Unit {0}
-ReleaseNoted Release was z = was ≡ stateNumber z
-ReleaseNoted Offer was z = Unit {0}
+ReleaseNoted Retire was w = Unit {0}
+ReleaseNoted Back was w = Unit {0}
+ReleaseNoted Release was w = was ≡ stateNumber w
+ReleaseNoted Offer was w = Unit {0}
 
 -- the index by which an anchor names a chain's first block, which is given plus one, or 0 for none: n for none
 abbrev pub firstIndex : ℕ → ℕ → ℕ
@@ -152,8 +152,8 @@ pub data WorkRelated (regions : ℕ) (a : Contents) (m : Mem) (s : Slot) : Work 
   r-a1 : s .place ≡ A1 → WorkRelated regions a m s (a1 (s .class))
   r-popping : (P : Pop) {φ : Phase} → PopRelated regions m s P φ
       → WorkRelated regions a m s (popping (plainPop P (s .class) (s .hand)) φ)
-  r-pushing : (P : Push) (z : State) {φ : Phase} → ReleaseNoted P (s .hand .state) z → PushRelated regions a m s P φ
-      → WorkRelated regions a m s (pushing (plainPush P (s .class) (s .unit) (s .hand) z) φ)
+  r-pushing : (P : Push) (w : State) {φ : Phase} → ReleaseNoted P (s .hand .state) w → PushRelated regions a m s P φ
+      → WorkRelated regions a m s (pushing (plainPush P (s .class) (purposeOf (s .unit)) (s .hand) w) φ)
   r-a3-read : s .place ≡ A3-READ → WorkRelated regions a m s (a3-read (s .class) (s .hand .descriptor))
   -- the noted anchor is PARTIAL, names a block, and counts 1 to n
   r-a3-exchange : {n : Note} → s .place ≡ A3-EXCHANGE
@@ -168,25 +168,26 @@ pub data WorkRelated (regions : ℕ) (a : Contents) (m : Mem) (s : Slot) : Work 
   r-a7 : s .place ≡ A7 → WorkRelated regions a m s (a7 (s .class) (s .hand .descriptor) (s .hand .region))
   r-a8 : s .place ≡ A8 → WorkRelated regions a m s (a8 (s .class) (s .hand .region) (s .hand .index))
   r-f1 : s .place ≡ F1 → WorkRelated regions a m s (f1 (s .class) (s .unit))
-  r-f2 : s .place ≡ F2 → s .group .count ≡ 0 → WorkRelated regions a m s (f2 (s .class) (s .unit) [])
+  r-f2 : s .place ≡ F2 → s .group .count ≡ 0 → WorkRelated regions a m s (f2 (s .class) (purposeOf (s .unit)) [])
   r-f2-more : {y : ℕ} {g : List ℕ} → s .place ≡ F2 → GroupRelated a s y g
-      → WorkRelated regions a m s (f2 (s .class) (s .unit) (y ∷ g))
+      → WorkRelated regions a m s (f2 (s .class) (purposeOf (s .unit)) (y ∷ g))
   r-f3-read : {y : ℕ} {g : List ℕ} → s .place ≡ F3-READ → GroupRelated a s y g
-      → WorkRelated regions a m s (f3-read (s .class) (s .unit) y g)
+      → WorkRelated regions a m s (f3-read (s .class) (purposeOf (s .unit)) y g)
   r-f3-link : {y : ℕ} {g : List ℕ} {n : Note} → s .place ≡ F3-LINK → GroupRelated a s y g
       → NoteRelated m (s .class) (s .hand .descriptor) n (s .noted .anchor)
       → s .group .count + s .noted .anchor .count ≤ perRegion (s .class)
-      → WorkRelated regions a m s (f3-link (s .class) (s .unit) y g (s .hand .descriptor) n)
+      → WorkRelated regions a m s (f3-link (s .class) (purposeOf (s .unit)) y g (s .hand .descriptor) n)
   r-f3-exchange : {y : ℕ} {g : List ℕ} {n : Note} → s .place ≡ F3-EXCHANGE → (G : GroupRelated a s y g)
       → NoteRelated m (s .class) (s .hand .descriptor) n (s .noted .anchor)
       → s .group .count + s .noted .anchor .count ≤ perRegion (s .class)
       → link (a .area) (G .last) ≡ s .noted .anchor .avail
-      → WorkRelated regions a m s (f3-exchange (s .class) (s .unit) y g (s .hand .descriptor) n)
+      → WorkRelated regions a m s (f3-exchange (s .class) (purposeOf (s .unit)) y g (s .hand .descriptor) n)
   r-f4-clear : {w : State} → s .place ≡ F4-CLEAR → s .hand .state ≡ stateNumber w
-      → WorkRelated regions a m s (f4-clear (s .class) (s .unit) (s .hand .descriptor) w (s .hand .region))
+      → WorkRelated regions a m s (f4-clear (s .class) (purposeOf (s .unit)) (s .hand .descriptor) w (s .hand .region))
   -- the order of the strip that is to be taken stands where a class does
   r-strip-take : s .place ≡ STRIP-TAKE → WorkRelated regions a m s (strip-take (s .class))
   r-strip-give : {q : ℕ} → s .place ≡ STRIP-GIVE → s .unit ≡ stripUnit q → WorkRelated regions a m s (strip-give q)
+  r-leave-end : s .place ≡ LEAVE-END → WorkRelated regions a m s leave-end
 
 -- Any place: a task is idle, or at work.
 pub data PlaceRelated (regions : ℕ) (a : Contents) (m : Mem) (s : Slot) : Place → Type 0 where

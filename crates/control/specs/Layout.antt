@@ -7,6 +7,7 @@ use mathlib.Core.Path.{_≡_}
 use mathlib.Core.List.{List, [], _∷_}
 use lib.ListN.{length}
 use Rattle.limits.specs.Limits.{CONTROL-BYTES, UNITS, TASKS, REGIONS, DESCRIPTORS, LISTS, WORD-MARKS, SLOTS}
+use Rattle.limits.specs.Limits.{BOTH-UNITS}
 use Rattle.fields.specs.Columns.{Column, Field, View, Write, view, written}
 
 -- `count` numbers of `width` bytes each, from the byte `start` on
@@ -91,12 +92,16 @@ CacheTop t c = TopOfCache (CACHES-OF-TASK * t + c)
 abbrev pub CacheCount : ℕ → ℕ → Field
 CacheCount t c = CountOfCache (CACHES-OF-TASK * t + c)
 
--- the unit of the block or strip that a task frees
+-- the unit of the block or strip that a task frees; LEAVING from the beginning of leaving to that of a free
 abbrev pub taskUnits : Column
 taskUnits = column 5504 2 TASKS
 
 abbrev pub TaskUnit : ℕ → Field
 TaskUnit = fieldOf taskUnits
+
+-- what stands in the place of a unit while a task leaves: the first number that is no unit, of either memory
+abbrev pub LEAVING : ℕ
+LEAVING = BOTH-UNITS
 
 -- the index of the block that a task moves or carves next
 abbrev pub taskIndexes : Column
@@ -140,7 +145,8 @@ taskPlaces = column 5632 1 TASKS
 abbrev pub TaskPlace : ℕ → Field
 TaskPlace = fieldOf taskPlaces
 
--- the class of the block that a task's request is for, or the order of its strip
+-- the class of the block that a task's request is for, or the order of its strip; in leaving, that of the cache that is
+-- returned
 abbrev pub taskClasses : Column
 taskClasses = column 5640 1 TASKS
 
@@ -154,21 +160,21 @@ taskNexts = column 5648 1 TASKS
 abbrev pub TaskNext : ℕ → Field
 TaskNext = fieldOf taskNexts
 
--- the descriptor that a task has in hand; in a free, the group's
+-- the descriptor that a task has in hand; in a return, the group's
 abbrev pub taskDescriptors : Column
 taskDescriptors = column 5656 1 TASKS
 
 abbrev pub TaskDescriptor : ℕ → Field
 TaskDescriptor = fieldOf taskDescriptors
 
--- the region that a task has in hand; in a free, the group's
+-- the region that a task has in hand; in a return, the group's
 abbrev pub taskRegions : Column
 taskRegions = column 5664 1 TASKS
 
 abbrev pub TaskRegion : ℕ → Field
 TaskRegion = fieldOf taskRegions
 
--- the state in which a free found the anchor that it exchanged
+-- the state in which a return found the anchor that it exchanged
 abbrev pub taskStates : Column
 taskStates = column 5672 1 TASKS
 

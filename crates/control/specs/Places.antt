@@ -1,6 +1,7 @@
 -- docs/POOL.md, "Requests, steps and moves"
 -- The places of the step list, by number: `TaskPlace` of a task holds one of them. A move of a list has three in a row:
--- its head read, its next and its exchange. docs/LAYOUT.md has the same table in words.
+-- its head read, its next and its exchange. The places of free's steps 2 to 5 are those of leaving, too: "returned as
+-- in free, steps 2 to 6" (the request for leaving). docs/LAYOUT.md has the same table in words.
 use Prim.Native.Nat.{ℕ}
 
 -- no request in hand
@@ -91,9 +92,13 @@ STRIP-TAKE = 34
 abbrev pub STRIP-GIVE : ℕ
 STRIP-GIVE = 35
 
+-- leaving: "one further step, after all are empty, finishes the request" (the request for leaving)
+abbrev pub LEAVE-END : ℕ
+LEAVE-END = 36
+
 -- how many places there are, that of an idle task with them
 abbrev pub PLACES : ℕ
-PLACES = 36
+PLACES = 37
 
 -- the next of a move is so many places past its head read
 abbrev pub TO-NEXT : ℕ

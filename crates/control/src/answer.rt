@@ -10,7 +10,7 @@ pub enum Answer {
     Accepted,
     // An allocation finished with the block or strip at this unit.
     Allocated(u16),
-    // A free finished.
+    // A free finished, or leaving.
     Freed,
     // The request ended: no descriptor.
     NoDescriptor,

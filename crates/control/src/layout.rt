@@ -17,8 +17,8 @@ pub const CACHE_TOPS: usize = 4992;
 
 pub const CACHE_COUNTS: usize = 5248;
 
-// What a task has under way: the block or strip that it frees, the block that it moves or carves next, how many are
-// left to move.
+// What a task has under way: the block or strip that it frees, or that it leaves; the block that it moves or carves
+// next, how many are left to move.
 pub const TASK_UNITS: usize = 5504;
 
 pub const TASK_INDEXES: usize = 5520;

@@ -40,7 +40,10 @@ pub fn set_task_anchor(c: &mut [u8], task: usize, value: u64)
     fields::store64(c, layout::TASK_ANCHORS + task * 8, value);
 }
 
-// The unit of the block or strip that a task frees.
+// What stands in the place of a unit while a task leaves: the first number that is no unit, of either memory.
+pub const LEAVING: u16 = limits::BOTH_UNITS as u16;
+
+// The unit of the block or strip that a task frees; LEAVING while it leaves.
 pub fn task_unit(c: &[u8], task: usize) -> u16
     requires { ⌜ Control (now c) × (task < TASKS) ⌝ }
     ensures { λ r. ⌜ r ≡ seen (now (c .entry)) (TaskUnit task) ⌝ }

@@ -1,5 +1,5 @@
 // The places of the step list, by number: those of specs/Places.antt. A move of a list has three in a row: its head
-// read, its next and its exchange.
+// read, its next and its exchange. The places of free's steps 2 to 5 are those of leaving, too.
 pub const IDLE: u8 = 0;
 
 // Allocate 1: the cache.
@@ -55,8 +55,11 @@ pub const STRIP_TAKE: u8 = 34;
 
 pub const STRIP_GIVE: u8 = 35;
 
+// Leaving: all caches are empty, and one further step finishes.
+pub const LEAVE_END: u8 = 36;
+
 // How many places there are, that of an idle task with them.
-pub const PLACES: u8 = 36;
+pub const PLACES: u8 = 37;
 
 // The next and the exchange of a move are so many places past its head read.
 pub const TO_NEXT: u8 = 1;

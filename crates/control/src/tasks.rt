@@ -24,7 +24,8 @@ pub fn set_task_place(c: &mut [u8], task: usize, value: u8)
     fields::store8(c, layout::TASK_PLACES + task, value);
 }
 
-// The class of the block that a task's request is for, or the order of its strip.
+// The class of the block that a task's request is for, or the order of its strip; in leaving, that of the cache that is
+// returned.
 pub fn task_class(c: &[u8], task: usize) -> u8
     requires { ⌜ Control (now c) × (task < TASKS) ⌝ }
     ensures { λ r. ⌜ r ≡ seen (now (c .entry)) (TaskClass task) ⌝ }
@@ -69,7 +70,7 @@ pub fn set_task_descriptor(c: &mut [u8], task: usize, value: u8)
     fields::store8(c, layout::TASK_DESCRIPTORS + task, value);
 }
 
-// The region that a task has in hand; in a free, its group's.
+// The region that a task has in hand; in a return, its group's.
 pub fn task_region(c: &[u8], task: usize) -> u8
     requires { ⌜ Control (now c) × (task < TASKS) ⌝ }
     ensures { λ r. ⌜ r ≡ seen (now (c .entry)) (TaskRegion task) ⌝ }
@@ -84,7 +85,7 @@ pub fn set_task_region(c: &mut [u8], task: usize, value: u8)
     fields::store8(c, layout::TASK_REGIONS + task, value);
 }
 
-// The state in which a free found the anchor that it exchanged.
+// The state in which a return found the anchor that it exchanged.
 pub fn task_state(c: &[u8], task: usize) -> u8
     requires { ⌜ Control (now c) × (task < TASKS) ⌝ }
     ensures { λ r. ⌜ r ≡ seen (now (c .entry)) (TaskState task) ⌝ }

@@ -6,7 +6,7 @@ use mathlib.Core.List.{List}
 use Prim.Native.Nat.{ℕ, _<_}
 use native.Mathlib.Omega.{arith}
 use borrow.Author.Tests.{eq-eqb, ne-eqb}
-use Rattle.plain.specs.Calls.{Call, Start, start, allocate, free, step}
+use Rattle.plain.specs.Calls.{Call, Start, start, allocate, free, leave, step}
 use Rattle.control.specs.Layout.{seen}
 use Rattle.control.specs.Answers.{CODES, codeOf, numberOf}
 use Rattle.control.specs.declared.answer.Answer.{Answer}
@@ -90,6 +90,14 @@ module _ (s lent left : Memories) (r : ℕ) where
       let B = both-refused (R .1 .0) (R .1 .1) (C .number) (code-small (free t u) lent) in
       record { leaves = B .0; answers = B .1 }
 
+  leave-shows : (t : ℕ) → Contract (leave t) lent left r → OtherLength s lent
+      → Shows (on-other (leave t) lent left r) s
+  unfolding Calls.leaveOutcome
+  leave-shows t C h =
+      let R = refused-alike s lent t _ _ h in
+      let B = both-refused (R .1 .0) (R .1 .1) (C .number) (code-small (leave t) lent) in
+      record { leaves = B .0; answers = B .1 }
+
   step-shows : (t : ℕ) → Contract (step t) lent left r → OtherLength s lent → Shows (on-other (step t) lent left r) s
   unfolding Calls.stepOutcome
   step-shows t C h =
@@ -160,6 +168,7 @@ other-shows : (k : Call) (lent left : Memories) (r : ℕ) (s : Memories) → Hap
 other-shows (start b) lent left r s h = start-shows s lent left r b (h .0)
 other-shows (allocate t size) lent left r s h = allocate-shows s lent left r t size (h .0) (h .1)
 other-shows (free t u) lent left r s h = free-shows s lent left r t u (h .0) (h .1)
+other-shows (leave t) lent left r s h = leave-shows s lent left r t (h .0) (h .1)
 other-shows (step t) lent left r s h = step-shows s lent left r t (h .0) (h .1)
 
 pub shows : (a : Act) (s : Memories) → Happens a s → Shows a s

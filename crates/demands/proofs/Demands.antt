@@ -15,7 +15,7 @@ use Rattle.fields.specs.Columns.{View, _:=_}
 use Rattle.links.specs.Link.{link, withLinks}
 use Rattle.classes.specs.Sizes.{classOf}
 use Rattle.pieces.specs.StripSizes.{orderOf}
-use Rattle.plain.specs.Calls.{Pool, Call, Start, start, allocate, free, step, unstarted, Lengths}
+use Rattle.plain.specs.Calls.{Pool, Call, Start, start, allocate, free, leave, step, unstarted, Lengths}
 use Rattle.plain.specs.Calls as Plain
 use Rattle.control.specs.Layout.{seen, changed, TaskPlace, TaskClass, Regions}
 use Rattle.control.specs.Answers.{numberOf}
@@ -34,12 +34,13 @@ use Rattle.agreement.proofs.Ends.{place-answers}
 use Rattle.agreement.proofs.Theorem.{reached-agrees, agreement-from-start}
 use Rattle.demands.specs.AnswerKinds.{Refusal, Begun, BegunBlock, BegunStrip}
 use Rattle.demands.specs.Tests.{firstFailed, Passes, startTests, callTests, requestTests, allocateTests}
-use Rattle.demands.specs.Tests.{freeTests, stepTests}
+use Rattle.demands.specs.Tests.{freeTests, leaveTests, stepTests}
 use Rattle.demands.specs.Acts.{Act, on-own, on-other, write, write-strip, Contract, Happens, AllHappen}
 use Rattle.demands.specs.Acts.{eventOfCall, eventOfAct, eventsOfActs, Answered}
 use Rattle.demands.specs.Acts.{OtherLeft, Tells, Told, WhereverActs}
 use Rattle.demands.proofs.NumberTells.{refused, accepted}
-use Rattle.demands.proofs.Failing.{start-first, allocate-first, free-first, step-first, none-failed, later}
+use Rattle.demands.proofs.Failing.{start-first, allocate-first, free-first, leave-first, step-first}
+use Rattle.demands.proofs.Failing.{none-failed, later}
 use Rattle.demands.proofs.Acting.{shows}
 use Rattle.demands.proofs.ReachingByActs.{along-acts}
 
@@ -87,6 +88,10 @@ module _ (lent left : Memories) (r : ℕ) where
   pub free-refused-first : (t u : ℕ) → Contract (free t u) lent left r
       → r ≡ firstFailed (freeTests long (seen (lent .control)) t u) 0
   free-refused-first t u C = C .number ∙ free-first long (seen (lent .control)) t u
+
+  pub leave-refused-first : (t : ℕ) → Contract (leave t) lent left r
+      → r ≡ firstFailed (leaveTests long (seen (lent .control)) t) 0
+  leave-refused-first t C = C .number ∙ leave-first long (seen (lent .control)) t
 
   -- a step answers the number of the first test that fails; where all pass, that of the step at the task's place
   pub step-refused-first : (t : ℕ) → Contract (step t) lent left r

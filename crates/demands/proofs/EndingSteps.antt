@@ -8,7 +8,7 @@ use Rattle.limits.specs.Limits.{TASKS}
 use Rattle.fields.specs.Columns.{View}
 use Rattle.fields.specs.Little.{Bytes}
 use Rattle.links.specs.Link.{link}
-use Rattle.plain.specs.Calls.{Pool, Call, start, allocate, free, step, Lengths}
+use Rattle.plain.specs.Calls.{Pool, Call, start, allocate, free, leave, step, Lengths}
 use Rattle.control.specs.Layout.{seen, TaskPlace}
 use Rattle.control.specs.Places.{IDLE, STRIP-TAKE}
 use Rattle.control.specs.Answers.{numberOf}
@@ -24,7 +24,7 @@ use Rattle.agreement.specs.Handed.{EndsWith16}
 use Rattle.agreement.specs.Reached.{History, Reached}
 use Rattle.agreement.proofs.Ends.{step-ends, no-descriptor, no-region, no-strip, put-back}
 use Rattle.agreement.proofs.Handed as Handed
-use Rattle.agreement.proofs.SoundCalls.{step-place, step-others, allocate-others, free-others}
+use Rattle.agreement.proofs.SoundCalls.{step-place, step-others, allocate-others, free-others, leave-others}
 use Rattle.demands.specs.AnswerKinds.{EndsRequest, OfAnother}
 use Rattle.demands.specs.Acts.{Contract}
 use Rattle.demands.proofs.NumberTells.{ends-told, end-told}
@@ -122,6 +122,9 @@ others-stay (allocate t size) lent left r C bytes u h n =
 others-stay (free t unit) lent left r C bytes u h n =
     ap (λ (b : List ℕ). seen b (TaskPlace u)) (C .control-is)
     ∙ free-others n (lengths (lending lent)) (lent .control) bytes refl h unit
+others-stay (leave t) lent left r C bytes u h n =
+    ap (λ (b : List ℕ). seen b (TaskPlace u)) (C .control-is)
+    ∙ leave-others n (lengths (lending lent)) (lent .control) bytes refl h
 others-stay (step t) lent left r C bytes u h n =
     ap (λ (b : List ℕ). seen b (TaskPlace u)) (C .control-is)
     ∙ step-others n (lengths (lending lent)) (lent .control) bytes refl h (link (lent .area))

@@ -24,10 +24,12 @@ use Rattle.plain.specs.Moves.{nothing}
 use Rattle.stepped.specs.Outcome.{Outcome, accept, Memories, Effect}
 use Rattle.stepped.specs.Ranges.{oneTo, isAnchor}
 use Rattle.stepped.specs.StripSteps as StripSteps
+use Rattle.stepped.specs.Leaving.{nextCached, countFits, leaveFrom}
 use Rattle.stepped.specs.Steps as Steps
 use Rattle.stepped.specs.Calls as Calls
 use Rattle.demands.specs.Tests.{Test, firstFailed, Passes, startTests, callTests, idleTests, sizeTests}
-use Rattle.demands.specs.Tests.{unitTests, stripTests, requestTests, allocateTests, freeTests, stepTests}
+use Rattle.demands.specs.Tests.{unitTests, stripTests, requestTests, allocateTests, freeTests, searchTests}
+use Rattle.demands.specs.Tests.{leaveTests, stepTests}
 
 -- a test, and one that is asked the other way round, by the numbers of the two ways on
 module _ {A : Type 0} (f : A → ℕ) where
@@ -141,6 +143,12 @@ module _ (lent : Lengths) (v : View) (t : ℕ) where
   free-first u =
       let ts = cond (ltb u UNITS) (unitTests v u) (stripTests v u) in
       after-tests (idleTests v t ++ ts) 0 _ (when-idle ts 0 _ (either u))
+
+  pub leave-first : numbered (Calls.leaveOutcome lent v t) ≡ firstFailed (leaveTests lent v t) 0
+  unfolding Calls.leaveOutcome leaveFrom
+  leave-first =
+      after-tests (idleTests v t ++ searchTests v t) 0 _ (when-idle (searchTests v t) 0 _
+      (passes numbered (countFits v t (nextCached v t 0)) _ _ refl refl))
 
   pub step-first : (link : ℕ → ℕ)
       → numbered (Calls.stepOutcome lent v link t)

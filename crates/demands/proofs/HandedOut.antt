@@ -9,11 +9,8 @@ use Rattle.limits.specs.Limits.{LARGEST-SIZE, UNITS}
 use Rattle.fields.specs.Columns.{View}
 use Rattle.links.specs.Link.{link}
 use Rattle.plain.specs.State.{Mem}
-use Rattle.plain.specs.Moves as Moves
-use Rattle.plain.specs.Steps.{stepOf}
-use Rattle.plain.specs.Calls.{Pool, Lengths, step, StartedLengths}
-use Rattle.plain.specs.Calls as Plain
-use Rattle.plain.proofs.CallTests.{passed}
+use Rattle.plain.specs.Steps.{Result, stepOf}
+use Rattle.plain.specs.Calls.{Pool, Lengths, step}
 use Rattle.control.specs.Layout.{seen, TaskPlace, TaskClass, Regions}
 use Rattle.control.specs.Places.{A1}
 use Rattle.control.specs.Answers.{CODES, numberOf}
@@ -24,13 +21,13 @@ use Rattle.stepped.specs.Calls.{Tested, lending, lengths, stepOutcome}
 use Rattle.agreement.specs.Events.{whole}
 use Rattle.agreement.specs.Ends.{IsEnd}
 use Rattle.agreement.specs.Reached.{History, Reached}
-use Rattle.agreement.specs.Asked.{Asked, for-bytes, for-free, asked}
-use Rattle.agreement.specs.Handed.{AlignedBlock, Handed, StripHanded, StripGiven, Gives}
+use Rattle.agreement.specs.Asked.{Asked, for-bytes, for-free, for-leave, asked}
+use Rattle.agreement.specs.Handed.{AllEmpty, AlignedBlock, Handed, StripHanded, StripGiven, Gives}
 use Rattle.agreement.proofs.Ends.{step-ends, ends-by}
 use Rattle.agreement.proofs.Handed.{hands-out, handed, freed}
-use Rattle.agreement.proofs.Reaching.{reached-tied}
 use Rattle.demands.specs.Acts.{Contract, eventOfCall}
 use Rattle.demands.proofs.NumberTells.{finish-told}
+use Rattle.demands.proofs.WholeStep.{whole-step}
 
 module _ (s left : Memories) (r t : ℕ) (C : Contract (step t) s left r) (finished : r % CODES ≡ 20) where
   abbrev v : View
@@ -45,6 +42,14 @@ module _ (s left : Memories) (r t : ℕ) (C : Contract (step t) s left r) (finis
   -- the value that the step answers
   abbrev pub value : ℕ
   value = r / CODES
+
+  -- it passes the tests
+  pub finish-tested : Tested long v t
+  finish-tested =
+      ⊎-elim (λ f. ends-by long v (link (s .area)) t (Allocated (f .0)) tt (f .1) .0)
+      (λ f. ends-by long v (link (s .area)) t Freed tt f .0)
+      (finish-told (o .answer) (step-ends long v (link (s .area)) t .answers)
+      (subst (λ (n : ℕ). n % CODES ≡ 20) (C .number) finished))
 
   -- what holds of the unit that an allocation hands out, and of 0 where a free has finished, holds of the value
   of-value : (P : ℕ → Type 0) → ((u : ℕ) → o .answer ≡ Allocated u → P u) → (o .answer ≡ Freed → P 0)
@@ -61,7 +66,7 @@ module _ (s left : Memories) (r t : ℕ) (C : Contract (step t) s left r) (finis
   class-handed here =
       of-value (AlignedBlock (v Regions) (v (TaskClass t))) (λ u. hands-out long v (link (s .area)) t u here)
       (λ f. absurd
-      (⊎-elim (λ k. omega (arith, here, k)) (λ k. omega (arith, here, k))
+      (⊎-elim (λ k. omega (arith, here, k)) (⊎-elim (λ k. omega (arith, here, k)) (λ k. omega (arith, here, k)))
       (ends-by long v (link (s .area)) t Freed tt f .1)))
 
   module _ {h : History} {p : Pool} (R : Reached h s p) where
@@ -69,31 +74,16 @@ module _ (s left : Memories) (r t : ℕ) (C : Contract (step t) s left r) (finis
     abbrev pub after : Mem
     after = whole (eventOfCall (step t) s) p .0 .mem
 
-    -- a step that passes the tests makes the move of the plain pool
-    after-is : Tested long v t → after ≡ stepOf t (p .mem) .0
-    unfolding Plain.plainCall
-    after-is T =
-        let D = reached-tied R in
-        let k : 1 ≤ p .tasks = omega (arith, D .tasks, T .started) in
-        ap (λ (x : Pool × Moves.Answer). x .0 .mem)
-        (passed (stepOf t (p .mem))
-        (record {
-          control-is = T .control-is;
-          started = k;
-          lengths = subst (StartedLengths long) (D .regions k) (T .lengths-are);
-          below = omega (arith, D .tasks, T .below);
-        }))
-
     -- Wherever a run has come, a step that finishes a request finishes what its task has asked for last. For `size`
     -- bytes up to 256 it hands out an aligned block, in the area, of the smallest class that holds them; for more an
     -- aligned strip, in the strips' memory, at least as large and less than twice as large, from the smallest
     -- sufficient free piece at the lowest place. Of a free the value is 0, and a strip is joined with the free halves
-    -- beside it.
+    -- beside it. Of leaving the value is 0, and all caches of the task are empty.
     pub asked-given : Gives (p .regions) (p .mem) after t (asked t h) value
     asked-given =
         let G : Mem → ℕ → Type 0 = λ m u. Gives (p .regions) (p .mem) m t (asked t h) u in
         let ended : (a : Answer) → IsEnd a → o .answer ≡ a → after ≡ stepOf t (p .mem) .0 =
-        λ a i e. after-is (ends-by long v (link (s .area)) t a i e .0) in
+        λ a i e. ap (λ (x : Result). x .0) (whole-step R t (ends-by long v (link (s .area)) t a i e .0)) in
         of-value (G after)
         (λ u e. subst⁻¹ (λ m. G m u) (ended (Allocated u) tt e) (handed R long t u e))
         (λ e. subst⁻¹ (λ m. G m 0) (ended Freed tt e) (freed R long t e))
@@ -115,3 +105,7 @@ module _ (s left : Memories) (r t : ℕ) (C : Contract (step t) s left r) (finis
     pub strip-given : (unit : ℕ) → asked t h ≡ for-free unit → UNITS ≤ unit
         → StripGiven (p .mem .strips) (after .strips) t unit
     strip-given unit e = given (for-free unit) e .1
+
+    -- the same of leaving: "one further step, after all are empty, finishes the request" (the request for leaving)
+    pub left-empty : asked t h ≡ for-leave → (value ≡ 0) × AllEmpty (after .task t .cache)
+    left-empty e = given for-leave e

@@ -5,5 +5,7 @@ pub mod Acting
 pub mod ReachingByActs
 pub mod Backing
 pub mod EndingSteps
+pub mod WholeStep
 pub mod HandedOut
 pub mod Demands
+pub mod TaskLeaves

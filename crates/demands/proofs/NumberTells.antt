@@ -9,20 +9,20 @@ use borrow.Author.Tests.{eqb-true, ltb-true}
 use lib.Dec.{eqb, ltb}
 use Rattle.links.specs.Link.{link}
 use Rattle.plain.specs.Moves.{Decided}
-use Rattle.plain.specs.Calls.{Call, start, allocate, free, step}
+use Rattle.plain.specs.Calls.{Call, start, allocate, free, leave, step}
 use Rattle.control.specs.Layout.{seen}
 use Rattle.control.specs.Answers.{CODES, codeOf, valueOf, numberOf}
 use Rattle.control.specs.declared.answer.Answer.{Answer}
 use Rattle.control.specs.declared.answer.Answer.the-variants.{Accepted, Allocated, Freed, NoDescriptor, NoRegion}
 use Rattle.control.specs.declared.answer.Answer.the-variants.{NoStrip, Refused}
 use Rattle.agreement.specs.Ends.{oneOf, Begins, StepAnswers, IsEnd, startRefusals, allocateRefusals, freeRefusals}
-use Rattle.agreement.specs.Ends.{stepRefusals}
+use Rattle.agreement.specs.Ends.{leaveRefusals, stepRefusals}
 use Rattle.control.proofs.AnswerNumber.{number-is}
 use Rattle.stepped.specs.Outcome.{Memories}
 use Rattle.stepped.specs.Calls.{effectOf, lending, lengths}
 use Rattle.stepped.proofs.Conjunction.{left-true, right-true}
 use Rattle.agreement.proofs.Ends.{step-ends}
-use Rattle.agreement.proofs.BeginningEnds.{start-ends, allocate-ends, free-ends}
+use Rattle.agreement.proofs.BeginningEnds.{start-ends, allocate-ends, free-ends, leave-ends}
 use Rattle.demands.specs.AnswerKinds.{Refusal, EndsRequest}
 use Rattle.demands.specs.Acts.{Number}
 
@@ -68,6 +68,9 @@ code-small (allocate t size) s =
 code-small (free t u) s =
     begins-small freeRefusals refl (effectOf (free t u) s .answer)
     (free-ends (lengths (lending s)) (seen (s .control)) t u .answers)
+code-small (leave t) s =
+    begins-small leaveRefusals refl (effectOf (leave t) s .answer)
+    (leave-ends (lengths (lending s)) (seen (s .control)) t .answers)
 code-small (step t) s =
     answer-small stepRefusals refl (effectOf (step t) s .answer)
     (λ n e. subst (StepAnswers stepRefusals) e

@@ -9,7 +9,7 @@ use lib.Dec.{eqb}
 use lib.ListN.{length, set}
 use Rattle.limits.specs.Limits.{CONTROL-BYTES}
 use Rattle.plain.specs.Moves.{Answer}
-use Rattle.plain.specs.Calls.{Pool, Call, start, allocate, free, step, StartedLengths}
+use Rattle.plain.specs.Calls.{Pool, Call, start, allocate, free, leave, step, StartedLengths}
 use Rattle.control.specs.Layout.{Tasks, Regions, seen}
 use Rattle.control.specs.Answers.{CODES}
 use Rattle.stepped.specs.Outcome.{Memories}
@@ -48,6 +48,7 @@ abbrev pub Lendable : Call → Memories → Memories → Type 0
 Lendable (start b) s lent = Unit {0}
 Lendable (allocate t size) s lent = OtherLength s lent
 Lendable (free t u) s lent = OtherLength s lent
+Lendable (leave t) s lent = OtherLength s lent
 Lendable (step t) s lent = OtherLength s lent
 
 -- all that is known of an act is the contract of the function that was called
@@ -63,6 +64,7 @@ abbrev pub afterOther : Call → Memories → ℕ → Memories → Memories
 afterOther (start b) left number s = cond (eqb number 0) left s
 afterOther (allocate t size) left number s = s
 afterOther (free t u) left number s = s
+afterOther (leave t) left number s = s
 afterOther (step t) left number s = s
 
 -- the pool's memories after an act

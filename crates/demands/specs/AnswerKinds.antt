@@ -10,9 +10,10 @@ use Rattle.control.specs.Answers.{CODES}
 use Rattle.fields.specs.Columns.{_:=_}
 use Rattle.classes.specs.Classes.{block}
 use Rattle.pieces.specs.StripSizes.{RoundsTo}
-use Rattle.control.specs.Layout.{changed, TaskPlace, TaskClass}
-use Rattle.plain.specs.Calls.{Call, start, allocate, free, step}
+use Rattle.control.specs.Layout.{seen, changed, TaskPlace, TaskClass, TaskUnit, LEAVING}
+use Rattle.plain.specs.Calls.{Call, start, allocate, free, leave, step}
 use Rattle.stepped.specs.Outcome.{Memories}
+use Rattle.stepped.specs.Leaving.{nextCached, leaveWrites}
 
 -- "A refused call answers the number": 1 to 14, but for 12 and 13, which "refuse no call". 16 is past them: it "ends a
 -- request" (the request for strips), and refuses no call either.
@@ -28,6 +29,7 @@ abbrev pub OfAnother : ℕ → Call → Type 0
 OfAnother u (start b) = ⊥
 OfAnother u (allocate t size) = u ≢ t
 OfAnother u (free t unit) = u ≢ t
+OfAnother u (leave t) = u ≢ t
 OfAnother u (step t) = u ≢ t
 
 -- "Beginning a request does no step": that of an allocation has set the task's place and its class, or order, and
@@ -52,3 +54,12 @@ pub record BegunStrip (t size : ℕ) (before after : Memories) : Type 0 where
   pub order : ℕ
   pub rounds : RoundsTo size order
   pub begun : Begun t STRIP-TAKE order before after
+
+-- "Beginning a request does no step": that of leaving has set the task's place, and its class and a group of none where
+-- it goes on with a cache, and LEAVING in the place of a unit; it changed no other byte. The cache is the first that is
+-- not empty, "in rising order of class" (the request for leaving); with all empty the task is at the last step.
+pub record BegunLeaving (t : ℕ) (before after : Memories) : Type 0 where
+  pub control-is : let v = seen (before .control) in
+      after .control ≡ changed (leaveWrites v t (nextCached v t 0) (TaskUnit t := LEAVING ∷ [])) (before .control)
+  pub area-is : after .area ≡ before .area
+  pub strips-is : after .strips ≡ before .strips

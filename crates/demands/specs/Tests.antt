@@ -19,6 +19,7 @@ use Rattle.strip_tree.specs.TreeMoves.{canBegin}
 use Rattle.plain.specs.Calls.{Start, Lengths}
 use Rattle.control.specs.Layout.{Anchor, Marks, TaskPlace, TaskClass, DescriptorRegion, DescriptorClass, Map, Tasks}
 use Rattle.control.specs.Layout.{Regions, SlotByte}
+use Rattle.stepped.specs.Leaving.{nextCached, countFits}
 use Rattle.stepped.specs.Ranges.{oneTo, isAnchor}
 
 -- a test: what it asks, and the number by which it refuses a call that fails it
@@ -119,6 +120,14 @@ allocateTests lent v t size = callTests lent v t ++ (idleTests v t ++ sizeTests 
 abbrev pub freeTests : Lengths → View → ℕ → ℕ → List Test
 freeTests lent v t u =
     callTests lent v t ++ (idleTests v t ++ cond (ltb u UNITS) (unitTests v u) (stripTests v u))
+
+-- the count of the first cache that is not empty is in its range: it is read at the beginning of leaving
+abbrev pub searchTests : View → ℕ → List Test
+searchTests v t = countFits v t (nextCached v t 0) or 14 ∷ []
+
+-- all tests of the beginning of leaving: "Tests for a request in hand apply as for any other" (the request for leaving)
+abbrev pub leaveTests : Lengths → View → ℕ → List Test
+leaveTests lent v t = callTests lent v t ++ (idleTests v t ++ searchTests v t)
 
 -- all tests of a step before the step itself
 abbrev pub stepTests : Lengths → View → ℕ → List Test

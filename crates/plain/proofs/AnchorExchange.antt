@@ -23,6 +23,7 @@ use Rattle.plain.specs.TaskHolds.{NoteHolds, PlaceHolds}
 use Rattle.plain.specs.Invariant.{OpenDescriptor, ClosedDescriptor, Invariant}
 use Rattle.plain.proofs.ByState.{open-holds, open-asks, open-not-empty, empty-is}
 use Rattle.plain.proofs.NotesKept.{as-before}
+use Rattle.plain.proofs.Held.{Alike}
 use Rattle.plain.proofs.Turn.{Turn, Bounded, fewer, enough, as-mapped, turn-inv}
 use Rattle.plain.proofs.PlaceAlone.{taskOf, lengths}
 
@@ -89,27 +90,27 @@ pub record Anchored (m : Mem) (d : ℕ) (E : Descriptor) (h h′ : Held) : Type 
 
 module _ {area : ℕ} {m : Mem} {t : ℕ} {p : Place} {k : ℕ → List ℕ} (w : Turn area m t (taskOf p k)) where
   -- An exchange of an anchor that shows what it has to show keeps the invariant.
-  pub anchored : {h′ : Held} (p′ : Place) (d : ℕ) (E : Descriptor) → held p′ ≡ h′ → Anchored m d E (held p) h′
+  pub anchored : {h′ : Held} (p′ : Place) (d : ℕ) (E : Descriptor) → Alike (held p′) h′ → Anchored m d E (held p) h′
       → PlaceHolds k p′ → NoteHolds (m .row) (m .won) (m .map) p′
       → Invariant area (atPlace t k p′ (setDescriptor d E m))
   anchored p′ d E e a o n = turn-inv w _ (taskOf p′ k) refl (record {
     descriptors = λ x. omega (
       arith,
       a .descriptors x,
-      ap (descriptorIn x) e,
+      e .descriptors x,
       total-update DESCRIPTORS (fullWeight x) (m .descriptor) d E (a .fits),
     );
     regions = λ r. omega (
       arith,
       a .regions r,
-      ap (regionIn r) e,
+      e .regions r,
       total-update DESCRIPTORS (openWeight r) (m .descriptor) d E (a .fits),
     );
     classes = classes;
     spares = λ x. fewer (omega (
       arith,
       a .spares x,
-      ap (spareIn x) e,
+      e .spares x,
       weight-update (λ (F : Descriptor). oneIfEmpty (F .state)) (m .descriptor) d E x,
       ap (when x d) (open-not-empty (m .descriptor d .state) (a .counts)),
       when-zero x d,
@@ -117,7 +118,7 @@ module _ {area : ℕ} {m : Mem} {t : ℕ} {p : Place} {k : ℕ → List ℕ} (w 
     blocks = λ v. omega (
       arith,
       a .blocks v,
-      ap (blockIn v) e,
+      e .blocks v,
       total-update DESCRIPTORS (chainWeight v) (m .descriptor) d E (a .fits),
       total-update DESCRIPTORS (insideWeight v) (m .descriptor) d E (a .fits),
     );
@@ -125,7 +126,7 @@ module _ {area : ℕ} {m : Mem} {t : ℕ} {p : Place} {k : ℕ → List ℕ} (w 
       arith,
       w .inv .blockClasses c v,
       a .blockClasses c v,
-      ap (classBlockIn c v) e,
+      e .blockClasses c v,
       total-update DESCRIPTORS (chainClassWeight c v) (m .descriptor) d E (a .fits),
       total-update DESCRIPTORS (insideClassWeight c v) (m .descriptor) d E (a .fits),
     );
@@ -136,7 +137,7 @@ module _ {area : ℕ} {m : Mem} {t : ℕ} {p : Place} {k : ℕ → List ℕ} (w 
     maps = update-all (λ j F. j < DESCRIPTORS → IfOpen (F .state) (m .map (F .region) ≡ suc j)) (m .descriptor) d E
         (λ l. open-asks (E .state) (still-named l)) (λ j n. w .inv .maps j);
     entries = w .inv .entries;
-    unmapped = λ r. as-mapped (omega (arith, a .unmapped r, ap (unmappedIn r) e)) refl;
+    unmapped = λ r. as-mapped (omega (arith, a .unmapped r, e .unmapped r)) refl;
     own = record { lengths = lengths w; place = o; note = n };
     kept = λ r h. refl;
     exchanges = λ ℓ. as-before refl refl;
@@ -169,7 +170,7 @@ module _ {area : ℕ} {m : Mem} {t : ℕ} {p : Place} {k : ℕ → List ℕ} (w 
             arith,
             same-class c x,
             a .classes c x,
-            ap (listedIn c x) e,
+            e .classes c x,
             when-other c (m .descriptor d .class) (one x d) g,
           ))
         ]
@@ -177,7 +178,7 @@ module _ {area : ℕ} {m : Mem} {t : ℕ} {p : Place} {k : ℕ → List ℕ} (w 
           arith,
           same-class c x,
           a .classes c x,
-          ap (listedIn c x) e,
+          e .classes c x,
           ap (when c (m .descriptor d .class)) (when-other x d 1 f),
           when-zero c (m .descriptor d .class),
         ))

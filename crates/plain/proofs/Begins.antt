@@ -23,7 +23,7 @@ use Rattle.pieces.proofs.StripGiving.{strip-fits}
 use Rattle.pieces.proofs.StripSizes.{rounds}
 use Rattle.plain.specs.State.{idle, a1, f1, strip-take, strip-give, Work, Task, Mem, working, setStrips}
 use Rattle.plain.specs.Calls.{beginAllocate, firstPlace, Opens, opens?, First, first?, freeIn, freeEntry}
-use Rattle.plain.specs.Calls.{freeStripAt}
+use Rattle.plain.specs.Calls.{freeStripAt, beginLeave}
 use Rattle.plain.specs.Steps.{atPlace}
 use Rattle.plain.specs.Blocks.{countBlock}
 use Rattle.plain.specs.ByState.{IsOpen}
@@ -37,7 +37,8 @@ use Rattle.plain.proofs.ByState.{open-le, open-is, open-holds}
 use Rattle.plain.proofs.Homes.{inside-open}
 use Rattle.plain.proofs.NotesKept.{as-before}
 use Rattle.plain.proofs.Turn.{Turn, fewer, as-mapped, turn-inv}
-use Rattle.plain.proofs.PlaceAlone.{taskOf, turnAt, placed-empty}
+use Rattle.plain.proofs.PlaceAlone.{taskOf, turnAt, lengths, placed-alike, placed-empty}
+use Rattle.plain.proofs.Continues.{leaves-to, leaves-held, leaves-holds, leaves-note}
 use Rattle.plain.proofs.StripChanges.{strips-aside}
 
 -- What a task has for a class, it has.
@@ -120,6 +121,14 @@ module _ {area : ℕ} {m : Mem} (t : ℕ) (l : t < TASKS) (I : Invariant area m)
       (λ b. either (λ w. Invariant area (atPlace t (m .task t .cache) (working w) m)) (decLt LARGEST-SIZE size) _ _
       (λ c. placed-empty turn _ refl refl (omega (arith, rounds size (omega arith) .within)) tt)
       (λ c. placed-empty turn _ refl refl (is-class size (omega arith)) tt)))
+
+  -- The beginning of leaving keeps the invariant.
+  pub leave-inv : KeepsInvariant area (beginLeave t m)
+  leave-inv =
+      let k = m .task t .cache in
+      let to = leaves-to k CLASSES 0 in
+      placed-alike turn _ (leaves-held 0 to) (leaves-holds k (lengths turn) (omega arith) to)
+      (leaves-note (m .row) (m .won) (m .map) k to)
 
   -- The beginning of a strip's free keeps it.
   pub free-strip-inv : (s : ℕ) (x : StripStart) → stripStarts (m .strips) s ≡ x

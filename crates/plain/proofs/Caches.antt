@@ -19,11 +19,11 @@ use Rattle.rows.proofs.Totals.{total-one, total-update}
 use Rattle.classes.specs.Classes.{perRegion}
 use Rattle.classes.specs.Geometry.{unitOf, regionOf}
 use Rattle.classes.proofs.Tables.{perRegion-low}
-use Rattle.plain.specs.State.{Place, idle, a1, a4, a8, f1, f2, Task, Mem, working}
+use Rattle.plain.specs.State.{Place, idle, a1, a4, a8, f1, f2, Task, Mem, working, Purpose}
 use Rattle.plain.specs.Steps.{cached, a1Step, a8Step, f1Step, f2Step, stepAt}
 use Rattle.plain.specs.Blocks.{blocksFrom}
 use Rattle.plain.specs.Held.{hold, held, blockIn, classBlockIn, descriptorIn, spareIn, listedIn, regionIn}
-use Rattle.plain.specs.Held.{unmappedIn, underWay}
+use Rattle.plain.specs.Held.{unmappedIn, underWay, ownBlocks}
 use Rattle.plain.specs.HolderWeights.{rowWeight, blockWeight}
 use Rattle.plain.specs.TaskHolds.{Together, NoteHolds, PlaceHolds}
 use Rattle.plain.specs.Invariant.{Invariant}
@@ -189,25 +189,37 @@ module _ {area : ℕ} {m : Mem} {t : ℕ} {k : ℕ → List ℕ} where
       (λ e. placed w _ refl (placeHolds w, omega (arith, perRegion-low c), omega (arith, lengths w c), tt) tt)
 
   -- Step 2: the top of the cache joins the group, or the group is closed.
-  pub f2-inv : (c u : ℕ) (q g : List ℕ) → k c ≡ q → Turn area m t (taskOf (working (f2 c u g)) k)
-      → KeepsInvariant area (f2Step t k c u q g m)
-  f2-inv c u [] [] e w = absurd (omega (arith, placeHolds w .1, ap length e))
-  f2-inv c u [] (y ∷ g) e w =
+  pub f2-inv : (c : ℕ) (z : Purpose) (q g : List ℕ) → k c ≡ q → Turn area m t (taskOf (working (f2 c z g)) k)
+      → KeepsInvariant area (f2Step t k c z q g m)
+  f2-inv c z [] [] e w = absurd (omega (arith, placeHolds w .1, ap length e))
+  f2-inv c z [] (y ∷ g) e w =
       let o = placeHolds w in
       placed w _ refl (o .0, omega (arith, ap length e), o .3) tt
-  f2-inv c u (x ∷ q) [] e w =
+  f2-inv c z (x ∷ q) [] e w =
       let o = placeHolds w in
-      recached w {b′ = u ∷ x ∷ []} _ c _ refl refl (o .0) (λ v. omega (arith, ap (count v) e))
+      recached w {b = ownBlocks z ++ []} {b′ = ownBlocks z ++ (x ∷ [])} _ c _ refl refl (o .0)
+      (λ v. omega (arith, ap (count v) e, count-append v (ownBlocks z) [], count-append v (ownBlocks z) (x ∷ [])))
       (omega (arith, ap length e))
       (o .0, omega arith, omega (arith, length-update k c q, ap length e), λ v h. absurd (omega arith)) tt
-  f2-inv c u (x ∷ q) (y ∷ g) e w =
+  f2-inv c z (x ∷ q) (y ∷ g) e w =
       let o = placeHolds w in
       either (KeepsInvariant area) (ℕ-discrete (regionOf x) (regionOf y)) _ _
-      (λ f. recached w _ c _ refl refl (o .0) (λ v. omega (arith, ap (count v) e, count-append v g (x ∷ [])))
+      (λ f. recached w _ c _ refl refl (o .0) joined
       (omega (arith, ap length e, lengths w c))
       (o .0, omega arith, longer, grown f) tt)
       (λ f. placed w _ refl (o .0, omega (arith, o .2), o .3) tt)
     where
+      joined : (v : ℕ)
+          → count v q + count v (ownBlocks z ++ (y ∷ (g ++ (x ∷ []))))
+          ≡ count v (k c) + count v (ownBlocks z ++ (y ∷ g))
+      joined v = omega (
+        arith,
+        ap (count v) e,
+        count-append v g (x ∷ []),
+        count-append v (ownBlocks z) (y ∷ (g ++ (x ∷ []))),
+        count-append v (ownBlocks z) (y ∷ g),
+      )
+
       longer : length (update k c q c) + length (y ∷ (g ++ (x ∷ []))) ≤ perRegion c
       longer =
           omega (arith, length-update k c q, ap length e, length-append g (x ∷ []), placeHolds w .2)

@@ -14,7 +14,7 @@ use Rattle.classes.specs.Geometry.{regionOf}
 use Rattle.plain.specs.State.{read, spare, region, back, Place, idle, pushing, Task, Mem, working}
 use Rattle.plain.specs.Moves.{found-empty, pushed, no-strip, Answer, ended, refused}
 use Rattle.plain.specs.Steps.{Result, popRead, pushPut, stripTakeStep, stepAt, stepOf, whenWorking}
-use Rattle.plain.specs.Calls.{Pool, Call, start, allocate, free, startMem, opens?}
+use Rattle.plain.specs.Calls.{Pool, Call, start, allocate, free, leave, startMem, opens?}
 use Rattle.plain.specs.Calls.{first?, freeEntry, stripUnit?, freeStripAt, StartedLengths}
 use Rattle.pieces.specs.Pieces.{free as free-piece, held, begun}
 use Rattle.pieces.specs.Strips.{StripTaken, StripStart, nowhere, here, stripStarts}
@@ -126,6 +126,9 @@ call-is (free t u) lent s =
     (λ z. either (Small c s) (stripUnit? u) _ _
     (λ a. small-strip c s (stripStarts (s .mem .strips) (slotOfUnit u)) t (slotOfUnit u))
     (λ a. small c s 10 (omega arith))))))
+call-is (leave t) lent s =
+    let c = leave t in
+    tested-is c s t lent _ (λ l. begins-is c s _ (small-idle c s (s .mem .task t .place) _ (omega arith, λ ℓ. refl)))
 call-is (step t) lent s =
     tested-is (step t) s t lent (stepOf t (s .mem)) (λ l. steps t refl l refl)
 

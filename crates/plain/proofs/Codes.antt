@@ -14,7 +14,9 @@ use Rattle.classes.specs.Classes.{perRegion}
 use Rattle.classes.specs.Geometry.{regionOf}
 use Rattle.plain.specs.State.{State, EMPTY, PARTIAL, FULL, Phase, read, next, exchange, Pop, partial, spare}
 use Rattle.plain.specs.State.{region, Push, retire, back, release, offer, Place, idle, a1, popping, pushing, a4}
-use Rattle.plain.specs.State.{a8, f3-read, f3-link, f4-clear, strip-take, strip-give, Task, Mem, working, Note}
+use Rattle.plain.specs.State.{a8, f3-read, f3-link, f4-clear, strip-take, strip-give, leave-end, Task, Mem, Work}
+use Rattle.plain.specs.State.{working}
+use Rattle.plain.specs.State.{Note, Purpose}
 use Rattle.pieces.specs.Strips.{StripTaken, none-found, strip-at, takeStrip}
 use Rattle.plain.specs.Moves.{Decided, nothing, lost, Answer, going, finishedBy, refused}
 use Rattle.plain.specs.Steps.{popList, pushList, f6, f5, moving, whenPopped, asNoted?, cached, popRead, popTake}
@@ -22,50 +24,8 @@ use Rattle.plain.specs.Steps.{pushPut, a1Step, a3Read, closed, f2Step, f
 use Rattle.plain.specs.Steps.{pushStep, a3Exchange, a7Step, a8Step, f1Step, f3Exchange, stripTakeStep}
 use Rattle.plain.specs.Codes.{StepCode, under-way, no-request, no-descriptor, no-region, finishes, WayBack, stays}
 use Rattle.plain.specs.Codes.{comes, StepFacts, no-stretch}
-use Rattle.plain.specs.Noted.{Noted, unnoted, pop-noted, push-noted, anchor-noted, entry-noted, noted}
 use Rattle.plain.proofs.CallTests.{either}
-
--- 1 for a push of a descriptor back, else 0
-abbrev isBack : Push → ℕ
-isBack (retire c d) = 0
-isBack (back c d) = 1
-isBack (release c u d w r) = 0
-isBack (offer c u d) = 0
-
--- 1 for what a push of a descriptor back has noted, else 0
-abbrev backNoted : Noted → ℕ
-backNoted unnoted = 0
-backNoted (pop-noted p φ) = 0
-backNoted (push-noted p φ) = isBack p
-backNoted (anchor-noted d n) = 0
-backNoted (entry-noted y d n) = 0
-
--- 1 at a place of a push of a descriptor back, else 0
-abbrev backAt : Place → ℕ
-backAt p = backNoted (noted p)
-
--- where the steps that are no end of a push or a pop lead to is no push back
-f6-back : (c u : ℕ) (q : List ℕ) → backAt (working (f6 q c u)) ≡ 0
-f6-back c u [] = refl
-f6-back c u (x ∷ q) = refl
-
-f5-back : (s : State) (q : List ℕ) (c u d : ℕ) → backAt (working (f5 s q c u d)) ≡ 0
-f5-back EMPTY q c u d = f6-back c u q
-f5-back PARTIAL q c u d = f6-back c u q
-f5-back FULL q c u d = refl
-
-moving-back : (c : ℕ) (q : List ℕ) → backAt (working (moving c q)) ≡ 0
-moving-back c [] = refl
-moving-back c (x ∷ q) = refl
-
-closed-back : (t : ℕ) (k : ℕ → List ℕ) (c u : ℕ) (g : List ℕ) → backAt (working (closed t k c u g)) ≡ 0
-closed-back t k c u [] = f6-back c u (k c)
-closed-back t k c u (y ∷ g) = refl
-
-popped-back : (p : Pop) (x : ℕ) → backAt (working (whenPopped p x)) ≡ 0
-popped-back (partial c) x = refl
-popped-back (spare c) x = refl
-popped-back (region c d) x = refl
+use Rattle.plain.proofs.PushesBack.{backAt, f6-back, f5-back, moving-back, closed-back, popped-back}
 
 -- a won exchange is one more
 one-more : (f : ℕ → ℕ) (i j : ℕ) → update f i (f i + 1) j ≤ f j + 1
@@ -182,8 +142,8 @@ module _ (t : ℕ) (k : ℕ → List ℕ) (m : Mem) where
     wayBack = λ c′ d′ χ i. to-back t m (sym (placed-at t m (m .task) _) ∙ i) (stays φ h);
     won = none-won;
   }
-  facts-pushOn (release c u d w r) φ ψ e h = goes t m _ refl refl none-won
-  facts-pushOn (offer c u d) φ ψ e h = goes t m _ refl refl none-won
+  facts-pushOn (release c z d w r) φ ψ e h = goes t m _ refl refl none-won
+  facts-pushOn (offer c z d) φ ψ e h = goes t m _ refl refl none-won
 
   facts-pushPut : (p : Push) (n : ℕ) → m .task t .place ≡ working (pushing p (exchange n)) → m .won (pushList p) ≡ n
       → StepFacts t m (pushPut t k p m)
@@ -196,8 +156,8 @@ module _ (t : ℕ) (k : ℕ → List ℕ) (m : Mem) where
     wayBack = λ c d φ i. absurd (omega (arith, ap backAt (sym (placed-at t m (m .task) _) ∙ i)));
     won = one-more (m .won) SPARE-DESCRIPTORS;
   }
-  facts-pushPut (release c u d w r) n h e = goes t m _ refl (f5-back w (k c) c u d) (one-more (m .won) SPARE-REGIONS)
-  facts-pushPut (offer c u d) n h e = goes t m _ refl (f6-back c u (k c)) (one-more (m .won) c)
+  facts-pushPut (release c z d w r) n h e = goes t m _ refl (f5-back w k c z d) (one-more (m .won) SPARE-REGIONS)
+  facts-pushPut (offer c z d) n h e = goes t m _ refl (f6-back k c z) (one-more (m .won) c)
 
   -- ---- the other steps
 
@@ -215,22 +175,22 @@ module _ (t : ℕ) (k : ℕ → List ℕ) (m : Mem) where
   facts-carved (yes e) c r i q = goes t m _ refl refl none-won
   facts-carved (no e) c r i q = goes t m _ refl refl none-won
 
-  pub facts-f2 : (c u : ℕ) (q g : List ℕ) → StepFacts t m (f2Step t k c u q g m)
-  facts-f2 c u [] g = goes t m _ refl (closed-back t k c u g) none-won
-  facts-f2 c u (x ∷ q) [] = goes t m _ refl refl none-won
-  facts-f2 c u (x ∷ q) (y ∷ g) =
+  pub facts-f2 : (c : ℕ) (z : Purpose) (q g : List ℕ) → StepFacts t m (f2Step t k c z q g m)
+  facts-f2 c z [] g = goes t m _ refl (closed-back t k c z g) none-won
+  facts-f2 c z (x ∷ q) [] = goes t m _ refl refl none-won
+  facts-f2 c z (x ∷ q) (y ∷ g) =
       either (StepFacts t m) (ℕ-discrete (regionOf x) (regionOf y)) _ _
       (λ e. goes t m _ refl refl none-won) (λ e. goes t m _ refl refl none-won)
 
-  pub facts-f3 : (z c u y : ℕ) (g : List ℕ) → m .task t .place ≡ working (f3-read c u y g)
-      → StepFacts t m (f3Read t k z c u y g m)
-  facts-f3 zero c u y g h = nothing-done t m (going nothing) under-way plain-0 (ap backAt h)
-  facts-f3 (suc d) c u y g h = goes t m _ refl refl none-won
+  pub facts-f3 : (i c : ℕ) (z : Purpose) (y : ℕ) (g : List ℕ) → m .task t .place ≡ working (f3-read c z y g)
+      → StepFacts t m (f3Read t k i c z y g m)
+  facts-f3 zero c z y g h = nothing-done t m (going nothing) under-way plain-0 (ap backAt h)
+  facts-f3 (suc d) c z y g h = goes t m _ refl refl none-won
 
-  facts-returned : {P : Type 0} (e : Dec P) (c u y : ℕ) (g : List ℕ) (d : ℕ) (w : State)
-      → StepFacts t m (f3Won t k e c u y g d w m)
-  facts-returned (yes e) c u y g d w = goes t m _ refl refl none-won
-  facts-returned (no e) c u y g d w = goes t m _ refl (f5-back w (k c) c u d) none-won
+  facts-returned : {P : Type 0} (e : Dec P) (c : ℕ) (z : Purpose) (y : ℕ) (g : List ℕ) (d : ℕ) (w : State)
+      → StepFacts t m (f3Won t k e c z y g d w m)
+  facts-returned (yes e) c z y g d w = goes t m _ refl refl none-won
+  facts-returned (no e) c z y g d w = goes t m _ refl (f5-back w k c z d) none-won
 
   -- ---- the step list
 
@@ -268,17 +228,20 @@ module _ (t : ℕ) (k : ℕ → List ℕ) (m : Mem) where
       either (StepFacts t m) (decLt (length (k c)) (perRegion c)) _ _
       (λ e. done t m _ refl refl none-won) (λ e. goes t m _ refl refl none-won)
 
-  pub facts-f3-link : (c u y : ℕ) (g : List ℕ) (d : ℕ) (n : Note) → StepFacts t m (stepAt t k (f3-link c u y g d n) m)
-  facts-f3-link c u y g d n = goes t m _ refl refl none-won
+  pub facts-f3-link : (c : ℕ) (z : Purpose) (y : ℕ) (g : List ℕ) (d : ℕ) (n : Note)
+      → StepFacts t m (stepAt t k (f3-link c z y g d n) m)
+  facts-f3-link c z y g d n = goes t m _ refl refl none-won
 
-  pub facts-f3-exchange : (c u y : ℕ) (g : List ℕ) (d : ℕ) (n : Note) → StepFacts t m (f3Exchange t k c u y g d n m)
-  facts-f3-exchange c u y g d n =
+  pub facts-f3-exchange : (c : ℕ) (z : Purpose) (y : ℕ) (g : List ℕ) (d : ℕ) (n : Note)
+      → StepFacts t m (f3Exchange t k c z y g d n m)
+  facts-f3-exchange c z y g d n =
       either (StepFacts t m) (asNoted? (m .descriptor d) n) _ _
       (λ e. facts-returned (ℕ-discrete (length (y ∷ (g ++ m .descriptor d .chain))) (perRegion c))
-      c u y g d (n .state)) (λ e. goes t m _ refl refl none-won)
+      c z y g d (n .state)) (λ e. goes t m _ refl refl none-won)
 
-  pub facts-f4 : (c u d : ℕ) (w : State) (r : ℕ) → StepFacts t m (stepAt t k (f4-clear c u d w r) m)
-  facts-f4 c u d w r = goes t m _ refl refl none-won
+  pub facts-f4 : (c : ℕ) (z : Purpose) (d : ℕ) (w : State) (r : ℕ)
+      → StepFacts t m (stepAt t k (f4-clear c z d w r) m)
+  facts-f4 c z d w r = goes t m _ refl refl none-won
 
   pub facts-take : (j : ℕ) (x : StripTaken) → takeStrip j (m .strips) ≡ x → m .task t .place ≡ working (strip-take j)
       → StepFacts t m (stripTakeStep t k x m)
@@ -294,6 +257,9 @@ module _ (t : ℕ) (k : ℕ → List ℕ) (m : Mem) where
 
   pub facts-give : (s : ℕ) → StepFacts t m (stepAt t k (strip-give s) m)
   facts-give s = done t m _ refl refl none-won
+
+  pub facts-leave : StepFacts t m (stepAt t k leave-end m)
+  facts-leave = done t m _ refl refl none-won
 
   -- An idle task makes no step.
   pub facts-idle : m .task t .place ≡ idle → StepFacts t m (m, refused 7)

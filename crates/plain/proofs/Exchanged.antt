@@ -18,6 +18,7 @@ use Rattle.plain.specs.HolderWeights.{rowWeight}
 use Rattle.plain.specs.TaskHolds.{NoteHolds, PlaceHolds}
 use Rattle.plain.specs.Invariant.{Invariant}
 use Rattle.plain.proofs.NotesKept.{Exchanges, as-before, one-more}
+use Rattle.plain.proofs.Held.{Alike}
 use Rattle.plain.proofs.Turn.{Turn, fewer, as-mapped, turn-inv}
 use Rattle.plain.proofs.PlaceAlone.{taskOf, lengths}
 
@@ -51,7 +52,7 @@ pub record RegionsExchanged (r q : List ℕ) (h h′ : Held) : Type 0 where
 
 module _ {area : ℕ} {m : Mem} {t : ℕ} {p : Place} {k : ℕ → List ℕ} (w : Turn area m t (taskOf p k)) where
   -- An exchange of a list of descriptors keeps the invariant.
-  pub relisted : {h′ : Held} (p′ : Place) (ℓ : ℕ) (q : List ℕ) → held p′ ≡ h′ → ℓ < DESCRIPTOR-LISTS
+  pub relisted : {h′ : Held} (p′ : Place) (ℓ : ℕ) (q : List ℕ) → Alike (held p′) h′ → ℓ < DESCRIPTOR-LISTS
       → DescriptorsExchanged ℓ (m .row ℓ) q (held p) h′ → PlaceHolds k p′
       → NoteHolds (update (m .row) ℓ q) (update (m .won) ℓ (m .won ℓ + 1)) (m .map) p′
       → Invariant area (atPlace t k p′ (setRow ℓ q m))
@@ -60,22 +61,22 @@ module _ {area : ℕ} {m : Mem} {t : ℕ} {p : Place} {k : ℕ → List ℕ} (w 
         omega (
           arith,
           s .descriptors x,
-          ap (descriptorIn x) e,
+          e .descriptors x,
           total-update DESCRIPTOR-LISTS (rowWeight x) (m .row) ℓ q l,
         );
     regions = λ x.
         omega (
           arith,
           s .regions x,
-          ap (regionIn x) e,
+          e .regions x,
           ap (count x) (update-other (m .row) ℓ q SPARE-REGIONS (omega arith)),
         );
     classes = λ c x h.
-        fewer (omega (arith, s .classes c x h, ap (listedIn c x) e, weight-update (count x) (m .row) ℓ q c));
+        fewer (omega (arith, s .classes c x h, e .classes c x, weight-update (count x) (m .row) ℓ q c));
     spares = λ x.
-        fewer (omega (arith, s .spares x, ap (spareIn x) e, weight-update (count x) (m .row) ℓ q SPARE-DESCRIPTORS));
-    blocks = λ v. omega (arith, s .blocks v, ap (blockIn v) e);
-    blockClasses = λ c v. omega (arith, w .inv .blockClasses c v, s .blockClasses c v, ap (classBlockIn c v) e);
+        fewer (omega (arith, s .spares x, e .spares x, weight-update (count x) (m .row) ℓ q SPARE-DESCRIPTORS));
+    blocks = λ v. omega (arith, s .blocks v, e .blocks v);
+    blockClasses = λ c v. omega (arith, w .inv .blockClasses c v, s .blockClasses c v, e .blockClasses c v);
     chains = w .inv .chains;
     closed = w .inv .closed;
     maps = w .inv .maps;
@@ -83,7 +84,7 @@ module _ {area : ℕ} {m : Mem} {t : ℕ} {p : Place} {k : ℕ → List ℕ} (w 
     unmapped = λ x. as-mapped (omega (
       arith,
       s .unmapped x,
-      ap (unmappedIn x) e,
+      e .unmapped x,
       ap (count x) (update-other (m .row) ℓ q SPARE-REGIONS (omega arith)),
     )) refl;
     own = record { lengths = lengths w; place = o; note = n };
@@ -92,7 +93,7 @@ module _ {area : ℕ} {m : Mem} {t : ℕ} {p : Place} {k : ℕ → List ℕ} (w 
   })
 
   -- An exchange of the list of spare regions keeps the invariant.
-  pub released : {h′ : Held} (p′ : Place) (q : List ℕ) → held p′ ≡ h′
+  pub released : {h′ : Held} (p′ : Place) (q : List ℕ) → Alike (held p′) h′
       → RegionsExchanged (m .row SPARE-REGIONS) q (held p) h′
       → PlaceHolds k p′
       → NoteHolds (update (m .row) SPARE-REGIONS q)
@@ -102,24 +103,24 @@ module _ {area : ℕ} {m : Mem} {t : ℕ} {p : Place} {k : ℕ → List ℕ} (w 
     descriptors = λ x. omega (
       arith,
       s .descriptors x,
-      ap (descriptorIn x) e,
+      e .descriptors x,
       total-out DESCRIPTOR-LISTS (rowWeight x) (m .row) SPARE-REGIONS q (omega arith),
     );
-    regions = λ x. omega (arith, s .regions x, ap (regionIn x) e, ap (count x) (update-same (m .row) SPARE-REGIONS q));
+    regions = λ x. omega (arith, s .regions x, e .regions x, ap (count x) (update-same (m .row) SPARE-REGIONS q));
     classes = λ c x l. fewer (omega (
       arith,
       s .classes c x,
-      ap (listedIn c x) e,
+      e .classes c x,
       ap (count x) (update-other (m .row) SPARE-REGIONS q c (omega arith)),
     ));
     spares = λ x. fewer (omega (
       arith,
       s .spares x,
-      ap (spareIn x) e,
+      e .spares x,
       ap (count x) (update-other (m .row) SPARE-REGIONS q SPARE-DESCRIPTORS (omega arith)),
     ));
-    blocks = λ v. omega (arith, s .blocks v, ap (blockIn v) e);
-    blockClasses = λ c v. omega (arith, w .inv .blockClasses c v, s .blockClasses c v, ap (classBlockIn c v) e);
+    blocks = λ v. omega (arith, s .blocks v, e .blocks v);
+    blockClasses = λ c v. omega (arith, w .inv .blockClasses c v, s .blockClasses c v, e .blockClasses c v);
     chains = w .inv .chains;
     closed = w .inv .closed;
     maps = w .inv .maps;
@@ -127,7 +128,7 @@ module _ {area : ℕ} {m : Mem} {t : ℕ} {p : Place} {k : ℕ → List ℕ} (w 
     unmapped = λ x. as-mapped (omega (
       arith,
       s .unmapped x,
-      ap (unmappedIn x) e,
+      e .unmapped x,
       ap (count x) (update-same (m .row) SPARE-REGIONS q),
     )) refl;
     own = record { lengths = lengths w; place = o; note = n };

@@ -6,7 +6,6 @@ use native.Mathlib.Omega.{arith}
 use lib.ListN.{length}
 use Rattle.limits.specs.Limits.{TASKS, DESCRIPTORS}
 use Rattle.rows.specs.Comparisons.{same, other, same?, before, after, order?}
-use Rattle.rows.specs.Weights.{one}
 use Rattle.rows.specs.Counting.{count}
 use Rattle.rows.proofs.Weights.{when-same, when-other}
 use Rattle.rows.proofs.Counting.{count-append}
@@ -14,9 +13,9 @@ use Rattle.rows.proofs.Totals.{total-one}
 use Rattle.rows.proofs.Pigeonhole.{pigeonhole, pigeonhole-full}
 use Rattle.classes.specs.Classes.{perRegion}
 use Rattle.classes.specs.Geometry.{regionOf}
-use Rattle.plain.specs.State.{Place, Mem}
+use Rattle.plain.specs.State.{Place, Mem, Purpose}
 use Rattle.plain.specs.Blocks.{blocksFrom, countBlock}
-use Rattle.plain.specs.Held.{classAt, underWay}
+use Rattle.plain.specs.Held.{classAt, underWay, ownBlocks}
 use Rattle.plain.specs.HolderWeights.{chainWeight, blockWeight}
 use Rattle.plain.specs.TaskHolds.{Together}
 use Rattle.plain.specs.Invariant.{OpenDescriptor}
@@ -27,19 +26,19 @@ use Rattle.plain.proofs.Turn.{Turn}
 use Rattle.plain.proofs.PlaceAlone.{taskOf}
 use Rattle.plain.proofs.Owners.{home-of, Owner, owner}
 
--- a place of the class c that has under way the block u being freed and a group, y and g, whose region's entry in
--- the map names the descriptor d
-pub record Grouped (m : Mem) (p : Place) (c u y : ℕ) (g : List ℕ) (d : ℕ) : Type 0 where
-  pub blocks : underWay p ≡ u ∷ y ∷ g
+-- a place of the class c that has under way the block being freed, if there is one, and a group, y and g, whose
+-- region's entry in the map names the descriptor d
+pub record Grouped (m : Mem) (p : Place) (c : ℕ) (z : Purpose) (y : ℕ) (g : List ℕ) (d : ℕ) : Type 0 where
+  pub blocks : underWay p ≡ ownBlocks z ++ (y ∷ g)
   pub class : classAt p ≡ c
   pub together : Together y g
   pub named : m .map (regionOf y) ≡ suc d
 
-module _ {area : ℕ} {m : Mem} {t : ℕ} {p : Place} {k : ℕ → List ℕ} {c u y : ℕ} {g : List ℕ} {d : ℕ}
-    (w : Turn area m t (taskOf p k)) (G : Grouped m p c u y g d) where
+module _ {area : ℕ} {m : Mem} {t : ℕ} {p : Place} {k : ℕ → List ℕ} {c : ℕ} {z : Purpose} {y : ℕ}
+    {g : List ℕ} {d : ℕ} (w : Turn area m t (taskOf p k)) (G : Grouped m p c z y g d) where
   -- how often a block is under way
-  counted : (v : ℕ) → count v (underWay p) ≡ count v (u ∷ y ∷ g)
-  counted v = ap (count v) (G .blocks)
+  counted : (v : ℕ) → count v (underWay p) ≡ count v (ownBlocks z) + count v (y ∷ g)
+  counted v = ap (count v) (G .blocks) ∙ count-append v (ownBlocks z) (y ∷ g)
 
   -- The descriptor opens the group's region for the class.
   pub group-owner : Owner m c y d
@@ -52,7 +51,7 @@ module _ {area : ℕ} {m : Mem} {t : ℕ} {p : Place} {k : ℕ → List ℕ} {c 
   group-opened = open-holds (m .descriptor d .state) (group-owner .counts) (w .inv .chains d (group-owner .fits))
 
   -- A block is once in the group, or in the chain, or being freed.
-  once : (v : ℕ) → count v (u ∷ y ∷ g) + count v (m .descriptor d .chain) ≤ 1
+  once : (v : ℕ) → count v (ownBlocks z) + count v (y ∷ g) + count v (m .descriptor d .chain) ≤ 1
   once v = omega (
     arith,
     counted v,
@@ -83,7 +82,7 @@ module _ {area : ℕ} {m : Mem} {t : ℕ} {p : Place} {k : ℕ → List ℕ} {c 
   pub group-joined : (v : ℕ)
       → (count v (y ∷ (g ++ m .descriptor d .chain)) ≡ count v (y ∷ g) + count v (m .descriptor d .chain))
       × (count v (y ∷ (g ++ m .descriptor d .chain)) ≤ countBlock v (m .descriptor d .region) (m .descriptor d .class))
-      × (one v u + count v (y ∷ (g ++ m .descriptor d .chain)) ≤ 1)
+      × (count v (ownBlocks z) + count v (y ∷ (g ++ m .descriptor d .chain)) ≤ 1)
   group-joined v =
       let e = count-append v g (m .descriptor d .chain) in
       let o = once v in

@@ -18,11 +18,14 @@ pub mod Takes
 pub mod Regions
 pub mod GroupFits
 pub mod Returns
+pub mod PushesBack
 pub mod Codes
 pub mod Steps
 pub mod Requests
 pub mod StripChanges
 pub mod StripInvariant
+pub mod LeaveInvariant
+pub mod LeavingSteps
 pub mod StartInvariant
 pub mod Begins
 pub mod Always

@@ -14,7 +14,8 @@ use Rattle.plain.specs.State.{release, offer, popping, pushing, Mem, wor
 use Rattle.plain.specs.Steps.{popList, pushList, popRead, popLost, popTake, popStep, pushPut, pushStep}
 use Rattle.plain.proofs.CallTests.{either, KeepsInvariant}
 use Rattle.plain.proofs.Turn.{Turn}
-use Rattle.plain.proofs.PlaceAlone.{taskOf, placeHolds, noteHolds, placed, placed-empty}
+use Rattle.plain.proofs.PlaceAlone.{taskOf, placeHolds, noteHolds, lengths, placed, placed-empty}
+use Rattle.plain.proofs.Held.{alike}
 use Rattle.plain.proofs.Exchanged.{relisted, released}
 use Rattle.plain.proofs.Continues.{f6-held, f5-held, f6-holds, f5-holds, f6-note, f5-note}
 
@@ -39,7 +40,7 @@ module _ {area : ℕ} {m : Mem} {t : ℕ} {k : ℕ → List ℕ} where
       → KeepsInvariant area (popTake t k p q m)
   take-inv p φ [] e w = lost-inv p φ w
   take-inv (partial c) φ (y ∷ q) e w =
-      relisted w _ _ _ refl (omega (arith, placeHolds w)) (rw e (record {
+      relisted w _ _ _ (alike refl) (omega (arith, placeHolds w)) (rw e (record {
         blocks = λ v. refl;
         blockClasses = λ f v. omega arith;
         descriptors = λ x. omega arith;
@@ -49,7 +50,7 @@ module _ {area : ℕ} {m : Mem} {t : ℕ} {k : ℕ → List ℕ} where
         unmapped = λ x. omega arith;
       })) (placeHolds w) tt
   take-inv (spare c) φ (y ∷ q) e w =
-      relisted w _ _ _ refl (omega arith) (rw e (record {
+      relisted w _ _ _ (alike refl) (omega arith) (rw e (record {
         blocks = λ v. refl;
         blockClasses = λ f v. omega arith;
         descriptors = λ x. omega arith;
@@ -60,7 +61,7 @@ module _ {area : ℕ} {m : Mem} {t : ℕ} {k : ℕ → List ℕ} where
         unmapped = λ x. omega arith;
       })) (placeHolds w) tt
   take-inv (region c d) φ (y ∷ q) e w =
-      released w _ _ refl (rw e (record {
+      released w _ _ (alike refl) (rw e (record {
         blocks = λ v. refl;
         blockClasses = λ f v. omega arith;
         descriptors = λ x. refl;
@@ -90,7 +91,7 @@ module _ {area : ℕ} {m : Mem} {t : ℕ} {k : ℕ → List ℕ} where
       → KeepsInvariant area (pushPut t k p m)
   put-inv (retire c d) φ w =
       let q = m .row SPARE-DESCRIPTORS in
-      relisted w _ _ _ refl (omega arith) (record {
+      relisted w _ _ _ (alike refl) (omega arith) (record {
         blocks = λ v. refl;
         blockClasses = λ f v. omega arith;
         descriptors = λ x. omega arith;
@@ -102,7 +103,7 @@ module _ {area : ℕ} {m : Mem} {t : ℕ} {k : ℕ → List ℕ} where
       }) (placeHolds w) tt
   put-inv (back c d) φ w =
       let q = m .row SPARE-DESCRIPTORS in
-      relisted w _ _ _ refl (omega arith) (record {
+      relisted w _ _ _ (alike refl) (omega arith) (record {
         blocks = λ v. refl;
         blockClasses = λ f v. omega (arith, when-zero f 0);
         descriptors = λ x. omega arith;
@@ -113,8 +114,8 @@ module _ {area : ℕ} {m : Mem} {t : ℕ} {k : ℕ → List ℕ} where
         regions = λ x. refl;
         unmapped = λ x. omega arith;
       }) tt tt
-  put-inv (release c u d s r) φ w =
-      released w _ _ (f5-held s c u d (k c)) (record {
+  put-inv (release c z d s r) φ w =
+      released w _ _ (f5-held k s c z d) (record {
         blocks = λ v. refl;
         blockClasses = λ f v. omega arith;
         descriptors = λ x. refl;
@@ -122,11 +123,11 @@ module _ {area : ℕ} {m : Mem} {t : ℕ} {k : ℕ → List ℕ} where
         spares = λ x. omega arith;
         regions = λ x. omega arith;
         unmapped = λ x. omega arith;
-      }) (f5-holds k s c u d (placeHolds w .0) (placeHolds w .1)) (f5-note _ _ _ s c u d (k c))
-  put-inv (offer c u d) φ w =
+      }) (f5-holds k (lengths w) s c z d (placeHolds w .0) (placeHolds w .1)) (f5-note _ _ _ k s c z d)
+  put-inv (offer c z d) φ w =
       let o = placeHolds w in
       let q = m .row c in
-      relisted w _ _ _ (f6-held c u (k c)) (omega (arith, o)) (record {
+      relisted w _ _ _ (f6-held k c z) (omega (arith, o)) (record {
         blocks = λ v. refl;
         blockClasses = λ f v. omega arith;
         descriptors = λ x. omega arith;
@@ -135,7 +136,7 @@ module _ {area : ℕ} {m : Mem} {t : ℕ} {k : ℕ → List ℕ} where
         spares = λ x. omega (arith, when-other SPARE-DESCRIPTORS c (one x d + count x q) (omega (arith, o)));
         regions = λ x. refl;
         unmapped = λ x. omega arith;
-      }) (f6-holds k c u (k c) refl (o .0) (o .1)) (f6-note _ _ _ c u (k c))
+      }) (f6-holds k (lengths w) c z (o .0)) (f6-note _ _ _ k c z)
 
   -- The three steps of a push.
   pub push-inv : (p : Push) (φ : Phase) → Turn area m t (taskOf (working (pushing p φ)) k)

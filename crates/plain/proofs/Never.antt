@@ -6,10 +6,12 @@ use native.Mathlib.Omega.{arith}
 use lib.ListN.{length}
 use Rattle.limits.specs.Limits.{TASKS}
 use Rattle.rows.proofs.Weights.{when-same}
+use Rattle.rows.proofs.Counting.{count-append}
 use Rattle.plain.specs.State.{State, EMPTY, PARTIAL, FULL, stateNumber, Note, a3-exchange, f3-read, f3-link}
-use Rattle.plain.specs.State.{f3-exchange, Mem, working}
+use Rattle.plain.specs.State.{f3-exchange, Mem, working, Purpose}
 use Rattle.plain.specs.Steps.{popList, AsNoted}
 use Rattle.plain.specs.ByState.{oneIfFull}
+use Rattle.plain.specs.Held.{ownBlocks}
 use Rattle.plain.specs.Invariant.{Invariant}
 use Rattle.plain.specs.Never.{TopItem, GroupFits, GroupNamed, NeverHappens}
 use Rattle.plain.proofs.ByState.{is-open}
@@ -31,11 +33,11 @@ partial-is PARTIAL e = refl
 partial-is FULL e = absurd (omega arith)
 
 module _ {area : ℕ} {m : Mem} {t : ℕ} (I : Invariant area m) (l : t < TASKS) where
-  reads : (c u y : ℕ) (g : List ℕ) → m .task t .place ≡ working (f3-read c u y g) → GroupNamed m c y g
-  reads c u y g e =
+  reads : (c : ℕ) (z : Purpose) (y : ℕ) (g : List ℕ) → m .task t .place ≡ working (f3-read c z y g) → GroupNamed m c y g
+  reads c z y g e =
       let w = turnAt I l e in
-      let f = home-of w y (omega (arith, when-same y 1)) in
-      let group : Grouped m (working (f3-read c u y g)) c u y g (f .d) =
+      let f = home-of w y (omega (arith, when-same y 1, count-append y (ownBlocks z) (y ∷ g))) in
+      let group : Grouped m (working (f3-read c z y g)) c z y g (f .d) =
       record { blocks = refl; class = refl; together = placeHolds w .2; named = f .named } in
       record {
         d = f .d;
@@ -54,21 +56,23 @@ module _ {area : ℕ} {m : Mem} {t : ℕ} (I : Invariant area m) (l : t < TASKS)
         top-item (m .descriptor d .chain) (T .chain .0),
       )
 
-  links : (c u y : ℕ) (g : List ℕ) (d : ℕ) (n : Note) → m .task t .place ≡ working (f3-link c u y g d n)
+  links : (c : ℕ) (z : Purpose) (y : ℕ) (g : List ℕ) (d : ℕ) (n : Note)
+      → m .task t .place ≡ working (f3-link c z y g d n)
       → GroupFits m c y g d (n .length)
-  links c u y g d n e =
+  links c z y g d n e =
       let w = turnAt I l e in
       let o = placeHolds w in
-      let group : Grouped m (working (f3-link c u y g d n)) c u y g d =
+      let group : Grouped m (working (f3-link c z y g d n)) c z y g d =
       record { blocks = refl; class = refl; together = o .2; named = noteHolds w .1 } in
       record { now = group-fits w group; then = o .3 }
 
-  returns : (c u y : ℕ) (g : List ℕ) (d : ℕ) (n : Note) → m .task t .place ≡ working (f3-exchange c u y g d n)
+  returns : (c : ℕ) (z : Purpose) (y : ℕ) (g : List ℕ) (d : ℕ) (n : Note)
+      → m .task t .place ≡ working (f3-exchange c z y g d n)
       → GroupFits m c y g d (n .length)
-  returns c u y g d n e =
+  returns c z y g d n e =
       let w = turnAt I l e in
       let o = placeHolds w in
-      let group : Grouped m (working (f3-exchange c u y g d n)) c u y g d =
+      let group : Grouped m (working (f3-exchange c z y g d n)) c z y g d =
       record { blocks = refl; class = refl; together = o .2; named = noteHolds w .1 } in
       record { now = group-fits w group; then = o .3 }
 
@@ -76,7 +80,7 @@ module _ {area : ℕ} {m : Mem} {t : ℕ} (I : Invariant area m) (l : t < TASKS)
   pub never : NeverHappens m t
   never = record {
     popExchange = λ p n e h. top-item (m .row (popList p)) (noteHolds (turnAt I l e) .1 h);
-    groupStep = λ c u g e h. top-item g (omega (arith, placeHolds (turnAt I l e), ap length h));
+    groupStep = λ c z g e h. top-item g (omega (arith, placeHolds (turnAt I l e), ap length h));
     freeReads = reads;
     allocateReads = λ c d e h.
         absurd (omega (arith, in-hand (turnAt I l e) d (omega (arith, when-same d 1)), ap oneIfFull h));

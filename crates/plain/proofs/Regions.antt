@@ -17,7 +17,7 @@ use Rattle.rows.proofs.Totals.{total-one, total-update}
 use Rattle.classes.specs.Classes.{perRegion}
 use Rattle.classes.proofs.Tables.{perRegion-low}
 use Rattle.plain.specs.State.{State, EMPTY, FULL, Descriptor, read, release, pushing, a7, a8, f4-clear, Task, Mem}
-use Rattle.plain.specs.State.{working}
+use Rattle.plain.specs.State.{working, Purpose}
 use Rattle.plain.specs.Steps.{a7Step, stepAt}
 use Rattle.plain.specs.Blocks.{blocksFrom, countBlock}
 use Rattle.plain.specs.ByState.{ifOpen, IsOpen, IfOpen, IfEmpty, oneIfFull, oneIfEmpty}
@@ -73,11 +73,12 @@ entries-kept m r z h x g =
 
 module _ {area : ℕ} {m : Mem} {t : ℕ} {k : ℕ → List ℕ} where
   -- Step 4 of a free clears the entry.
-  pub clear-inv : (c u d : ℕ) (s : State) (r : ℕ) → Turn area m t (taskOf (working (f4-clear c u d s r)) k)
-      → KeepsInvariant area (stepAt t k (f4-clear c u d s r) m)
-  clear-inv c u d s r w =
-      let z = no-open w r (omega (arith, when-same r 1)) in
-      turn-inv w _ (taskOf (working (pushing (release c u d s r) read)) k) refl (record {
+  pub clear-inv : (c : ℕ) (z : Purpose) (d : ℕ) (s : State) (r : ℕ)
+      → Turn area m t (taskOf (working (f4-clear c z d s r)) k)
+      → KeepsInvariant area (stepAt t k (f4-clear c z d s r) m)
+  clear-inv c z d s r w =
+      let shut = no-open w r (omega (arith, when-same r 1)) in
+      turn-inv w _ (taskOf (working (pushing (release c z d s r) read)) k) refl (record {
         descriptors = λ x. omega arith;
         regions = λ x. omega arith;
         classes = λ f x l. fewer (omega arith);
@@ -86,14 +87,14 @@ module _ {area : ℕ} {m : Mem} {t : ℕ} {k : ℕ → List ℕ} where
         blockClasses = λ f v. omega (arith, w .inv .blockClasses f v);
         chains = w .inv .chains;
         closed = w .inv .closed;
-        maps = maps-kept (w .inv) r 0 z;
+        maps = maps-kept (w .inv) r 0 shut;
         entries = update-all (λ j x. x ≤ DESCRIPTORS) (m .map) r 0 (omega arith) (λ j n. w .inv .entries j);
         unmapped = λ x. elim (same? x r) [
           | same e ↦ no-entry (rw e (update-same (m .map) r 0))
           | other e ↦ as-mapped (omega (arith, when-other x r 1 e)) (update-other (m .map) r 0 x e)
         ];
         own = record { lengths = lengths w; place = placeHolds w; note = tt };
-        kept = entries-kept m r 0 z;
+        kept = entries-kept m r 0 shut;
         exchanges = λ ℓ. as-before refl refl;
       })
 

@@ -1,17 +1,19 @@
 -- The step list, in one pass: what every step answers, in every state, and that it keeps the invariant.
 use mathlib.Core.Path.{_≡_, refl}
-use mathlib.Core.List.{List}
+use mathlib.Core.List.{List, _∷_}
 use Prim.Native.Nat.{ℕ, zero, suc, _<_}
 use native.Mathlib.Omega.{arith}
 use lib.ListN.{length-append}
 use Rattle.rows.proofs.Weights.{when-same}
+use Rattle.rows.proofs.Counting.{count-append}
 use Rattle.limits.specs.Limits.{TASKS}
 use Rattle.classes.specs.Geometry.{regionOf}
 use Rattle.plain.specs.State.{Place, idle, a1, popping, pushing, a3-read, a3-exchange, a4, a7, a8, f1, f2}
-use Rattle.plain.specs.State.{f3-read, f3-link, f3-exchange, f4-clear, strip-take, strip-give, Mem, Work}
-use Rattle.plain.specs.State.{working}
+use Rattle.plain.specs.State.{f3-read, f3-link, f3-exchange, f4-clear, strip-take, strip-give, leave-end, Mem}
+use Rattle.plain.specs.State.{Work, working, Purpose}
 use Rattle.pieces.specs.Strips.{StripTaken, none-found, strip-at, takeStrip, giveStrip}
 use Rattle.plain.specs.Steps.{f3Read, stripTakeStep, stepAt, stepOf, whenWorking}
+use Rattle.plain.specs.Held.{ownBlocks}
 use Rattle.plain.specs.Invariant.{Invariant}
 use Rattle.plain.specs.Codes.{StepFacts}
 use Rattle.plain.proofs.CallTests.{KeepsInvariant}
@@ -25,21 +27,21 @@ use Rattle.plain.proofs.GroupFits.{Grouped, group-fits}
 use Rattle.plain.proofs.Returns.{f3-exchange-inv}
 use Rattle.plain.proofs.Codes.{facts-a1, facts-pop, facts-push, facts-a3, facts-a3-exchange, facts-a4, facts-a7}
 use Rattle.plain.proofs.Codes.{facts-a8, facts-f1, facts-f2, facts-f3, facts-f3-link, facts-f3-exchange}
-use Rattle.plain.proofs.Codes.{facts-f4, facts-take, facts-give, facts-idle}
+use Rattle.plain.proofs.Codes.{facts-f4, facts-take, facts-give, facts-leave, facts-idle}
 use Rattle.plain.proofs.StripChanges.{strips-aside}
 
 module _ {area : ℕ} {m : Mem} {t : ℕ} (k : ℕ → List ℕ) where
   -- The anchor read of a free; where the map names no descriptor nothing happens.
-  read-step : (c u y : ℕ) (g : List ℕ) (z : ℕ) → m .map (regionOf y) ≡ z
-      → Turn area m t (taskOf (working (f3-read c u y g)) k) → KeepsInvariant area (f3Read t k z c u y g m)
-  read-step c u y g zero e w = w .inv
-  read-step c u y g (suc d) e w =
+  read-step : (c : ℕ) (z : Purpose) (y : ℕ) (g : List ℕ) (i : ℕ) → m .map (regionOf y) ≡ i
+      → Turn area m t (taskOf (working (f3-read c z y g)) k) → KeepsInvariant area (f3Read t k i c z y g m)
+  read-step c z y g zero e w = w .inv
+  read-step c z y g (suc d) e w =
       let o = placeHolds w in
-      let group : Grouped m (working (f3-read c u y g)) c u y g d =
+      let group : Grouped m (working (f3-read c z y g)) c z y g d =
       record { blocks = refl; class = refl; together = o .2; named = e } in
       placed w _ refl
       (o .0, o .1, o .2, omega (arith, group-fits w group, length-append g (m .descriptor d .chain)))
-      (omega (arith, when-same y 1), e)
+      (omega (arith, when-same y 1, count-append y (ownBlocks z) (y ∷ g)), e)
 
   -- The step that takes a strip changes nothing else but the task's place.
   take-step : (j : ℕ) (x : StripTaken) → Turn area m t (taskOf (working (strip-take j)) k)
@@ -68,19 +70,19 @@ module _ (t : ℕ) (k : ℕ → List ℕ) (m : Mem) where
   step-at (a7 c d r) = record { facts = λ h. facts-a7 t k m c d r; kept = λ area T. open-inv c d r T }
   step-at (a8 c r i) = record { facts = λ h. facts-a8 t k m c r i; kept = λ area T. a8-inv c r i T }
   step-at (f1 c u) = record { facts = λ h. facts-f1 t k m c u; kept = λ area T. f1-inv c u T }
-  step-at (f2 c u g) = record { facts = λ h. facts-f2 t k m c u (k c) g; kept = λ area T. f2-inv c u (k c) g refl T }
-  step-at (f3-read c u y g) = record {
-    facts = facts-f3 t k m (m .map (regionOf y)) c u y g;
-    kept = λ area T. read-step k c u y g (m .map (regionOf y)) refl T;
+  step-at (f2 c z g) = record { facts = λ h. facts-f2 t k m c z (k c) g; kept = λ area T. f2-inv c z (k c) g refl T }
+  step-at (f3-read c z y g) = record {
+    facts = facts-f3 t k m (m .map (regionOf y)) c z y g;
+    kept = λ area T. read-step k c z y g (m .map (regionOf y)) refl T;
   }
-  step-at (f3-link c u y g d n) = record {
-    facts = λ h. facts-f3-link t k m c u y g d n;
+  step-at (f3-link c z y g d n) = record {
+    facts = λ h. facts-f3-link t k m c z y g d n;
     kept = λ area T. placed T _ refl (placeHolds T) (noteHolds T);
   }
-  step-at (f3-exchange c u y g d n) =
-      record { facts = λ h. facts-f3-exchange t k m c u y g d n; kept = λ area T. f3-exchange-inv T }
-  step-at (f4-clear c u d s r) =
-      record { facts = λ h. facts-f4 t k m c u d s r; kept = λ area T. clear-inv c u d s r T }
+  step-at (f3-exchange c z y g d n) =
+      record { facts = λ h. facts-f3-exchange t k m c z y g d n; kept = λ area T. f3-exchange-inv T }
+  step-at (f4-clear c z d s r) =
+      record { facts = λ h. facts-f4 t k m c z d s r; kept = λ area T. clear-inv c z d s r T }
   step-at (strip-take j) = record {
     facts = facts-take t k m j (takeStrip j (m .strips)) refl;
     kept = λ area T. take-step k j (takeStrip j (m .strips)) T;
@@ -89,6 +91,8 @@ module _ (t : ℕ) (k : ℕ → List ℕ) (m : Mem) where
     facts = λ h. facts-give t k m s;
     kept = λ area T. strips-aside (giveStrip s (m .strips)) (placed-empty T idle refl refl tt tt);
   }
+  step-at leave-end =
+      record { facts = λ h. facts-leave t k m; kept = λ area T. placed-empty T idle refl refl tt tt }
 
   -- Every step; an idle task makes none.
   facts-of : (p : Place) → m .task t .place ≡ p → StepFacts t m (whenWorking p (λ w. stepAt t k w m) m)

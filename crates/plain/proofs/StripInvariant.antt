@@ -3,7 +3,7 @@ use mathlib.Core.Path.{_≡_, refl, sym, ap, subst, subst⁻¹, _∙_}
 use Prim.Native.Nat.{ℕ, zero, suc, _<_}
 use native.Mathlib.Omega.{arith}
 use native.Mathlib.Decide.{ℕ-discrete, decLt}
-use Rattle.limits.specs.Limits.{TASKS, LARGEST-SIZE, LARGEST-STRIP, UNITS}
+use Rattle.limits.specs.Limits.{TASKS, CLASSES, LARGEST-SIZE, LARGEST-STRIP, UNITS}
 use Rattle.rows.specs.Branch.{both}
 use Rattle.rows.specs.Comparisons.{Equality, same, other, same?}
 use Rattle.rows.specs.Update.{update}
@@ -16,36 +16,43 @@ use Rattle.pieces.specs.StripUnits.{slotOfUnit}
 use Rattle.plain.specs.State.{Pop, partial, spare, region, Push, retire, back, release, offer, Work, a1, popping}
 use Rattle.plain.specs.State.{pushing, a3-read, a3-exchange, a4, a7, a8, f1, f2, f3-read, f3-link, f3-exchange}
 use Rattle.plain.specs.State.{f4-clear, strip-take, strip-give, Place, idle, working, Task, Mem, setTask}
-use Rattle.plain.specs.State.{Descriptor}
+use Rattle.plain.specs.State.{Descriptor, Purpose, to-free, to-leave, leave-end}
 use Rattle.plain.specs.Steps.{Result, stripTakeStep, stepAt, stepOf, whenWorking}
 use Rattle.plain.specs.Calls.{opens?, first?, freeEntry, freeStripAt, stripUnit?, beginAllocate, beginFree}
-use Rattle.plain.specs.Calls.{startMem}
-use Rattle.plain.specs.Requests.{Request, allocation, freeing, strip-allocation, strip-freeing, popRequest}
-use Rattle.plain.specs.Requests.{pushRequest, requestAt, StillAt, StripsStay, OwnRequest, stripFreed, freesStrip}
+use Rattle.plain.specs.Calls.{beginLeave, startMem}
+use Rattle.plain.specs.Requests.{Request, allocation, freeing, strip-allocation, strip-freeing, leaving}
+use Rattle.plain.specs.Requests.{returnRequest, popRequest, pushRequest, requestAt, StillAt, StripsStay}
+use Rattle.plain.specs.Requests.{OwnRequest, stripFreed, freesStrip}
 use Rattle.plain.specs.Invariant.{StripsHold}
 use Rattle.plain.proofs.CallTests.{either}
-use Rattle.plain.proofs.Requests.{own-request}
+use Rattle.plain.proofs.Continues.{leaves-to}
+use Rattle.plain.proofs.Requests.{leaves-request, own-request}
 use Rattle.plain.proofs.StripChanges.{strips-kept, taken-holds, begun-holds, given-holds}
 
 -- ---- the steps
 
--- a request of a small block
+-- a request of a small block, or leaving
 abbrev SmallRequest : Request → Type 0
 SmallRequest (allocation c) = Unit {0}
 SmallRequest (freeing c u) = Unit {0}
 SmallRequest (strip-allocation k) = ⊥
 SmallRequest (strip-freeing s) = ⊥
+SmallRequest leaving = Unit {0}
 
 pop-small : (p : Pop) → SmallRequest (popRequest p)
 pop-small (partial c) = tt
 pop-small (spare c) = tt
 pop-small (region c d) = tt
 
+return-small : (c : ℕ) (z : Purpose) → SmallRequest (returnRequest c z)
+return-small c (to-free u) = tt
+return-small c to-leave = tt
+
 push-small : (p : Push) → SmallRequest (pushRequest p)
 push-small (retire c d) = tt
 push-small (back c d) = tt
-push-small (release c u d w r) = tt
-push-small (offer c u d) = tt
+push-small (release c z d w r) = return-small c z
+push-small (offer c z d) = return-small c z
 
 -- it frees no strip, and leaves the strips
 frees-none : (q : Request) → SmallRequest q → stripFreed q ≡ 0
@@ -53,12 +60,14 @@ frees-none (allocation c) h = refl
 frees-none (freeing c u) h = refl
 frees-none (strip-allocation k) h = absurd h
 frees-none (strip-freeing s) h = absurd h
+frees-none leaving h = refl
 
 leaves-strips : (q : Request) (m x : Mem) → SmallRequest q → StripsStay q m x → x .strips ≡ m .strips
 leaves-strips (allocation c) m x h e = e
 leaves-strips (freeing c u) m x h e = e
 leaves-strips (strip-allocation k) m x h e = absurd h
 leaves-strips (strip-freeing s) m x h e = absurd h
+leaves-strips leaving m x h e = e
 
 still-frees-none : (q : Request) (p : Place) → SmallRequest q → StillAt q p → freesStrip p ≡ 0
 still-frees-none q idle h e = refl
@@ -111,13 +120,14 @@ module _ {m : Mem} (t : ℕ) (l : t < TASKS) (H : StripsHold m) where
   step-holds (a7 c d r) h = small-step (a7 c d r) h tt
   step-holds (a8 c r i) h = small-step (a8 c r i) h tt
   step-holds (f1 c u) h = small-step (f1 c u) h tt
-  step-holds (f2 c u g) h = small-step (f2 c u g) h tt
-  step-holds (f3-read c u y g) h = small-step (f3-read c u y g) h tt
-  step-holds (f3-link c u y g d n) h = small-step (f3-link c u y g d n) h tt
-  step-holds (f3-exchange c u y g d n) h = small-step (f3-exchange c u y g d n) h tt
-  step-holds (f4-clear c u d w r) h = small-step (f4-clear c u d w r) h tt
+  step-holds (f2 c z g) h = small-step (f2 c z g) h (return-small c z)
+  step-holds (f3-read c z y g) h = small-step (f3-read c z y g) h (return-small c z)
+  step-holds (f3-link c z y g d n) h = small-step (f3-link c z y g d n) h (return-small c z)
+  step-holds (f3-exchange c z y g d n) h = small-step (f3-exchange c z y g d n) h (return-small c z)
+  step-holds (f4-clear c z d w r) h = small-step (f4-clear c z d w r) h (return-small c z)
   step-holds (strip-take j) h = stepped (strip-take j) h (take-holds j (takeStrip j (m .strips)) refl h)
   step-holds (strip-give s) h = stepped (strip-give s) h (given-holds H t s _ l (ap freesStrip h) refl)
+  step-holds leave-end h = small-step leave-end h tt
 
   place-holds : (p : Place) → m .task t .place ≡ p → StripsHold (stepOf t m .0)
   unfolding stepOf
@@ -170,6 +180,11 @@ module _ {m : Mem} (t : ℕ) (l : t < TASKS) (H : StripsHold m) where
         (λ a. either After (decLt (regionOf u) regions) _ _ (λ b. free-small-strips (m .map (regionOf u)) u) (λ b. H))
         (λ a. either After (stripUnit? u) _ _
         (λ b. free-strip-strips (slotOfUnit u) (stripStarts (m .strips) (slotOfUnit u)) refl) (λ b. H))
+
+    pub leave-strips : StripsHold (beginLeave t m .0)
+    leave-strips =
+        placed-holds _
+        (ap stripFreed (leaves-request (leaves-to (m .task t .cache) CLASSES 0)) ∙ sym (ap freesStrip e))
 
 -- ---- the start
 

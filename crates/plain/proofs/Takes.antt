@@ -21,6 +21,7 @@ use Rattle.plain.proofs.ByState.{open-holds, IsState, is-empty, is-part
 use Rattle.plain.proofs.NotesKept.{as-before}
 use Rattle.plain.proofs.Turn.{Turn, fewer, enough, as-mapped, turn-inv}
 use Rattle.plain.proofs.PlaceAlone.{taskOf, placeHolds, lengths, placed}
+use Rattle.plain.proofs.Held.{alike}
 use Rattle.plain.proofs.AnchorExchange.{in-hand, class-of, anchored}
 
 -- the descriptor whose chain is taken: it was noted as not EMPTY, and as it is held it is not FULL
@@ -97,7 +98,7 @@ module _ {area : ℕ} {m : Mem} {t : ℕ} {k : ℕ → List ℕ} where
   take-inv c d n (y ∷ q) e w s =
       let D = m .descriptor d in
       let T = taken w s in
-      anchored w _ d _ refl (record {
+      anchored w _ d _ (alike refl) (record {
         fits = T .fits;
         counts = T .counts;
         class = refl;

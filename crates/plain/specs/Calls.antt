@@ -6,8 +6,8 @@ use mathlib.Core.Logic.{_≢_}
 use mathlib.Core.List.{List, _∷_, []}
 use Prim.Native.Nat.{ℕ, zero, suc, _*_, _/_, _%_, _≤_, _<_}
 use native.Mathlib.Decide.{ℕ-discrete, decLt, decLe}
-use Rattle.limits.specs.Limits.{CONTROL-BYTES, REGION-BYTES, AREA-BYTES, REGION-UNITS, TASKS, DESCRIPTORS, LARGEST-SIZE}
-use Rattle.limits.specs.Limits.{SPARE-DESCRIPTORS, SPARE-REGIONS, STRIPS-BYTES, LARGEST-STRIP, UNITS}
+use Rattle.limits.specs.Limits.{CONTROL-BYTES, REGION-BYTES, AREA-BYTES, REGION-UNITS, TASKS, CLASSES, DESCRIPTORS}
+use Rattle.limits.specs.Limits.{SPARE-DESCRIPTORS, SPARE-REGIONS, LARGEST-SIZE, STRIPS-BYTES, LARGEST-STRIP, UNITS}
 use Rattle.limits.specs.Limits.{SLOT-UNITS, BOTH-UNITS}
 use Rattle.rows.specs.Branch.{if, both}
 use Rattle.classes.specs.Classes.{units, perRegion}
@@ -20,7 +20,7 @@ use Rattle.pieces.specs.StripUnits.{slotOfUnit}
 use Rattle.plain.specs.State.{State, EMPTY, PARTIAL, FULL, Descriptor, Task, Mem, setTask, setHands, Place, idle}
 use Rattle.plain.specs.State.{a1, f1, Work, strip-take, strip-give, working, setStrips}
 use Rattle.plain.specs.Moves.{Answer, going, nothing, refused}
-use Rattle.plain.specs.Steps.{Result, stepOf}
+use Rattle.plain.specs.Steps.{Result, leaveFrom, stepOf}
 
 -- the pool: "the started number of tasks", 0 while it is not started, "and area length", in regions
 pub record Pool : Type 0 where
@@ -37,6 +37,7 @@ pub data Call : Type 0 where
   start : Start → Call
   allocate : (task size : ℕ) → Call
   free : (task unit : ℕ) → Call
+  leave : (task : ℕ) → Call
   step : (task : ℕ) → Call
 
 -- "the lengths lent": those of the control memory, of the area and of the strips' memory
@@ -201,6 +202,13 @@ beginFreeStrip t u m =
 abbrev pub beginFree : ℕ → ℕ → ℕ → Mem → Result
 beginFree t u regions m = if (decLt u UNITS) (beginFreeSmall t u regions m) (beginFreeStrip t u m)
 
+-- the beginning of leaving: "Beginning a request does no step". It goes to the first cache that is not empty; "with
+-- nothing cached it finishes in its first step" (the request for leaving)
+abbrev pub beginLeave : ℕ → Mem → Result
+beginLeave t m =
+    let k = m .task t .cache in
+    (setTask t (record { place = working (leaveFrom k 0 CLASSES); cache = k }) m, going nothing)
+
 -- "6 the task has a request in hand": the beginning x of a request is made at idle alone
 abbrev pub whenIdle : Place → Result → Mem → Result
 whenIdle idle x m = x
@@ -263,4 +271,6 @@ plainCall (allocate t size) lent s =
     tested t lent s (whenIdle (s .mem .task t .place) (beginAllocate t size (s .mem)) (s .mem))
 plainCall (free t u) lent s =
     tested t lent s (whenIdle (s .mem .task t .place) (beginFree t u (s .regions) (s .mem)) (s .mem))
+plainCall (leave t) lent s =
+    tested t lent s (whenIdle (s .mem .task t .place) (beginLeave t (s .mem)) (s .mem))
 plainCall (step t) lent s = tested t lent s (stepOf t (s .mem))

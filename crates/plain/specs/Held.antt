@@ -1,14 +1,15 @@
 -- docs/POOL.md, "The invariant"
 -- What a task has under way at each place.
-use mathlib.Core.List.{List, _∷_, []}
+use mathlib.Core.List.{List, _∷_, _++_, []}
 use Prim.Native.Nat.{ℕ, _+_, _-_}
+use Rattle.limits.specs.Limits.{CLASSES}
 use Rattle.rows.specs.Weights.{when}
 use Rattle.rows.specs.Counting.{count}
 use Rattle.classes.specs.Classes.{perRegion}
 use Rattle.plain.specs.State.{State, EMPTY, PARTIAL, FULL, partial, spare, region, retire, back, release, offer}
 use Rattle.plain.specs.State.{Place, idle, a1, popping, pushing, a3-read, a3-exchange, a4, a7, a8, f1, f2}
 use Rattle.plain.specs.State.{f3-read, f3-link, f3-exchange, f4-clear, strip-take, strip-give, Work, working}
-use Rattle.plain.specs.State.{Pop, Push}
+use Rattle.plain.specs.State.{Pop, Push, Purpose, to-free, to-leave, leave-end}
 use Rattle.plain.specs.Blocks.{blocksFrom}
 
 -- What a task has under way beside its caches: blocks, all of one class; descriptors held as spare, which are
@@ -26,11 +27,16 @@ pub record Held : Type 0 where
 abbrev pub hold : ℕ → List ℕ → List ℕ → List ℕ → List ℕ → Held
 hold c b s l r = record { class = c; blocks = b; spares = s; listed = l; regions = r; closing = [] }
 
--- the descriptor that a free owes to the partial list, if it found the anchor FULL
+-- the descriptor that a return owes to the partial list, if it found the anchor FULL
 abbrev pub owed : State → ℕ → List ℕ
 owed EMPTY d = []
 owed PARTIAL d = []
 owed FULL d = d ∷ []
+
+-- the block that a task has of its own while it returns a cache: the one being freed. Leaving has none.
+abbrev pub ownBlocks : Purpose → List ℕ
+ownBlocks (to-free u) = u ∷ []
+ownBlocks to-leave = []
 
 -- what a task has under way in a pop, whatever its phase
 abbrev pub popHeld : Pop → Held
@@ -42,11 +48,12 @@ popHeld (region c d) = hold c [] (d ∷ []) [] []
 abbrev pub pushHeld : Push → Held
 pushHeld (retire c d) = hold c [] (d ∷ []) [] []
 pushHeld (back c d) = hold c [] (d ∷ []) [] []
-pushHeld (release c u d w r) = hold c (u ∷ []) [] (owed w d) (r ∷ [])
-pushHeld (offer c u d) = hold c (u ∷ []) [] (d ∷ []) []
+pushHeld (release c z d w r) = hold c (ownBlocks z) [] (owed w d) (r ∷ [])
+pushHeld (offer c z d) = hold c (ownBlocks z) [] (d ∷ []) []
 
 -- What each place has under way. The blocks are a taken chain, those still to be carved, the block being freed,
--- and a group. A strip's request has no small block, no descriptor and no region.
+-- and a group. A strip's request has no small block, no descriptor and no region, nor has the last step of leaving,
+-- which is past all classes.
 abbrev pub heldAt : Work → Held
 heldAt (a1 c) = hold c [] [] [] []
 heldAt (popping p φ) = popHeld p
@@ -57,14 +64,15 @@ heldAt (a4 c x q) = hold c (x ∷ q) [] [] []
 heldAt (a7 c d r) = hold c [] (d ∷ []) [] (r ∷ [])
 heldAt (a8 c r i) = hold c (blocksFrom r c i (perRegion c - i)) [] [] []
 heldAt (f1 c u) = hold c (u ∷ []) [] [] []
-heldAt (f2 c u g) = hold c (u ∷ g) [] [] []
-heldAt (f3-read c u y g) = hold c (u ∷ y ∷ g) [] [] []
-heldAt (f3-link c u y g d n) = hold c (u ∷ y ∷ g) [] [] []
-heldAt (f3-exchange c u y g d n) = hold c (u ∷ y ∷ g) [] [] []
-heldAt (f4-clear c u d w r) =
-    record { class = c; blocks = u ∷ []; spares = []; listed = owed w d; regions = []; closing = r ∷ [] }
+heldAt (f2 c z g) = hold c (ownBlocks z ++ g) [] [] []
+heldAt (f3-read c z y g) = hold c (ownBlocks z ++ (y ∷ g)) [] [] []
+heldAt (f3-link c z y g d n) = hold c (ownBlocks z ++ (y ∷ g)) [] [] []
+heldAt (f3-exchange c z y g d n) = hold c (ownBlocks z ++ (y ∷ g)) [] [] []
+heldAt (f4-clear c z d w r) =
+    record { class = c; blocks = ownBlocks z; spares = []; listed = owed w d; regions = []; closing = r ∷ [] }
 heldAt (strip-take k) = hold 0 [] [] [] []
 heldAt (strip-give s) = hold 0 [] [] [] []
+heldAt leave-end = hold CLASSES [] [] [] []
 
 -- what a task has under way at its place: an idle one has nothing
 abbrev pub held : Place → Held

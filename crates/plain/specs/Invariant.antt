@@ -21,6 +21,7 @@ use Rattle.plain.specs.HolderWeights.{openWeight, fullWeight, blockWeigh
 use Rattle.plain.specs.HolderWeights.{descriptorClassWeight, spareWeight, regionWeight, unmappedWeight}
 use Rattle.plain.specs.TaskHolds.{TaskHolds}
 use Rattle.plain.specs.Requests.{freesStrip}
+use Rattle.plain.specs.Leaving.{LeavesHold}
 
 -- how many blocks a chain has in each state, where a region has n
 abbrev pub ChainLength : State → ℕ → ℕ → Type 0
@@ -90,13 +91,14 @@ pub record StripsHold (m : Mem) : Type 0 where
   pub begun-by : (t s : ℕ) → t < TASKS → freesStrip (m .task t .place) ≡ suc s
       → (k : ℕ) × (stripStarts (m .strips) s ≡ here k (begun t))
 
--- the invariant of the pool: at most 8 tasks, and, once it is started, at most 16 regions, its memory's invariant, and
--- that of its strips
+-- the invariant of the pool: at most 8 tasks, and, once it is started, at most 16 regions, its memory's invariant, that
+-- of its strips, and that of the tasks that leave
 pub record Good (s : Pool) : Type 0 where
   pub few : s .tasks ≤ TASKS
   pub small : 1 ≤ s .tasks → s .regions ≤ REGIONS
   pub inv : 1 ≤ s .tasks → Invariant (s .regions) (s .mem)
   pub strips : 1 ≤ s .tasks → StripsHold (s .mem)
+  pub leaves : 1 ≤ s .tasks → LeavesHold (s .mem)
 
 -- the pool after a list of calls, each with the lengths that it is lent
 unfoldable pub run : List (Call × Lengths) → Pool → Pool

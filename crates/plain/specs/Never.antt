@@ -9,7 +9,7 @@ use Rattle.limits.specs.Limits.{DESCRIPTORS}
 use Rattle.classes.specs.Classes.{perRegion}
 use Rattle.classes.specs.Geometry.{regionOf}
 use Rattle.plain.specs.State.{PARTIAL, FULL, Note, exchange, Pop, popping, a3-read, a3-exchange, f2, f3-read}
-use Rattle.plain.specs.State.{f3-link, f3-exchange, Mem, working}
+use Rattle.plain.specs.State.{f3-link, f3-exchange, Mem, working, Purpose}
 use Rattle.plain.specs.Steps.{popList, AsNoted}
 use Rattle.plain.specs.Calls.{Opens}
 
@@ -40,17 +40,21 @@ pub record NeverHappens (m : Mem) (t : ℕ) : Type 0 where
   pub popExchange : (p : Pop) (n : ℕ) → m .task t .place ≡ working (popping p (exchange n)) → m .won (popList p) ≡ n
       → TopItem (m .row (popList p))
   -- a group step with the cache empty has a group to close
-  pub groupStep : (c u : ℕ) (g : List ℕ) → m .task t .place ≡ working (f2 c u g) → m .task t .cache c ≡ [] → TopItem g
-  -- the anchor read of a free finds an open region's descriptor
-  pub freeReads : (c u y : ℕ) (g : List ℕ) → m .task t .place ≡ working (f3-read c u y g) → GroupNamed m c y g
+  pub groupStep : (c : ℕ) (z : Purpose) (g : List ℕ) → m .task t .place ≡ working (f2 c z g) → m .task t .cache c ≡ []
+      → TopItem g
+  -- the anchor read of a return finds an open region's descriptor
+  pub freeReads : (c : ℕ) (z : Purpose) (y : ℕ) (g : List ℕ) → m .task t .place ≡ working (f3-read c z y g)
+      → GroupNamed m c y g
   -- the anchor read of an allocate never finds FULL
   pub allocateReads : (c d : ℕ) → m .task t .place ≡ working (a3-read c d) → m .descriptor d .state ≢ FULL
   -- the won anchor exchange of an allocate had noted PARTIAL, and takes a chain that is not empty
   pub allocateTakes : (c d : ℕ) (n : Note) → m .task t .place ≡ working (a3-exchange c d n)
       → AsNoted (m .descriptor d) n
       → (n .state ≡ PARTIAL) × TopItem (m .descriptor d .chain)
-  -- no count of a free passes n
-  pub freeLinks : (c u y : ℕ) (g : List ℕ) (d : ℕ) (n : Note) → m .task t .place ≡ working (f3-link c u y g d n)
+  -- no count of a return passes n
+  pub freeLinks : (c : ℕ) (z : Purpose) (y : ℕ) (g : List ℕ) (d : ℕ) (n : Note)
+      → m .task t .place ≡ working (f3-link c z y g d n)
       → GroupFits m c y g d (n .length)
-  pub freeReturns : (c u y : ℕ) (g : List ℕ) (d : ℕ) (n : Note) → m .task t .place ≡ working (f3-exchange c u y g d n)
+  pub freeReturns : (c : ℕ) (z : Purpose) (y : ℕ) (g : List ℕ) (d : ℕ) (n : Note)
+      → m .task t .place ≡ working (f3-exchange c z y g d n)
       → GroupFits m c y g d (n .length)

@@ -47,19 +47,26 @@ pub data Pop : Type 0 where
   -- allocate, step 6: "Pop a spare region", with the descriptor popped before
   region : (c d : ℕ) → Pop
 
--- The pushes of the step list: u is the block being freed, w the state in which its free found the anchor, r a region.
+-- What a task returns a cache for: the free of the block u, whose cache is full, or leaving, where "each non-empty
+-- cache is returned as in free, steps 2 to 6" (the request for leaving).
+pub data Purpose : Type 0 where
+  to-free : (u : ℕ) → Purpose
+  to-leave : Purpose
+
+-- The pushes of the step list: z is what the task returns for, w the state in which it found the anchor, r a region.
 pub data Push : Type 0 where
   -- allocate, step 3: "EMPTY: push the descriptor on the spare list"
   retire : (c d : ℕ) → Push
   -- allocate, step 6: "Empty: push the descriptor back"
   back : (c d : ℕ) → Push
   -- free, step 4: "then push that region on its spare list"
-  release : (c u d : ℕ) (w : State) (r : ℕ) → Push
+  release : (c : ℕ) (z : Purpose) (d : ℕ) (w : State) (r : ℕ) → Push
   -- free, step 5: "push the descriptor on the partial list"
-  offer : (c u d : ℕ) → Push
+  offer : (c : ℕ) (z : Purpose) (d : ℕ) → Push
 
 -- "place in the step list, what it noted and what it has under way", of a task at work. A place is named by its pop or
--- push, or by its step: a of Allocate, f of Free. y is the first block of a group and g the others.
+-- push, or by its step: a of Allocate, f of Free. The places of free's steps 2 to 5 are those of leaving, too: z says
+-- for which of the two. y is the first block of a group and g the others.
 pub data Work : Type 0 where
   a1 : (c : ℕ) → Work
   popping : Pop → Phase → Work
@@ -73,15 +80,17 @@ pub data Work : Type 0 where
   a8 : (c r i : ℕ) → Work
   f1 : (c u : ℕ) → Work
   -- g is the group so far
-  f2 : (c u : ℕ) (g : List ℕ) → Work
-  f3-read : (c u y : ℕ) (g : List ℕ) → Work
-  f3-link : (c u y : ℕ) (g : List ℕ) (d : ℕ) (n : Note) → Work
-  f3-exchange : (c u y : ℕ) (g : List ℕ) (d : ℕ) (n : Note) → Work
-  f4-clear : (c u d : ℕ) (w : State) (r : ℕ) → Work
+  f2 : (c : ℕ) (z : Purpose) (g : List ℕ) → Work
+  f3-read : (c : ℕ) (z : Purpose) (y : ℕ) (g : List ℕ) → Work
+  f3-link : (c : ℕ) (z : Purpose) (y : ℕ) (g : List ℕ) (d : ℕ) (n : Note) → Work
+  f3-exchange : (c : ℕ) (z : Purpose) (y : ℕ) (g : List ℕ) (d : ℕ) (n : Note) → Work
+  f4-clear : (c : ℕ) (z : Purpose) (d : ℕ) (w : State) (r : ℕ) → Work
   -- a strip of order k is to be taken
   strip-take : (k : ℕ) → Work
   -- the strip at the slot s, whose free has begun, is to be given back
   strip-give : (s : ℕ) → Work
+  -- all caches of a task that leaves are empty: "one further step .. finishes the request" (the request for leaving)
+  leave-end : Work
 
 -- "each task's request": none, or one that it is at work on
 pub data Place : Type 0 where

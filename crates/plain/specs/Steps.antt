@@ -6,7 +6,7 @@ use mathlib.Core.List.{List, _∷_, _++_, []}
 use Prim.Native.Nat.{ℕ, zero, suc}
 use native.Mathlib.Decide.{ℕ-discrete, decLt}
 use lib.ListN.{length}
-use Rattle.limits.specs.Limits.{SPARE-DESCRIPTORS, SPARE-REGIONS}
+use Rattle.limits.specs.Limits.{SPARE-DESCRIPTORS, SPARE-REGIONS, CLASSES}
 use Rattle.rows.specs.Branch.{if, both}
 use Rattle.rows.specs.Update.{update}
 use Rattle.classes.specs.Classes.{perRegion}
@@ -17,10 +17,12 @@ use Rattle.plain.specs.State.{State, EMPTY, PARTIAL, FULL, stateNumber, 
 use Rattle.plain.specs.State.{exchange, Pop, partial, spare, region, Push, retire, back, release, offer, Place}
 use Rattle.plain.specs.State.{idle, a1, popping, pushing, a3-read, a3-exchange, a4, a7, a8, f1, f2, f3-read}
 use Rattle.plain.specs.State.{f3-link, f3-exchange, f4-clear, Mem, setTask, setRow, setDescriptor, setMap}
-use Rattle.plain.specs.State.{setHands, Work, working, strip-take, strip-give, setStrips}
+use Rattle.plain.specs.State.{setHands, Work, working, strip-take, strip-give, leave-end, setStrips, Purpose}
+use Rattle.plain.specs.State.{to-free, to-leave}
 use Rattle.plain.specs.Moves.{Decided, nothing, found-empty, popped, pushed, lost, anchor-empty, took, gave}
 use Rattle.plain.specs.Moves.{anchor-lost, strip-taken, strip-given, no-strip, Answer, going, finished}
 use Rattle.plain.specs.Moves.{finishedBy, ended, refused}
+unfoldable pub use Rattle.plain.specs.AfterReturn.{ifNone, leaveFrom, whenReturned, f6, f5}
 
 -- a step gives the pool after it and the answer
 abbrev pub Result : Type 0
@@ -43,28 +45,17 @@ popList (region c d) = SPARE-REGIONS
 abbrev pub pushList : Push → ℕ
 pushList (retire c d) = SPARE-DESCRIPTORS
 pushList (back c d) = SPARE-DESCRIPTORS
-pushList (release c u d w r) = SPARE-REGIONS
-pushList (offer c u d) = c
+pushList (release c z d w r) = SPARE-REGIONS
+pushList (offer c z d) = c
 
 -- the item of a push
 abbrev pub pushItem : Push → ℕ
 pushItem (retire c d) = d
 pushItem (back c d) = d
-pushItem (release c u d w r) = r
-pushItem (offer c u d) = d
+pushItem (release c z d w r) = r
+pushItem (offer c z d) = d
 
 -- ---- where a decided move leads: "a branch on what was read is no step"
-
--- free, step 6: "Cache not empty: 2. Else 1."
-abbrev pub f6 : List ℕ → ℕ → ℕ → Work
-f6 [] c u = f1 c u
-f6 (x ∷ q) c u = f2 c u []
-
--- free, step 5: "If it was FULL: push the descriptor on the partial list"; cache is the class's
-abbrev pub f5 : State → List ℕ → ℕ → ℕ → ℕ → Work
-f5 EMPTY cache c u d = f6 cache c u
-f5 PARTIAL cache c u d = f6 cache c u
-f5 FULL cache c u d = pushing (offer c u d) read
 
 -- allocate, step 4: "Move the taken chain to the cache, .. ; after the last, 1"; of an empty chain nothing is moved
 -- (nor is one ever taken: the anchor was PARTIAL)
@@ -89,8 +80,8 @@ whenPopped (region c d) x = a7 c d x
 abbrev pub whenPushed : Push → (ℕ → List ℕ) → Decided → Place × Answer
 whenPushed (retire c d) k e = (working (popping (partial c) read), going e)
 whenPushed (back c d) k e = (idle, ended 13 e)
-whenPushed (release c u d w r) k e = (working (f5 w (k c) c u d), going e)
-whenPushed (offer c u d) k e = (working (f6 (k c) c u), going e)
+whenPushed (release c z d w r) k e = (working (f5 w k c z d), going e)
+whenPushed (offer c z d) k e = (working (f6 k c z), going e)
 
 -- ---- anchors
 
@@ -203,49 +194,49 @@ module _ (t : ℕ) (k : ℕ → List ℕ) where
   abbrev pub f1Step : ℕ → ℕ → Mem → Result
   f1Step c u m =
       if (decLt (length (k c)) (perRegion c)) (cached c (u ∷ k c) idle m, finished 0)
-      (atWork (f2 c u []) m, going nothing)
+      (atWork (f2 c (to-free u) []) m, going nothing)
 
   -- the step "closes the group"; a group of none has nothing to return (nor does it ever close: the cache was not
   -- empty)
-  abbrev pub closed : ℕ → ℕ → List ℕ → Work
-  closed c u [] = f6 (k c) c u
-  closed c u (y ∷ g) = f3-read c u y g
+  abbrev pub closed : ℕ → Purpose → List ℕ → Work
+  closed c z [] = f6 k c z
+  closed c z (y ∷ g) = f3-read c z y g
 
   -- free, step 2: "A step takes the cache's top into the group, if the group is empty or the top is of the same region.
   -- Otherwise, or with the cache empty, that step closes the group." The rows are the cache and the group.
-  abbrev pub f2Step : ℕ → ℕ → List ℕ → List ℕ → Mem → Result
-  f2Step c u [] g m = (atWork (closed c u g) m, going nothing)
-  f2Step c u (x ∷ q) [] m = (cached c q (working (f2 c u (x ∷ []))) m, going nothing)
-  f2Step c u (x ∷ q) (y ∷ g) m =
+  abbrev pub f2Step : ℕ → Purpose → List ℕ → List ℕ → Mem → Result
+  f2Step c z [] g m = (atWork (closed c z g) m, going nothing)
+  f2Step c z (x ∷ q) [] m = (cached c q (working (f2 c z (x ∷ []))) m, going nothing)
+  f2Step c z (x ∷ q) (y ∷ g) m =
       if (ℕ-discrete (regionOf x) (regionOf y))
-      (cached c q (working (f2 c u (y ∷ (g ++ (x ∷ []))))) m, going nothing)
-      (atWork (closed c u (y ∷ g)) m, going nothing)
+      (cached c q (working (f2 c z (y ∷ (g ++ (x ∷ []))))) m, going nothing)
+      (atWork (closed c z (y ∷ g)) m, going nothing)
 
   -- free, step 3: "Read the anchor", that of the descriptor that the map names for the group's region; with no such
   -- entry the task stays where it is (nor is there ever none: the group's blocks are of an open region)
-  abbrev pub f3Read : ℕ → ℕ → ℕ → ℕ → List ℕ → Mem → Result
-  f3Read zero c u y g m = (m, going nothing)
-  f3Read (suc d) c u y g m = (atWork (f3-link c u y g d (noteOf (m .descriptor d))) m, going nothing)
+  abbrev pub f3Read : ℕ → ℕ → Purpose → ℕ → List ℕ → Mem → Result
+  f3Read zero c z y g m = (m, going nothing)
+  f3Read (suc d) c z y g m = (atWork (f3-link c z y g d (noteOf (m .descriptor d))) m, going nothing)
 
   -- "free puts the group, in its order, before the chain, and the state is EMPTY at n blocks, else PARTIAL" (there are
   -- never more); step 4 follows if it is now EMPTY, and step 5 by the state w before
-  abbrev pub f3Won : {P : Type 0} → Dec P → ℕ → ℕ → ℕ → List ℕ → ℕ → State → Mem → Result
-  f3Won (yes e) c u y g d w m =
+  abbrev pub f3Won : {P : Type 0} → Dec P → ℕ → Purpose → ℕ → List ℕ → ℕ → State → Mem → Result
+  f3Won (yes e) c z y g d w m =
       let D = m .descriptor d in (
-        atWork (f4-clear c u d w (regionOf y)) (setDescriptor d (chained D EMPTY (y ∷ (g ++ D .chain))) m),
+        atWork (f4-clear c z d w (regionOf y)) (setDescriptor d (chained D EMPTY (y ∷ (g ++ D .chain))) m),
         going (gave d),
       )
-  f3Won (no e) c u y g d w m =
+  f3Won (no e) c z y g d w m =
       let D = m .descriptor d in
-      (atWork (f5 w (k c) c u d) (setDescriptor d (chained D PARTIAL (y ∷ (g ++ D .chain))) m), going (gave d))
+      (atWork (f5 w k c z d) (setDescriptor d (chained D PARTIAL (y ∷ (g ++ D .chain))) m), going (gave d))
 
   -- "The exchange is won exactly if all three are as noted"; "Lost: read again"
-  abbrev pub f3Exchange : ℕ → ℕ → ℕ → List ℕ → ℕ → Note → Mem → Result
-  f3Exchange c u y g d n m =
+  abbrev pub f3Exchange : ℕ → Purpose → ℕ → List ℕ → ℕ → Note → Mem → Result
+  f3Exchange c z y g d n m =
       let D = m .descriptor d in
       if (asNoted? D n)
-      (f3Won (ℕ-discrete (length (y ∷ (g ++ D .chain))) (perRegion c)) c u y g d (n .state) m)
-      (atWork (f3-read c u y g) m, going (anchor-lost d))
+      (f3Won (ℕ-discrete (length (y ∷ (g ++ D .chain))) (perRegion c)) c z y g d (n .state) m)
+      (atWork (f3-read c z y g) m, going (anchor-lost d))
 
   -- the request for a strip: "finishes, or ends with 16, in its first step, which is one move of the whole run"
   abbrev pub stripTakeStep : StripTaken → Mem → Result
@@ -267,14 +258,16 @@ module _ (t : ℕ) (k : ℕ → List ℕ) where
   stepAt (a7 c d r) m = a7Step c d r m
   stepAt (a8 c r i) m = a8Step c r i m
   stepAt (f1 c u) m = f1Step c u m
-  stepAt (f2 c u g) m = f2Step c u (k c) g m
-  stepAt (f3-read c u y g) m = f3Read (m .map (regionOf y)) c u y g m
-  stepAt (f3-link c u y g d n) m = (atWork (f3-exchange c u y g d n) m, going nothing)
-  stepAt (f3-exchange c u y g d n) m = f3Exchange c u y g d n m
+  stepAt (f2 c z g) m = f2Step c z (k c) g m
+  stepAt (f3-read c z y g) m = f3Read (m .map (regionOf y)) c z y g m
+  stepAt (f3-link c z y g d n) m = (atWork (f3-exchange c z y g d n) m, going nothing)
+  stepAt (f3-exchange c z y g d n) m = f3Exchange c z y g d n m
   -- free, step 4: "one step clears the map entry of the group's region"
-  stepAt (f4-clear c u d w r) m = (atWork (pushing (release c u d w r) read) (setMap r 0 m), going nothing)
+  stepAt (f4-clear c z d w r) m = (atWork (pushing (release c z d w r) read) (setMap r 0 m), going nothing)
   stepAt (strip-take order) m = stripTakeStep (takeStrip order (m .strips)) m
   stepAt (strip-give s) m = stripGiveStep s m
+  -- "one further step, after all are empty, finishes the request" (the request for leaving)
+  stepAt leave-end m = (atPlace idle m, finished 0)
 
 -- "7 step without one": a task that is idle makes no step
 abbrev pub whenWorking : Place → (Work → Result) → Mem → Result

@@ -10,7 +10,8 @@ use Rattle.classes.specs.Classes.{perRegion}
 use Rattle.classes.specs.Geometry.{regionOf}
 use Rattle.plain.specs.State.{stateNumber, Phase, read, next, exchange, retire, back, release, offer, Place, idle}
 use Rattle.plain.specs.State.{a1, popping, pushing, a3-read, a3-exchange, a4, a7, a8, f1, f2, f3-read, f3-link}
-use Rattle.plain.specs.State.{f3-exchange, f4-clear, strip-take, strip-give, Task, Mem, Work, working, Push}
+use Rattle.plain.specs.State.{f3-exchange, f4-clear, strip-take, strip-give, leave-end, Task, Mem, Work, working}
+use Rattle.plain.specs.State.{Push}
 use Rattle.plain.specs.Steps.{popList, pushList}
 use Rattle.plain.specs.Held.{popHeld, Held, blockIn, descriptorIn, held}
 use Rattle.plain.specs.Noted.{Noted, unnoted, pop-noted, push-noted, anchor-noted, entry-noted, noted}
@@ -32,18 +33,20 @@ EmptyCache k c = (c < CLASSES) × (length (k c) ≡ 0)
 abbrev pub RoomInCache : (ℕ → List ℕ) → ℕ → Type 0
 RoomInCache k c = (c < CLASSES) × (length (k c) < perRegion c)
 
--- In the pushes of an allocate the cache is empty; in those of a free, which has returned its group, it has room.
+-- In the pushes of an allocate the cache is empty; in those of a return, for a free or for leaving, it has room, since
+-- its group is returned.
 abbrev pub PushHolds : (ℕ → List ℕ) → Push → Type 0
 PushHolds k (retire c d) = EmptyCache k c
 PushHolds k (back c d) = EmptyCache k c
-PushHolds k (release c u d w r) = RoomInCache k c
-PushHolds k (offer c u d) = RoomInCache k c
+PushHolds k (release c z d w r) = RoomInCache k c
+PushHolds k (offer c z d) = RoomInCache k c
 
 -- What holds of the caches k at each place. The class is one of the classes. In an allocate, from the pop of step 2 to
 -- step 7, its cache is empty; an anchor that is to be exchanged was not noted as EMPTY; the taken chain and the cache
--- have fewer than n blocks; as many blocks are cached as carved. In a free, group and cache are not both empty, and
--- have at most n blocks; the group lies in one region, and has at most n blocks with the chain that was noted; after
--- its return the cache has fewer than n. The order and the slot of a strip's request are one of the orders and slots.
+-- have fewer than n blocks; as many blocks are cached as carved. In a return, for a free or for leaving, group and
+-- cache are not both empty, and have at most n blocks; the group lies in one region, and has at most n blocks with the
+-- chain that was noted; after its return the cache has fewer than n. The order and the slot of a strip's request are
+-- one of the orders and slots.
 abbrev pub HoldsAt : (ℕ → List ℕ) → Work → Type 0
 HoldsAt k (a1 c) = c < CLASSES
 HoldsAt k (popping p φ) = EmptyCache k (popHeld p .class)
@@ -54,18 +57,19 @@ HoldsAt k (a4 c x q) = (c < CLASSES) × (length (k c) + suc (length q) < perRegi
 HoldsAt k (a7 c d r) = EmptyCache k c
 HoldsAt k (a8 c r i) = (c < CLASSES) × (length (k c) ≡ i) × (i < perRegion c)
 HoldsAt k (f1 c u) = c < CLASSES
-HoldsAt k (f2 c u g) =
+HoldsAt k (f2 c z g) =
     (c < CLASSES) × (1 ≤ length (k c) + length g) × (length (k c) + length g ≤ perRegion c) × Group g
-HoldsAt k (f3-read c u y g) = (c < CLASSES) × (length (k c) + suc (length g) ≤ perRegion c) × Together y g
-HoldsAt k (f3-link c u y g d n) =
+HoldsAt k (f3-read c z y g) = (c < CLASSES) × (length (k c) + suc (length g) ≤ perRegion c) × Together y g
+HoldsAt k (f3-link c z y g d n) =
     (c < CLASSES) × (length (k c) + suc (length g) ≤ perRegion c) × Together y g
     × (n .length + suc (length g) ≤ perRegion c)
-HoldsAt k (f3-exchange c u y g d n) =
+HoldsAt k (f3-exchange c z y g d n) =
     (c < CLASSES) × (length (k c) + suc (length g) ≤ perRegion c) × Together y g
     × (n .length + suc (length g) ≤ perRegion c)
-HoldsAt k (f4-clear c u d w r) = RoomInCache k c
+HoldsAt k (f4-clear c z d w r) = RoomInCache k c
 HoldsAt k (strip-take j) = j < ORDERS
 HoldsAt k (strip-give s) = s < SLOTS
+HoldsAt k leave-end = Unit {0}
 
 -- What holds of the caches k at a place: of an idle task nothing is asked.
 abbrev pub PlaceHolds : (ℕ → List ℕ) → Place → Type 0
@@ -86,7 +90,7 @@ PushNote won (next n) = n ≤ won
 PushNote won (exchange n) = n ≤ won
 
 -- What holds of the note of a task that has h under way. Where an allocate noted the anchor of a descriptor, it has it
--- in hand; where a free did, the map still names it for the region of a block under way.
+-- in hand; where a return did, the map still names it for the region of a block under way.
 abbrev pub NotedHolds : (ℕ → List ℕ) → (won map : ℕ → ℕ) → Held → Noted → Type 0
 NotedHolds row won map h unnoted = Unit {0}
 NotedHolds row won map h (pop-noted p φ) = PopNote (row (popList p)) (won (popList p)) φ

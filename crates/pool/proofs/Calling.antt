@@ -10,13 +10,15 @@ use lib.ListN.{length}
 use Rattle.limits.specs.Limits.{CONTROL-BYTES, REGION-BYTES, TASKS, REGIONS}
 use Rattle.fields.specs.Columns.{View}
 use Rattle.links.specs.Link.{link}
-use Rattle.plain.specs.Calls.{allocate, free, step, Lengths}
+use Rattle.plain.specs.Calls.{allocate, free, leave, step, Lengths}
 use Rattle.control.specs.Layout.{Regions, seen}
 use Rattle.control.specs.Answers.{numberOf}
 use Rattle.control.specs.declared.answer.Answer.{Answer}
 use Rattle.stepped.specs.Outcome.{Outcome, refuse, effect}
 use Rattle.stepped.specs.Steps as Steps
-use Rattle.stepped.specs.Calls.{tested, whenIdle, beginAllocate, beginFree, allocateOutcome, freeOutcome, stepOutcome}
+use Rattle.stepped.specs.Calls.{tested, whenIdle, beginAllocate, beginFree, allocateOutcome, freeOutcome, leaveOutcome}
+use Rattle.stepped.specs.Calls.{stepOutcome}
+use Rattle.stepped.specs.Leaving.{beginLeave}
 use Rattle.stepped.specs.Done.{Done, NumberIn}
 use Rattle.stepped.proofs.Doing.{lends, numbers}
 use Rattle.begins.specs.TestNumber.{TestsAre}
@@ -68,6 +70,15 @@ module _ (c a z : List ℕ) (t r : ℕ) (T : TestsAre (lengths c a z) (seen c) t
   free-does u regions h e {c′} {s} d n =
       does-is (passes h _)
       (numbers (lends (subst (λ (k : ℕ). Done (whenIdle (seen c) t (beginFree (seen c) k t u)) c c′ s) e d)) n)
+
+  pub leave-refused : r ≢ 0 → Ensures (leave t) c a z c a z r
+  unfolding leaveOutcome
+  leave-refused h = refused-is c a z (refuses h _)
+
+  pub leave-does : r ≡ 0 → {c′ : List ℕ} {s : Answer} {n : ℕ}
+      → Done (whenIdle (seen c) t (beginLeave (seen c) t)) c c′ s → n ≡ numberOf s → Ensures (leave t) c a z c′ a z n
+  unfolding leaveOutcome
+  leave-does h d n = does-is (passes h _) (numbers (lends d) n)
 
   pub step-refused : r ≢ 0 → Ensures (step t) c a z c a z r
   unfolding stepOutcome

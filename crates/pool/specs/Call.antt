@@ -18,7 +18,7 @@ pub record EffectIs (e : Effect) (control area strips : List ℕ) (r : ℕ) : Ty
 
 -- What each exported function ensures: the call k, lent the bytes `control`, `area` and `strips`, leaves control′,
 -- area′ and strips′ and answers r, as the definitions of the stepped pool say. "exported start, begin and step
--- functions on numbers and byte slices": pool_start, pool_begin_allocate, pool_begin_free and pool_step.
+-- functions on numbers and byte slices": pool_start, pool_begin_allocate, pool_begin_free, pool_begin_leave, pool_step.
 abbrev pub Ensures : Call → List ℕ → List ℕ → List ℕ → List ℕ → List ℕ → List ℕ → ℕ → Type 0
 Ensures k control area strips control′ area′ strips′ r =
     EffectIs (effectOf k (record { control = control; area = area; strips = strips })) control′ area′ strips′ r

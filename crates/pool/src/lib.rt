@@ -3,11 +3,13 @@
 // bytes and any numbers are answered.
 use begins::allocate;
 use begins::free;
+use begins::leave;
 use begins::tests;
 use control::answer;
 use control::started;
 use steps::step;
-ghost use Rattle.plain.specs.Calls.{start, allocate as allocated, free as freed, step as stepped};
+ghost use Rattle.plain.specs.Calls.{start, allocate as allocated, free as freed, leave as left};
+ghost use Rattle.plain.specs.Calls.{step as stepped};
 ghost use Rattle.pool.specs.Call.{Ensures};
 
 // Begins a new run with so many tasks, on any bytes: it fills the control memory, and leaves the others as they are.
@@ -83,6 +85,20 @@ pub extern "C" fn pool_begin_free(
     }
     let regions = started::regions(control) as usize;
     answer::number(free::begin(control, regions, task as usize, unit))
+}
+
+// Begins leaving: the steps of the request give back all that the task has cached, class by class. It does no step.
+#[no_mangle]
+pub extern "C" fn pool_begin_leave(control: &mut [u8], area: &[u8], strips: &[u8], task: u64) -> u64
+    ensures { λ r.
+        ⌜ Ensures (left task) (now (control .entry)) (now (area .entry)) (now (strips .entry))
+        (now (control .exit)) (now (area .entry)) (now (strips .entry)) r ⌝ }
+{
+    let refused = tests::tests(control, area.len(), strips.len(), task);
+    if refused != 0 {
+        return refused as u64;
+    }
+    answer::number(leave::begin(control, task as usize))
 }
 
 // One step of the request that a task has in hand.

@@ -50,15 +50,42 @@ unfolding table runs recordAt wideOf counted getLE units perRegion classOf unsta
     Calls.plainCall Calls.startMem Calls.rising Steps.stepOf
 paper-example = refl
 
+-- a task that leaves: it has one block cached, and all steps of its return, and the last, are in one run; it begins
+-- again; a task that has nothing cached takes the last step alone, and a record of leaving that is cut short
+abbrev leaving : List ℕ
+leaving =
+    1 ∷ 2 ∷ 1 ∷
+    2 ∷ 0 ∷ 0 ∷ 1 ∷
+    5 ∷ 0 ∷ 100 ∷ 0 ∷
+    3 ∷ 0 ∷ 224 ∷ 1 ∷
+    5 ∷ 0 ∷ 1 ∷ 0 ∷
+    6 ∷ 0 ∷
+    6 ∷ 0 ∷
+    5 ∷ 0 ∷ 100 ∷ 0 ∷
+    6 ∷ 1 ∷
+    4 ∷ 1 ∷
+    6 ∷ 2 ∷
+    6 ∷ []
+
+pub leaving-example : played leaving
+    ≡ (
+      line 0 1 0 0 ∷ line 1 2 0 0 ∷ line 2 5 20 480 ∷ line 3 3 0 0 ∷ line 4 5 20 0 ∷ line 5 6 0 0 ∷ line 6 6 6 0
+          ∷ line 7 5 20 0 ∷ line 8 6 0 0 ∷ line 9 4 20 0 ∷ line 10 6 5 0 ∷ line 11 6 15 0 ∷ [],
+      total 4 5 3,
+    )
+unfolding table runs recordAt wideOf counted getLE units perRegion classOf unstarted both ℕ-discrete decLt decLe update
+    Calls.plainCall Calls.startMem Calls.rising Steps.stepOf Steps.leaveFrom
+leaving-example = refl
+
 -- no input; a cut start; kind 0, after which nothing is read; an unknown kind; five regions and nine tasks, "more than
 -- 4 regions is 2"; no region; a run of no steps before any start, "code 0, no call made"; a step before any start
 pub edge-cases : map played
-    ([] ∷ (1 ∷ 1 ∷ []) ∷ (0 ∷ 1 ∷ 1 ∷ 1 ∷ []) ∷ (6 ∷ 0 ∷ []) ∷ (1 ∷ 9 ∷ 5 ∷ []) ∷ (1 ∷ 1 ∷ 0 ∷ [])
+    ([] ∷ (1 ∷ 1 ∷ []) ∷ (0 ∷ 1 ∷ 1 ∷ 1 ∷ []) ∷ (7 ∷ 0 ∷ []) ∷ (1 ∷ 9 ∷ 5 ∷ []) ∷ (1 ∷ 1 ∷ 0 ∷ [])
     ∷ (5 ∷ 3 ∷ 0 ∷ 0 ∷ []) ∷ (4 ∷ 0 ∷ []) ∷ [])
     ≡ (([], total 0 0 0)
     ∷ (line 0 1 15 0 ∷ [], total 0 0 1)
     ∷ (line 0 0 15 0 ∷ [], total 0 0 1)
-    ∷ (line 0 6 15 0 ∷ [], total 0 0 1)
+    ∷ (line 0 7 15 0 ∷ [], total 0 0 1)
     ∷ (line 0 1 2 0 ∷ [], total 0 0 1)
     ∷ (line 0 1 2 0 ∷ [], total 0 0 1)
     ∷ (line 0 5 0 0 ∷ [], total 0 1 0)

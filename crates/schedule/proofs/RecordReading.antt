@@ -6,9 +6,9 @@ use mathlib.Core.List.{List}
 use borrow.Author.Tests.{eq-eqb, ne-eqb, le-leb, lt-leb}
 use lib.ListN.{length, getD}
 use Rattle.fields.specs.Little.{getLE}
-use Rattle.schedule.specs.declared.record.Record.the-variants.{Start, Allocate, Free, Step, Run, Bad}
-use Rattle.schedule.specs.Records.{START-KIND, ALLOCATE-KIND, FREE-KIND, STEP-KIND, RUN-KIND, START-BYTES}
-use Rattle.schedule.specs.Records.{STEP-BYTES, WIDE-BYTES, TASK-AT, NUMBER-AT, NUMBER-BYTES, wideOf, recordAt}
+use Rattle.schedule.specs.declared.record.Record.the-variants.{Start, Allocate, Free, Step, Leave, Run, Bad}
+use Rattle.schedule.specs.Records.{START-KIND, ALLOCATE-KIND, FREE-KIND, STEP-KIND, LEAVE-KIND, START-BYTES}
+use Rattle.schedule.specs.Records.{TASK-BYTES, WIDE-BYTES, TASK-AT, NUMBER-AT, NUMBER-BYTES, wideOf, recordAt}
 
 module _ (input : List ℕ) (at : ℕ) where
   abbrev kind : ℕ
@@ -25,38 +25,47 @@ module _ (input : List ℕ) (at : ℕ) where
   no-kind h = rw (lt-leb _ _ h)
 
   module _ (k : START-KIND ≤ kind) where
-    pub unknown : RUN-KIND < kind → Bad ≡ recordAt input at
+    pub unknown : LEAVE-KIND < kind → Bad ≡ recordAt input at
     unfolding recordAt
     unknown h = rw (le-leb _ _ k, lt-leb _ _ h)
 
-    module _ (l : kind ≤ RUN-KIND) where
-      pub step-cut : kind ≡ STEP-KIND → left < STEP-BYTES → Bad ≡ recordAt input at
+    module _ (l : kind ≤ LEAVE-KIND) where
+      pub step-cut : kind ≡ STEP-KIND → left < TASK-BYTES → Bad ≡ recordAt input at
       unfolding recordAt
       step-cut e h = rw (le-leb _ _ k, le-leb _ _ l, eq-eqb _ _ e, lt-leb _ _ h)
 
-      pub step-whole : kind ≡ STEP-KIND → STEP-BYTES ≤ left → Step task ≡ recordAt input at
+      pub step-whole : kind ≡ STEP-KIND → TASK-BYTES ≤ left → Step task ≡ recordAt input at
       unfolding recordAt
       step-whole e h = rw (le-leb _ _ k, le-leb _ _ l, eq-eqb _ _ e, le-leb _ _ h)
 
       module _ (m : kind ≢ STEP-KIND) where
-        pub start-cut : kind ≡ START-KIND → left < START-BYTES → Bad ≡ recordAt input at
+        pub leave-cut : kind ≡ LEAVE-KIND → left < TASK-BYTES → Bad ≡ recordAt input at
         unfolding recordAt
-        start-cut e h = rw (le-leb _ _ k, le-leb _ _ l, ne-eqb _ _ m, eq-eqb _ _ e, lt-leb _ _ h)
+        leave-cut e h = rw (le-leb _ _ k, le-leb _ _ l, ne-eqb _ _ m, eq-eqb _ _ e, lt-leb _ _ h)
 
-        pub start-whole : kind ≡ START-KIND → START-BYTES ≤ left
-            → Start task (getD input (at + NUMBER-AT) 0) ≡ recordAt input at
+        pub leave-whole : kind ≡ LEAVE-KIND → TASK-BYTES ≤ left → Leave task ≡ recordAt input at
         unfolding recordAt
-        start-whole e h = rw (le-leb _ _ k, le-leb _ _ l, ne-eqb _ _ m, eq-eqb _ _ e, le-leb _ _ h)
+        leave-whole e h = rw (le-leb _ _ k, le-leb _ _ l, ne-eqb _ _ m, eq-eqb _ _ e, le-leb _ _ h)
 
-        module _ (n : kind ≢ START-KIND) where
-          pub wide-cut : left < WIDE-BYTES → Bad ≡ recordAt input at
+        module _ (o : kind ≢ LEAVE-KIND) where
+          pub start-cut : kind ≡ START-KIND → left < START-BYTES → Bad ≡ recordAt input at
           unfolding recordAt
-          wide-cut h = rw (le-leb _ _ k, le-leb _ _ l, ne-eqb _ _ m, ne-eqb _ _ n, lt-leb _ _ h)
+          start-cut e h = rw (le-leb _ _ k, le-leb _ _ l, ne-eqb _ _ m, ne-eqb _ _ o, eq-eqb _ _ e, lt-leb _ _ h)
 
-          pub wide-whole : WIDE-BYTES ≤ left
-              → wideOf kind task (getLE input (at + NUMBER-AT) NUMBER-BYTES) ≡ recordAt input at
+          pub start-whole : kind ≡ START-KIND → START-BYTES ≤ left
+              → Start task (getD input (at + NUMBER-AT) 0) ≡ recordAt input at
           unfolding recordAt
-          wide-whole h = rw (le-leb _ _ k, le-leb _ _ l, ne-eqb _ _ m, ne-eqb _ _ n, le-leb _ _ h)
+          start-whole e h = rw (le-leb _ _ k, le-leb _ _ l, ne-eqb _ _ m, ne-eqb _ _ o, eq-eqb _ _ e, le-leb _ _ h)
+
+          module _ (n : kind ≢ START-KIND) where
+            pub wide-cut : left < WIDE-BYTES → Bad ≡ recordAt input at
+            unfolding recordAt
+            wide-cut h = rw (le-leb _ _ k, le-leb _ _ l, ne-eqb _ _ m, ne-eqb _ _ o, ne-eqb _ _ n, lt-leb _ _ h)
+
+            pub wide-whole : WIDE-BYTES ≤ left
+                → wideOf kind task (getLE input (at + NUMBER-AT) NUMBER-BYTES) ≡ recordAt input at
+            unfolding recordAt
+            wide-whole h = rw (le-leb _ _ k, le-leb _ _ l, ne-eqb _ _ m, ne-eqb _ _ o, ne-eqb _ _ n, le-leb _ _ h)
 
 -- a task, and the number m in two bytes
 module _ (kind task : ℕ) {number m : ℕ} (h : number ≡ m) where

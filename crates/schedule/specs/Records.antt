@@ -8,7 +8,7 @@ use lib.ListN.{length, getD}
 use Rattle.fields.specs.Little.{getLE}
 use Rattle.schedule.specs.declared.record.Entry.{Entry}
 use Rattle.schedule.specs.declared.record.Record.{Record}
-use Rattle.schedule.specs.declared.record.Record.the-variants.{Start, Allocate, Free, Step, Run, Bad}
+use Rattle.schedule.specs.declared.record.Record.the-variants.{Start, Allocate, Free, Step, Run, Leave, Bad}
 
 -- the longest schedule: "Input past 65,536 bytes is not read"
 abbrev pub INPUT-BYTES : ℕ
@@ -30,17 +30,21 @@ FREE-KIND = 3
 abbrev pub STEP-KIND : ℕ
 STEP-KIND = 4
 
--- "5 run", the last of them
+-- "5 run"
 abbrev pub RUN-KIND : ℕ
 RUN-KIND = 5
+
+-- "6 leave" (the request for leaving), the last of them
+abbrev pub LEAVE-KIND : ℕ
+LEAVE-KIND = 6
 
 -- how many bytes a start has, its kind with it: "start (tasks, regions)"
 abbrev pub START-BYTES : ℕ
 START-BYTES = 3
 
--- how many bytes a step has, its kind with it: "step (task)"
-abbrev pub STEP-BYTES : ℕ
-STEP-BYTES = 2
+-- how many bytes a step or a leave has, its kind with it: "step (task)"
+abbrev pub TASK-BYTES : ℕ
+TASK-BYTES = 2
 
 -- how many bytes an allocate, a free or a run has, its kind with it: a task, and a number in two bytes
 abbrev pub WIDE-BYTES : ℕ
@@ -70,19 +74,20 @@ wideOf kind task number =
     cond (eqb kind ALLOCATE-KIND) (Allocate task number)
     (cond (eqb kind FREE-KIND) (Free task number) (Run task number))
 
--- the record that begins at the byte `at`: "1 start (tasks, regions); .. 4 step (task)"; "15 unknown kind or cut
--- record"
+-- the record that begins at the byte `at`: "1 start (tasks, regions); .. 4 step (task)", and 6 leave (task); "15
+-- unknown kind or cut record"
 unfoldable pub recordAt : List ℕ → ℕ → Record
 recordAt input at =
     let kind = getD input at 0 in
     let left = length input - at in
     cond (leb START-KIND kind)
-    (cond (leb kind RUN-KIND)
-    (cond (eqb kind STEP-KIND) (cond (leb STEP-BYTES left) (Step (getD input (at + TASK-AT) 0)) Bad)
+    (cond (leb kind LEAVE-KIND)
+    (cond (eqb kind STEP-KIND) (cond (leb TASK-BYTES left) (Step (getD input (at + TASK-AT) 0)) Bad)
+    (cond (eqb kind LEAVE-KIND) (cond (leb TASK-BYTES left) (Leave (getD input (at + TASK-AT) 0)) Bad)
     (cond (eqb kind START-KIND)
     (cond (leb START-BYTES left) (Start (getD input (at + TASK-AT) 0) (getD input (at + NUMBER-AT) 0)) Bad)
     (cond (leb WIDE-BYTES left)
-    (wideOf kind (getD input (at + TASK-AT) 0) (getLE input (at + NUMBER-AT) NUMBER-BYTES)) Bad)))
+    (wideOf kind (getD input (at + TASK-AT) 0) (getLE input (at + NUMBER-AT) NUMBER-BYTES)) Bad))))
     Bad)
     Bad
 
@@ -95,6 +100,7 @@ abbrev pub endOf : Record → ℕ → ℕ → ℕ
 endOf (Start a b) at end = at + START-BYTES
 endOf (Allocate a b) at end = at + WIDE-BYTES
 endOf (Free a b) at end = at + WIDE-BYTES
-endOf (Step a) at end = at + STEP-BYTES
+endOf (Step a) at end = at + TASK-BYTES
 endOf (Run a b) at end = at + WIDE-BYTES
+endOf (Leave a) at end = at + TASK-BYTES
 endOf Bad at end = end

@@ -6,11 +6,11 @@ use mathlib.Core.List.{List, [], _∷_}
 use lib.Dec.{eqb, ltb}
 use lib.ListN.{length}
 use Rattle.limits.specs.Limits.{REGION-BYTES}
-use Rattle.plain.specs.Calls.{Call, start, allocate, free, step}
+use Rattle.plain.specs.Calls.{Call, start, allocate, free, leave, step}
 use Rattle.control.specs.Answers.{CODES}
 use Rattle.schedule.specs.declared.record.Entry.{Entry}
 use Rattle.schedule.specs.declared.record.Record.{Record}
-use Rattle.schedule.specs.declared.record.Record.the-variants.{Start, Allocate, Free, Step, Run, Bad}
+use Rattle.schedule.specs.declared.record.Record.the-variants.{Start, Allocate, Free, Step, Run, Leave, Bad}
 use Rattle.schedule.specs.declared.tally.Tally.{Tally}
 use Rattle.schedule.specs.declared.treat.Line.{Line}
 use Rattle.schedule.specs.Records.{recordAt, entryAt, endOf}
@@ -51,6 +51,7 @@ module _ {S : Type 0} (call : Call → Lends → S → S × ℕ) where
   treated (Free t u) s = call (free t u) as-started s
   treated (Step t) s = call (step t) as-started s
   treated (Run t most) s = runs 0 t most s
+  treated (Leave t) s = call (leave t) as-started s
   treated Bad s = (s, 15)
 
   -- what a record does, and its line

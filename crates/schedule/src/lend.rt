@@ -5,7 +5,8 @@ ghost use mathlib.Core.Path.{_≡_};
 ghost use Prim.Native.Nat.{_*_, _≤_};
 ghost use Rattle.limits.specs.Limits.{REGION-BYTES};
 ghost use Rattle.control.specs.Layout.{Control, seen};
-ghost use Rattle.plain.specs.Calls.{start as started, allocate as allocated, free as freed, step as stepped};
+ghost use Rattle.plain.specs.Calls.{start as started, allocate as allocated, free as freed, leave as left};
+ghost use Rattle.plain.specs.Calls.{step as stepped};
 ghost use Rattle.schedule.specs.Stand.{STAND-AREA, named, as-started};
 ghost use Rattle.schedule.specs.Bytes.{lentRegions, onBytes, Does, StandMemories};
 
@@ -61,6 +62,16 @@ pub fn free(control: &mut [u8], area: &mut [u8], strips: &[u8], task: u8, unit: 
 {
     let n = lent(control);
     pool::pool_begin_free(control, &area[0..n], strips, task as u64, unit as u64)
+}
+
+pub fn leave(control: &mut [u8], area: &mut [u8], strips: &[u8], task: u8) -> u64
+    requires { ⌜ StandMemories (now control) (now area) (now strips) ⌝ }
+    ensures { λ r.
+        ⌜ Does (onBytes (left task) as-started) (now (control .entry)) (now (area .entry))
+        (now (strips .entry)) (now (control .exit)) (now (area .exit)) (now (strips .entry)) r ⌝ }
+{
+    let n = lent(control);
+    pool::pool_begin_leave(control, &area[0..n], strips, task as u64)
 }
 
 pub fn step(control: &mut [u8], area: &mut [u8], strips: &[u8], task: u8) -> u64

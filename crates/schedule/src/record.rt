@@ -17,9 +17,11 @@ const STEP_KIND: u8 = 4;
 
 const RUN_KIND: u8 = 5;
 
+const LEAVE_KIND: u8 = 6;
+
 const START_BYTES: usize = 3;
 
-const STEP_BYTES: usize = 2;
+const TASK_BYTES: usize = 2;
 
 const WIDE_BYTES: usize = 4;
 
@@ -39,6 +41,8 @@ pub enum Record {
     Step(u8),
     // A task and the most steps.
     Run(u8, u16),
+    // A task.
+    Leave(u8),
     // An unknown kind, or a record that the end of the input cuts short.
     Bad,
 }
@@ -77,14 +81,20 @@ pub fn read(input: &[u8], at: usize) -> Record
     if kind < START_KIND {
         return Record::Bad;
     }
-    if RUN_KIND < kind {
+    if LEAVE_KIND < kind {
         return Record::Bad;
     }
     if kind == STEP_KIND {
-        if left < STEP_BYTES {
+        if left < TASK_BYTES {
             return Record::Bad;
         }
         return Record::Step(input[at + TASK_AT]);
+    }
+    if kind == LEAVE_KIND {
+        if left < TASK_BYTES {
+            return Record::Bad;
+        }
+        return Record::Leave(input[at + TASK_AT]);
     }
     if kind == START_KIND {
         if left < START_BYTES {
@@ -120,8 +130,9 @@ pub fn end(body: Record, at: usize, end: usize) -> usize
         Record::Start(_, _) => at + START_BYTES,
         Record::Allocate(_, _) => at + WIDE_BYTES,
         Record::Free(_, _) => at + WIDE_BYTES,
-        Record::Step(_) => at + STEP_BYTES,
+        Record::Step(_) => at + TASK_BYTES,
         Record::Run(_, _) => at + WIDE_BYTES,
+        Record::Leave(_) => at + TASK_BYTES,
         Record::Bad => end,
     }
 }

@@ -47,6 +47,7 @@ pub fn treat(control: &mut [u8], area: &mut [u8], strips: &[u8], body: Record) -
         Record::Free(task, unit) => lend::free(control, area, strips, task, unit),
         Record::Step(task) => lend::step(control, area, strips, task),
         Record::Run(task, most) => run(control, area, strips, task, most),
+        Record::Leave(task) => lend::leave(control, area, strips, task),
         Record::Bad => 15,
     }
 }

@@ -14,7 +14,7 @@ use Rattle.links.specs.Link.{link}
 use Rattle.links.proofs.Links.{length-linked}
 use Rattle.plain.specs.Moves.{Answer}
 use Rattle.plain.specs.Codes.{AtMost}
-use Rattle.plain.specs.Calls.{Pool, Call, allocate, free, step, Lengths}
+use Rattle.plain.specs.Calls.{Pool, Call, allocate, free, leave, step, Lengths}
 use Rattle.plain.specs.Calls as Calls
 use Rattle.plain.proofs.CallAnswers.{most}
 use Rattle.control.specs.Layout.{Tasks, seen}
@@ -35,8 +35,8 @@ use Rattle.schedule.specs.Stand.{as-started}
 use Rattle.schedule.specs.Bytes.{lentRegions, onPart, onBytes}
 use Rattle.schedule.specs.Plain.{answerNumber, feeding, regionsFed, onPlain}
 use Rattle.stand_agreement.proofs.LentArea.{part-length, part-back, back-length}
-use Rattle.stand_agreement.proofs.Fed.{standLengths, SameStart, allocate-keeps, free-keeps, step-keeps}
-use Rattle.stand_agreement.proofs.Fed.{same-regions}
+use Rattle.stand_agreement.proofs.Fed.{standLengths, SameStart, allocate-keeps, free-keeps, leave-keeps}
+use Rattle.stand_agreement.proofs.Fed.{step-keeps, same-regions}
 
 -- the memories that a call is lent with n regions
 abbrev pub partOf : ℕ → Memories → Memories
@@ -185,6 +185,11 @@ module _ {n : ℕ} {s : Memories} {p : Pool} (B : Beside n s p) (small : n < TAG
   same-free t u =
       same-lent (free t u) tt (length-linked (Stepped.freeOutcome long v t u .links) (lent .area)) refl
       (free-keeps fed t p u)
+
+  pub same-leave : (t : ℕ) → SameAnswer (suc n) (onBytes (leave t) as-started s) (onPlain (leave t) as-started p)
+  same-leave t =
+      same-lent (leave t) tt (length-linked (Stepped.leaveOutcome long v t .links) (lent .area)) refl
+      (leave-keeps fed t p)
 
   pub same-step : (t : ℕ) → SameAnswer (suc n) (onBytes (step t) as-started s) (onPlain (step t) as-started p)
   same-step t =

@@ -32,6 +32,10 @@ module _ (lent : Lengths) (t : ℕ) (p : Pool) where
   unfolding Calls.plainCall
   free-keeps u = tested-keeps t lent p _
 
+  pub leave-keeps : SameStart p (Calls.plainCall (Calls.leave t) lent p .0)
+  unfolding Calls.plainCall
+  leave-keeps = tested-keeps t lent p _
+
   pub step-keeps : SameStart p (Calls.plainCall (Calls.step t) lent p .0)
   unfolding Calls.plainCall
   step-keeps = tested-keeps t lent p _

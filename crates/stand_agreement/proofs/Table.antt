@@ -19,18 +19,20 @@ use Rattle.agreement.proofs.Images.{zeros as zeros-are, getLE-zeros}
 use Rattle.agreement.specs.Reached.{from-unstarted}
 use Rattle.agreement.proofs.Ways.{branch}
 use Rattle.schedule.specs.declared.record.Record.{Record}
-use Rattle.schedule.specs.declared.record.Record.the-variants.{Start, Allocate, Free, Step, Run, Bad}
+use Rattle.schedule.specs.declared.record.Record.the-variants.{Start, Allocate, Free, Step, Run, Leave, Bad}
 use Rattle.schedule.specs.declared.tally.Tally.{Tally}
 use Rattle.schedule.specs.declared.treat.Line.{Line}
-use Rattle.schedule.specs.Records.{INPUT-BYTES, START-KIND, ALLOCATE-KIND, FREE-KIND, STEP-KIND, RUN-KIND, START-BYTES}
-use Rattle.schedule.specs.Records.{STEP-BYTES, WIDE-BYTES, TASK-AT, NUMBER-AT, NUMBER-BYTES, MOST-CALLS, wideOf}
+use Rattle.schedule.specs.Records.{INPUT-BYTES, START-KIND, ALLOCATE-KIND, FREE-KIND, STEP-KIND, LEAVE-KIND}
+use Rattle.schedule.specs.Records.{START-BYTES, TASK-BYTES, WIDE-BYTES, TASK-AT, NUMBER-AT, NUMBER-BYTES, MOST-CALLS}
+use Rattle.schedule.specs.Records.{wideOf}
 use Rattle.schedule.specs.Records.{recordAt, entryAt, endOf}
 use Rattle.schedule.specs.Tally.{noneCounted, counted}
 use Rattle.schedule.specs.Stand.{STAND-AREA}
 use Rattle.schedule.specs.Stand.{as-started, lineOf, runs, treated, table}
 use Rattle.schedule.specs.Bytes.{zeros, onBytes}
 use Rattle.schedule.specs.Plain.{onPlain}
-use Rattle.stand_agreement.proofs.Beside.{partOf, Beside, later, SameAnswer, same-allocate, same-free, same-step}
+use Rattle.stand_agreement.proofs.Beside.{partOf, Beside, later, SameAnswer, same-allocate, same-free}
+use Rattle.stand_agreement.proofs.Beside.{same-leave, same-step}
 use Rattle.stand_agreement.proofs.BesideStart.{same-start}
 
 -- ---- records
@@ -42,6 +44,7 @@ mostOf (Allocate a b) = 1
 mostOf (Free a b) = 1
 mostOf (Step a) = 1
 mostOf (Run a most) = most
+mostOf (Leave a) = 1
 mostOf Bad = 0
 
 -- a record makes at most MOST-CALLS calls, has at least a byte, and ends within the schedule
@@ -67,18 +70,21 @@ record-fits input at b l =
     let left = length input - at in
     let bad : P Bad = record { most = omega arith; from = omega (arith, l); to = omega arith } in
     branch P (leb START-KIND kind)
-    (λ e. branch P (leb kind RUN-KIND)
+    (λ e. branch P (leb kind LEAVE-KIND)
     (λ f. branch P (eqb kind STEP-KIND)
-    (λ g. branch P (leb STEP-BYTES left)
-    (λ h. record { most = omega arith; from = omega arith; to = omega (arith, leb-true STEP-BYTES left h) }) (λ h. bad))
-    (λ g. branch P (eqb kind START-KIND)
-    (λ h. branch P (leb START-BYTES left)
-    (λ i. record { most = omega arith; from = omega arith; to = omega (arith, leb-true START-BYTES left i) })
-    (λ i. bad))
-    (λ h. branch P (leb WIDE-BYTES left)
-    (λ i. wide-fits at (length input) kind (getD input (at + TASK-AT) 0) (getLE input (at + NUMBER-AT) NUMBER-BYTES)
-    (omega (arith, leb-true WIDE-BYTES left i)) (omega (arith, getLE-lt input (at + NUMBER-AT) NUMBER-BYTES b)))
-    (λ i. bad))))
+    (λ g. branch P (leb TASK-BYTES left)
+    (λ h. record { most = omega arith; from = omega arith; to = omega (arith, leb-true TASK-BYTES left h) }) (λ h. bad))
+    (λ g. branch P (eqb kind LEAVE-KIND)
+    (λ h. branch P (leb TASK-BYTES left)
+    (λ i. record { most = omega arith; from = omega arith; to = omega (arith, leb-true TASK-BYTES left i) }) (λ i. bad))
+    (λ h. branch P (eqb kind START-KIND)
+    (λ i. branch P (leb START-BYTES left)
+    (λ j. record { most = omega arith; from = omega arith; to = omega (arith, leb-true START-BYTES left j) })
+    (λ j. bad))
+    (λ i. branch P (leb WIDE-BYTES left)
+    (λ j. wide-fits at (length input) kind (getD input (at + TASK-AT) 0) (getLE input (at + NUMBER-AT) NUMBER-BYTES)
+    (omega (arith, leb-true WIDE-BYTES left j)) (omega (arith, getLE-lt input (at + NUMBER-AT) NUMBER-BYTES b)))
+    (λ j. bad)))))
     (λ f. bad))
     (λ e. bad)
 
@@ -127,6 +133,7 @@ same-treated (Step t) m B l = after (same-step B (omega arith) t)
 same-treated {n} {s} {p} (Run t most) m B l =
     let S = same-runs most n 0 t s p B (omega (arith, m)) in
     record { number = S .number; beside = later (omega (arith, m)) (S .beside) }
+same-treated (Leave t) m B l = after (same-leave B (omega arith) t)
 same-treated Bad m B l = record { number = refl; beside = later (omega arith) B }
 
 -- ---- the table

@@ -18,7 +18,7 @@ use Rattle.classes.specs.Sizes.{classOf}
 use Rattle.classes.specs.Geometry.{regionOf, isFirst}
 use Rattle.pieces.specs.StripSizes.{orderOf}
 use Rattle.plain.specs.Moves.{nothing}
-use Rattle.plain.specs.Calls.{Start, Call, start, allocate, free, step, Lengths, StartedLengths}
+use Rattle.plain.specs.Calls.{Start, Call, start, allocate, free, leave, step, Lengths, StartedLengths}
 use Rattle.control.specs.Layout.{Anchor, Marks, TaskUnit, TaskPlace, TaskClass, DescriptorRegion, DescriptorClass}
 use Rattle.control.specs.Layout.{Map, Tasks, Regions, seen}
 use Rattle.control.specs.Places.{IDLE, A1, F1, STRIP-TAKE, PLACES}
@@ -26,6 +26,7 @@ use Rattle.control.specs.declared.answer.Answer.the-variants.{Accepted}
 use Rattle.stepped.specs.Outcome.{Outcome, refuse, bad, accept, Memories, Effect, effect}
 use Rattle.stepped.specs.Ranges.{oneTo, isAnchor}
 use Rattle.stepped.specs.StripSteps.{beginFreeStrip}
+use Rattle.stepped.specs.Leaving.{beginLeave}
 use Rattle.stepped.specs.Steps as Steps
 use Rattle.stepped.specs.Start.{startImage}
 
@@ -189,6 +190,10 @@ allocateOutcome lent v t size = tested lent v t (whenIdle v t (beginAllocate t s
 unfoldable pub freeOutcome : Lengths → View → ℕ → ℕ → Outcome
 freeOutcome lent v t u = tested lent v t (whenIdle v t (beginFree v (v Regions) t u))
 
+-- the beginning of leaving, by the lengths lent and the fields
+unfoldable pub leaveOutcome : Lengths → View → ℕ → Outcome
+leaveOutcome lent v t = tested lent v t (whenIdle v t (beginLeave v t))
+
 -- "one call is one step of one task": by the lengths lent, the fields and the links
 unfoldable pub stepOutcome : Lengths → View → (ℕ → ℕ) → ℕ → Outcome
 stepOutcome lent v link t = tested lent v t (Steps.stepOf v link (v Regions) t)
@@ -198,6 +203,7 @@ abbrev pub effectIn : Call → Lent → Memories → Effect
 effectIn (start b) lent s = startIn b lent s
 effectIn (allocate t size) lent s = effect (allocateOutcome (lengths lent) (seen (s .control)) t size) s
 effectIn (free t u) lent s = effect (freeOutcome (lengths lent) (seen (s .control)) t u) s
+effectIn (leave t) lent s = effect (leaveOutcome (lengths lent) (seen (s .control)) t) s
 effectIn (step t) lent s = effect (stepOutcome (lengths lent) (seen (s .control)) (Link.link (s .area)) t) s
 
 -- the memories s, lent to a call

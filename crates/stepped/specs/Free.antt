@@ -1,5 +1,5 @@
 -- docs/POOL.md, "Free"
--- The steps of a free that are no list moves: 1, 2, 3 and the first of 4.
+-- The steps of a free that are no list moves: 1, 2, 3 and the first of 4. From 2 on they are those of leaving, too.
 use Prim.Native.Nat.{ℕ, _+_, _-_}
 use mathlib.Core.Bool.{cond, _&&_}
 use mathlib.Core.List.{[], _∷_}
@@ -20,7 +20,7 @@ use Rattle.stepped.specs.Outcome.{Outcome, bad, accept, over}
 use Rattle.stepped.specs.Ranges.{oneTo, isTop, isBlock, isAnchor, hasFirst, hasRoom}
 use Rattle.stepped.specs.Lists.{pushPlace, f5}
 
--- v: what stands in the fields; link: each block's link; t: the task, whose request is of the class c
+-- v: what stands in the fields; link: each block's link; t: the task, whose class is c
 module _ (v : View) (link : ℕ → ℕ) (regions t c : ℕ) where
   -- how many blocks of the class a region has
   abbrev n : ℕ

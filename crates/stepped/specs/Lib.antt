@@ -1,6 +1,7 @@
 -- The stepped pool: outcomes, the tests whose failure is 14, the steps, the calls.
 pub mod Outcome
 pub mod Ranges
+pub mod Leaving
 pub mod Lists
 pub mod Allocate
 pub mod Free

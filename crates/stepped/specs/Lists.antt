@@ -13,7 +13,7 @@ use Rattle.words.specs.Anchor.{FULL, isState}
 use Rattle.classes.specs.Classes.{perRegion}
 use Rattle.plain.specs.Moves.{Decided, nothing, found-empty, popped, pushed, lost}
 use Rattle.control.specs.Layout.{Head, TaskHead, CacheCount, GroupCount, TaskPlace, TaskNext, TaskDescriptor}
-use Rattle.control.specs.Layout.{TaskRegion, TaskState, DescriptorNext, RegionNext}
+use Rattle.control.specs.Layout.{TaskRegion, TaskState, TaskUnit, LEAVING, DescriptorNext, RegionNext}
 use Rattle.control.specs.Places.{IDLE, A3-READ, A7, F1, F2, POP-PARTIAL, POP-SPARE, POP-REGION, PUSH-RETIRE}
 use Rattle.control.specs.Places.{PUSH-BACK, PUSH-RELEASE, PUSH-OFFER}
 use Rattle.control.specs.Places.{TO-NEXT, TO-EXCHANGE}
@@ -24,6 +24,7 @@ use Rattle.control.specs.declared.moves.Push.{Push}
 use Rattle.control.specs.declared.moves.Push.the-variants.{Retire, Back, Release, Offer}
 use Rattle.stepped.specs.Outcome.{Outcome, bad, accept, over}
 use Rattle.stepped.specs.Ranges.{oneTo}
+use Rattle.stepped.specs.Leaving.{leaveFrom}
 
 -- ---- the places of the moves: each has three in a row, from its first
 
@@ -89,16 +90,23 @@ pushItems Back = descriptor-items
 pushItems Release = region-items
 pushItems Offer = descriptor-items
 
--- v: what stands in the fields; regions: the started number of them; t: the task, whose request is of the class c
+-- v: what stands in the fields; regions: the started number of them; t: the task, whose class is c
 module _ (v : View) (regions t c : ℕ) where
+  -- where the empty cache of the class c leads, by the task's unit: free's step 6, "Else 1"; leaving goes on with the
+  -- classes above c
+  unfoldable pub whenReturned : Decided → List Write → Outcome
+  whenReturned e ws =
+      let u = v (TaskUnit t) in
+      cond (leb u LEAVING)
+      (cond (eqb u LEAVING) (leaveFrom v t (c + 1) e ws) (accept e (TaskPlace t := F1 ∷ ws) []))
+      bad
+
   -- free, step 6: "Cache not empty: 2. Else 1.", after the writes ws of the move e
   unfoldable pub f6 : Decided → List Write → Outcome
   f6 e ws =
       let k = v (CacheCount t c) in
       cond (leb k (perRegion c))
-      (cond (eqb k 0)
-      (accept e (TaskPlace t := F1 ∷ ws) [])
-      (accept e (TaskPlace t := F2 ∷ GroupCount t := 0 ∷ ws) []))
+      (cond (eqb k 0) (whenReturned e ws) (accept e (TaskPlace t := F2 ∷ GroupCount t := 0 ∷ ws) []))
       bad
 
   -- free, step 5: "If it was FULL: push the descriptor on the partial list"

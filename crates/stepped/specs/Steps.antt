@@ -16,6 +16,7 @@ use Rattle.stepped.specs.Lists.{popRead, popNext, popExchange, pushRead,
 use Rattle.stepped.specs.Allocate.{a1, a3Read, a3Exchange, a4, a7, a8}
 use Rattle.stepped.specs.Free.{f1, f2, f3Read, f3Link, f3Exchange, f4Clear}
 use Rattle.stepped.specs.StripSteps.{stripTake, stripGive}
+use Rattle.stepped.specs.Leaving.{leaveEnd}
 
 module _ (v : View) (link : ℕ → ℕ) (regions t c : ℕ) where
   -- the step at each place, in the order of the table of places; idle has "7 step without one"
@@ -57,6 +58,7 @@ module _ (v : View) (link : ℕ → ℕ) (regions t c : ℕ) where
       ∷ f4Clear v link regions t c
       ∷ stripTake v t c
       ∷ stripGive v t
+      ∷ leaveEnd v t
       ∷ []
 
   -- the step at a place; a place past the list is outside its range

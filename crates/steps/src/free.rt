@@ -1,4 +1,4 @@
-// The steps of a free that are no list moves, but for the first, by place.
+// The steps of a free that are no list moves, but for the first, by place. They are those of leaving, too.
 use control::answer::Answer;
 use control::places;
 use steps_group::group;

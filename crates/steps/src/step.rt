@@ -1,8 +1,8 @@
 // The step that a task's place tells.
 use crate::allocate;
 use crate::free;
+use crate::last;
 use crate::moves;
-use crate::strips;
 use control::answer;
 use control::answer::Answer;
 use control::places;
@@ -40,11 +40,11 @@ fn later(
     if place < places::STRIP_TAKE {
         return free::empty(control, area, regions, task, class, place);
     }
-    strips::step(control, regions, task, class, place)
+    last::step(control, regions, task, class, place)
 }
 
-// The step at a place. The first step of either request is asked for first, since most calls are that, and its answer
-// is turned into the number there, where only a few answers can be. Caller: `step`.
+// The step at a place. The first step of an allocation and of a free is asked for first, since most calls are that, and
+// its answer is turned into the number there, where only a few answers can be. Caller: `step`.
 fn at(
     control: &mut [u8],
     area: &mut [u8],

@@ -22,19 +22,20 @@ use Rattle.steps_lists.specs.declared.follow.Follow.{Follow}
 use Rattle.steps_lists.specs.Following.{f6Follow, f5Follow, following}
 use Rattle.steps_lists.proofs.Following.{f5-at, f6-at}
 
--- ---- where a free's won push leads
+-- ---- where a won push of a return leads
 
 module _ (v : View) (regions t c : ℕ) (e : Decided) (ws : List Write) where
   pub released-bad : FULL < v (TaskState t) → whenPushed v regions t c Release e ws ≡ bad
   released-bad h = rw (lt-leb _ _ h)
 
   -- r is where the code goes on, s the state that it reads
-  pub released : (r : Follow) {s : ℕ} {before after : List ℕ} {a : Answer} → Done (following r t e ws) before after a
-      → v (TaskState t) ≤ FULL → s ≡ v (TaskState t) → r ≡ f5Follow v t c s
+  pub released : (r : Follow) {s : ℕ} {before after : List ℕ} {a : Answer}
+      → Done (following v r t c e ws) before after a → v (TaskState t) ≤ FULL → s ≡ v (TaskState t)
+      → r ≡ f5Follow v t c s
       → Done (whenPushed v regions t c Release e ws) before after a
   released r d h m k = rw (le-leb _ _ h, ← m) (does (f5-at v regions t c e ws _ r k) d)
 
-  pub offered : (r : Follow) {before after : List ℕ} {a : Answer} → Done (following r t e ws) before after a
+  pub offered : (r : Follow) {before after : List ℕ} {a : Answer} → Done (following v r t c e ws) before after a
       → r ≡ f6Follow v t c → Done (whenPushed v regions t c Offer e ws) before after a
   offered r d k = does (f6-at v regions t c e ws r k) d
 

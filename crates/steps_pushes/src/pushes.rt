@@ -6,6 +6,7 @@ use control::moves::Push;
 use control::notes;
 use control::places;
 use control::tasks;
+use steps_leave::next;
 use steps_lists::follow;
 use steps_lists::follow::Follow;
 use steps_lists::heads;
@@ -69,15 +70,30 @@ pub fn next(control: &mut [u8], regions: usize, task: usize, push: Push) -> Answ
     Answer::Accepted
 }
 
-// The writes of a won push of a free, by where the free goes on. A count outside its range is refused before any write.
-fn go_on(control: &mut [u8], task: usize, follow: Follow, list: usize, word: u64) -> Answer
-    requires { ⌜ Control (now control) × (task < TASKS) × (list < LISTS) ⌝ }
-    ensures { λ r. ⌜ ((e : Decided) → Done (following follow task e (Head list := word ∷ []))
+// The writes of a won push of a return, by where it goes on. A value outside its range is refused before any write.
+fn go_on(
+    control: &mut [u8],
+    task: usize,
+    class: usize,
+    follow: Follow,
+    list: usize,
+    word: u64,
+) -> Answer
+    requires { ⌜ Control (now control) × (task < TASKS) × (class < CLASSES) × (list < LISTS) ⌝ }
+    ensures { λ r. ⌜ ((e : Decided)
+        → Done (following (seen (now (control .entry))) follow task class e (Head list := word ∷ []))
         (now (control .entry)) (now (control .exit)) r) ⌝ }
 {
     match follow {
         Follow::One => {
             tasks::set_task_place(control, task, places::F1);
+            lists::set_head(control, list, word);
+            Answer::Accepted
+        }
+        Follow::Leave => {
+            if !next::go(control, task, class + 1) {
+                return Answer::Refused(14);
+            }
             lists::set_head(control, list, word);
             Answer::Accepted
         }
@@ -120,11 +136,11 @@ fn won(control: &mut [u8], task: usize, class: usize, push: Push, list: usize, w
                 return Answer::Refused(14);
             }
             let follow = follow::f5(control, task, class, state as u32);
-            go_on(control, task, follow, list, word)
+            go_on(control, task, class, follow, list, word)
         }
         Push::Offer => {
             let follow = follow::f6(control, task, class);
-            go_on(control, task, follow, list, word)
+            go_on(control, task, class, follow, list, word)
         }
     }
 }

@@ -1,5 +1,5 @@
 -- The ways out of step 3.
-use mathlib.Core.Path.{_≡_, subst⁻¹}
+use mathlib.Core.Path.{_≡_, refl, subst⁻¹}
 use mathlib.Core.Bool.{Bool, true, false, not}
 use mathlib.Core.List.{List, [], _∷_}
 use Prim.Native.Nat.{ℕ, _+_, _-_, _≤_, _<_}
@@ -20,9 +20,10 @@ use Rattle.control.specs.Layout.{TaskRegion, TaskState, Map}
 use Rattle.control.specs.Places.{PUSH-OFFER, F1, F2, F3-READ, F3-LINK, F3-EXCHANGE, F4-CLEAR}
 use Rattle.stepped.specs.Outcome.{bad, accept}
 use Rattle.stepped.specs.Ranges.{isAnchor, hasFirst, hasRoom}
+use Rattle.stepped.specs.Leaving.{leaveFrom}
 use Rattle.stepped.specs.Lists.{f5}
 use Rattle.ranges.proofs.Passed.{failed, passed, room-passed}
-use Rattle.steps_lists.specs.declared.follow.Follow.the-variants.{One, Two, Offer, Bad}
+use Rattle.steps_lists.specs.declared.follow.Follow.the-variants.{One, Leave, Two, Offer, Bad}
 use Rattle.steps_lists.specs.Following.{f5Follow}
 use Rattle.steps_lists.proofs.Following.{f5-at}
 use Rattle.stepped.specs.Free.{f3Read, f3ReadBy, f3ReadOf, f3Link, f3Exchange, f3ExchangeOf, f3Won}
@@ -166,10 +167,11 @@ module _ (v : View) (link : ℕ → ℕ) (regions t c : ℕ) where
     unfolding f3ExchangeOf
     anchor-changed h e = rw (h, ne-eqb _ _ e)
 
-    pub anchor-noted : isAnchor (v (Anchor d)) ≡ true → v (Anchor d) ≡ word
+    -- the anchor is the noted one, which has been tested
+    pub anchor-noted : v (Anchor d) ≡ word → isAnchor word ≡ true
         → f3ExchangeOf v link regions t c d word first g ≡ f3Won v link regions t c d word first g
     unfolding f3ExchangeOf
-    anchor-noted h e = rw (h, eq-eqb _ _ e)
+    anchor-noted e h = rw (e, h, eq-eqb word word refl)
 
     -- x and s are the word and the state that the code stores
     pub won-empty : {n x s : ℕ} → n ≡ perRegion c → x ≡ anchorWord (returned (anchorOf word) first g n)
@@ -193,6 +195,10 @@ module _ (v : View) (link : ℕ → ℕ) (regions t c : ℕ) where
     pub goes-one : One ≡ f5Follow v t c was
         → f5 v regions t c was (gave d) ws ≡ accept (gave d) (TaskPlace t := F1 ∷ ws) []
     goes-one h = f5-at v regions t c (gave d) ws was One h
+
+    pub goes-leave : Leave ≡ f5Follow v t c was
+        → f5 v regions t c was (gave d) ws ≡ leaveFrom v t (c + 1) (gave d) ws
+    goes-leave h = f5-at v regions t c (gave d) ws was Leave h
 
     pub goes-two : Two ≡ f5Follow v t c was
         → f5 v regions t c was (gave d) ws ≡ accept (gave d) (TaskPlace t := F2 ∷ GroupCount t := 0 ∷ ws) []

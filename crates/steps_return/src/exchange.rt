@@ -3,9 +3,11 @@ use crate::parts;
 use control::answer::Answer;
 use control::places;
 use steps_group::group;
+use steps_leave::next;
 use steps_lists::follow;
 use steps_lists::follow::Follow;
 ghost use mathlib.Core.Path.{_≡_};
+ghost use mathlib.Core.Bool.{true};
 ghost use mathlib.Core.List.{[], _∷_};
 ghost use Prim.Native.Nat.{ℕ, _<_};
 ghost use Rattle.limits.specs.Limits.{TASKS, DESCRIPTORS};
@@ -15,6 +17,7 @@ ghost use Rattle.classes.specs.Classes.{perRegion};
 ghost use Rattle.plain.specs.Moves.{gave};
 ghost use Rattle.control.specs.Layout.{Control, seen, changed, Anchor, TaskState};
 ghost use Rattle.stepped.specs.Done.{Given, Done};
+ghost use Rattle.stepped.specs.Ranges.{isAnchor};
 ghost use Rattle.stepped.specs.Lists.{f5};
 ghost use Rattle.stepped.specs.Free.{f3ExchangeOf, f3Won, f3Exchange};
 
@@ -60,6 +63,13 @@ fn go_on(control: &mut [u8], regions: usize, task: usize, class: usize, stored: 
             store(control, task, stored);
             Answer::Accepted
         }
+        Follow::Leave => {
+            if !next::go(control, task, class + 1) {
+                return Answer::Refused(14);
+            }
+            store(control, task, stored);
+            Answer::Accepted
+        }
         Follow::Two => {
             group::begin(control, task);
             store(control, task, stored);
@@ -101,8 +111,9 @@ fn won(control: &mut [u8], regions: usize, task: usize, class: usize, due: Due) 
 }
 
 // The exchange: won where the anchor is the noted one, else the anchor is read again. Caller: `exchange`, which has
-// tested the descriptor, and that the noted anchor has room for the group. It takes the numbers one by one, since it is
-// a function of its own in the compiled code, and a struct would lie in memory.
+// tested the descriptor and the noted anchor, and that this one has room for the group. So an anchor that is the noted
+// one needs no test of its own. It takes the numbers one by one, since it is a function of its own in the compiled
+// code, and a struct would lie in memory.
 fn exchange_of(
     control: &mut [u8],
     regions: usize,
@@ -114,16 +125,16 @@ fn exchange_of(
     group: u16,
 ) -> Answer
     requires { ⌜ Given (now control) regions task class × (descriptor < DESCRIPTORS)
-        × Room (anchorOf word) group (perRegion class) ⌝ }
+        × Room (anchorOf word) group (perRegion class) × (isAnchor word ≡ true) ⌝ }
     ensures { λ r. ⌜ ((link : ℕ → ℕ)
         → Done (f3ExchangeOf (seen (now (control .entry))) link regions task class descriptor word first group)
         (now (control .entry)) (now (control .exit)) r) ⌝ }
 {
     let current = control::regions::anchor(control, descriptor);
-    if !ranges::is_anchor(current) {
-        return Answer::Refused(14);
-    }
     if current != word {
+        if !ranges::is_anchor(current) {
+            return Answer::Refused(14);
+        }
         control::tasks::set_task_place(control, task, places::F3_READ);
         return Answer::Accepted;
     }

@@ -1,7 +1,7 @@
 -- The nodes of an order, by number.
 use Prim.Native.Nat.{ℕ, zero, suc, _+_, _-_, _*_, _/_, _%_, _^_, _<_, _≤_}
 use mathlib.Core.Path.{_≡_, refl}
-use native.Mathlib.Nat.{mul-lt-mul-of-pos-right, mod-eq-of-lt}
+use native.Mathlib.Nat.{mul-lt-mul-of-pos-right, mul-le-mul-right, mod-eq-of-lt}
 use native.Mathlib.Omega.{arith}
 use lib.Pow.{pow-pos, shr-lt, shl-lt, shl-exact}
 use Rattle.limits.specs.Limits.{SLOTS, WORD-MARKS, WHOLE-ORDER, ORDERS}
@@ -21,6 +21,20 @@ each P a b c d e f g h (suc (suc (suc (suc (suc (suc (suc (suc j)))))))) l = abs
 -- the first node of an order, by a shift
 pub shifted : (j : ℕ) → j < ORDERS → SLOTS / 2 ^ j ≡ 2 ^ (WHOLE-ORDER - j)
 shifted = each (λ (j : ℕ). SLOTS / 2 ^ j ≡ 2 ^ (WHOLE-ORDER - j)) refl refl refl refl refl refl refl refl
+
+-- the node of an order at a slot, by a shift
+pub node-shifted : (j : ℕ) → j < ORDERS → (s : ℕ) → (SLOTS + s) / 2 ^ j ≡ 2 ^ (WHOLE-ORDER - j) + s / 2 ^ j
+node-shifted =
+    each (λ (j : ℕ). (s : ℕ) → (SLOTS + s) / 2 ^ j ≡ 2 ^ (WHOLE-ORDER - j) + s / 2 ^ j) (λ s. omega arith)
+    (λ s. omega arith) (λ s. omega arith) (λ s. omega arith) (λ s. omega arith) (λ s. omega arith) (λ s. omega arith)
+    (λ s. omega arith)
+
+-- the slot where a node of an order begins, by a shift
+pub slot-shifted : (j : ℕ) → j < ORDERS → (i : ℕ) → i * 2 ^ j - SLOTS ≡ (i - 2 ^ (WHOLE-ORDER - j)) * 2 ^ j
+slot-shifted =
+    each (λ (j : ℕ). (i : ℕ) → i * 2 ^ j - SLOTS ≡ (i - 2 ^ (WHOLE-ORDER - j)) * 2 ^ j) (λ i. omega arith)
+    (λ i. omega arith) (λ i. omega arith) (λ i. omega arith) (λ i. omega arith) (λ i. omega arith) (λ i. omega arith)
+    (λ i. omega arith)
 
 -- as many nodes again as the first node's number
 pub twice : (j : ℕ) → j < ORDERS → 2 ^ (ORDERS - j) ≡ 2 * 2 ^ (WHOLE-ORDER - j)
@@ -77,9 +91,17 @@ node-below j s h l =
     let b = shr-lt {n = s} (WHOLE-ORDER - j) j (rw e l) in
     omega (arith, b, twice j h)
 
-pub place-shifted : (j i : ℕ) → j < ORDERS → 2 ^ (WHOLE-ORDER - j) ≤ i → i < 2 ^ (ORDERS - j)
-    → (i - 2 ^ (WHOLE-ORDER - j)) * 2 ^ j % 18446744073709551616 ≡ (i - 2 ^ (WHOLE-ORDER - j)) * 2 ^ j
-place-shifted j i h a b = shl-exact 7 j 64 (omega (arith, twice j h, most j h)) (omega arith)
+-- a node's number, shifted, is below that of all slots of both halves, and not below that of the first
+pub node-most : (j i : ℕ) → j < ORDERS → i < 2 ^ (ORDERS - j) → i * 2 ^ j < 2 * SLOTS
+node-most j i h b =
+    let e : ORDERS - j + j ≡ ORDERS = omega arith in
+    rw e at (shl-lt (ORDERS - j) j b)
+
+pub node-least : (j i : ℕ) → j < ORDERS → 2 ^ (WHOLE-ORDER - j) ≤ i → SLOTS ≤ i * 2 ^ j
+node-least j i h a = omega (arith, mul-le-mul-right (2 ^ j) a, area j h)
+
+pub place-shifted : (j i : ℕ) → j < ORDERS → i < 2 ^ (ORDERS - j) → i * 2 ^ j % 18446744073709551616 ≡ i * 2 ^ j
+place-shifted j i h b = mod-eq-of-lt (omega (arith, node-most j i h b))
 
 -- a node of an order from 2 on is in the first word
 pub in-first : (j i : ℕ) → j < ORDERS → 2 ≤ j → i < 2 ^ (ORDERS - j) → i < WORD-MARKS

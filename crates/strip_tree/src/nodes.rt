@@ -9,7 +9,7 @@ pub fn slot_of(node: usize, order: usize) -> usize
     requires { ⌜ InLevel order node ⌝ }
     ensures { λ r. ⌜ (r ≡ slotOfNode order node) × (r < SLOTS) ⌝ }
 {
-    (node - (limits::SLOTS >> order)) << order
+    (node << order) - limits::SLOTS
 }
 
 // The node of an order at a slot.
@@ -17,7 +17,7 @@ pub fn node_of(slot: usize, order: usize) -> usize
     requires { ⌜ (slot < SLOTS) × (order < ORDERS) ⌝ }
     ensures { λ r. ⌜ (r ≡ nodeOf order slot) × (r < 2 ^ (ORDERS - order)) ⌝ }
 {
-    (limits::SLOTS >> order) + (slot >> order)
+    (limits::SLOTS + slot) >> order
 }
 
 // Whether a piece of an order can begin at a slot.

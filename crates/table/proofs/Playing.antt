@@ -9,7 +9,7 @@ use lib.Seq.{length-take-le}
 use Rattle.stepped.specs.Outcome.{Memories}
 use Rattle.schedule.specs.declared.record.Entry.{Entry}
 use Rattle.schedule.specs.declared.record.Record.{Record}
-use Rattle.schedule.specs.declared.record.Record.the-variants.{Start, Allocate, Free, Step, Run, Bad}
+use Rattle.schedule.specs.declared.record.Record.the-variants.{Start, Allocate, Free, Step, Run, Leave, Bad}
 use Rattle.schedule.specs.declared.tally.Tally.{Tally}
 use Rattle.schedule.specs.declared.treat.Line.{Line}
 use Rattle.schedule.specs.Records.{INPUT-BYTES, recordAt, entryAt, endOf}
@@ -28,6 +28,7 @@ further (Allocate a b) at end h = omega arith
 further (Free a b) at end h = omega arith
 further (Step a) at end h = omega arith
 further (Run a b) at end h = omega arith
+further (Leave a) at end h = omega arith
 further Bad at end h = h
 
 -- the text of a line

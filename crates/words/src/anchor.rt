@@ -55,7 +55,7 @@ impl Anchor {
     }
 
     // The anchor after a group of `group` blocks, the first of them `first`, has been put before the chain.
-    // The step by which a free exchanges the anchor calls it, once it has tested that the count stays at most `n`
+    // The step by which a return exchanges the anchor calls it, once it has tested that the count stays at most `n`
     // and knows that `n`, the number of blocks of a class, is at most that of the smallest.
     pub fn returned(self, first: u32, group: u32, n: u32) -> Anchor
         requires { ⌜ Room self group n ⌝ }

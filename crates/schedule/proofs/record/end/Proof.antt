@@ -19,10 +19,15 @@ returns-4 c = rw (c .enum-told4 .given .1) refl
 returns-5 : tie.Need-returns-5
 returns-5 c = rw (c .enum-told5 .given .1) refl
 
+returns-6 : tie.Need-returns-6
+returns-6 c = rw (c .enum-told6 .given .1) refl
+
 pub end-spec : {M : Type 1} → statement M
 end-spec =
     tie.close
     (tie.spec
+    (λ c. search needs)
+    (λ c. search needs)
     (λ c. search needs)
     (λ c. search needs)
     (λ c. search needs)
@@ -39,4 +44,5 @@ end-spec =
     returns-3
     returns-4
     returns-5
+    returns-6
     (λ c. search needs))

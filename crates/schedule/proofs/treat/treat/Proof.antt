@@ -31,12 +31,19 @@ returns-5 c =
 
 returns-6 : tie.Need-returns-6
 returns-6 c =
+    let called = c .before .before .before .before in
+    rw (called .before .before .before .before .body6 .given .1) (called .leave .ensures)
+
+returns-7 : tie.Need-returns-7
+returns-7 c =
     rw (c .enum-told .given .1) (record { control-is = refl; area-is = refl; strips-is = refl; answer = refl })
 
 pub treat-spec : {M : Type 1} → statement M
 treat-spec =
     tie.close
     (tie.spec
+    (λ c. search needs)
+    (λ c κs. search needs)
     (λ c. search needs)
     (λ c κs. search needs)
     (λ c. search needs)
@@ -63,4 +70,7 @@ treat-spec =
     (λ c. search needs)
     (λ c. search needs)
     returns-5
-    returns-6)
+    (λ c. search needs)
+    (λ c. search needs)
+    returns-6
+    returns-7)

@@ -53,6 +53,7 @@ exchange-of-requires c κs =
       search needs,
       has-room _ _ _ (at-per-region .per-region .ensures)
           (passed (c .before .before .has-room .ensures) (c .before .if6 .left)),
+      passed (c .before .before .before .before .is-anchor .ensures) (c .before .before .before .if5 .left),
     )
 
 returns-7 : tie.Need-returns-7

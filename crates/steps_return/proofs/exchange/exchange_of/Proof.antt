@@ -1,4 +1,4 @@
--- The tests are those of the definition, in its order.
+-- The tests are those of the definition; of the noted anchor it is known that it is one.
 use borrow.Author.Needs.{needs}
 use native.Mathlib.Omega.{arith}
 use mathlib.Core.Path.{refl}
@@ -11,25 +11,23 @@ use Rattle.steps_return.proofs.exchange.exchange_of.Tie as tie
 
 returns : tie.Need-returns
 returns c =
-    λ link. done (anchor-bad _ link _ _ _ _ _ _ _ (failed-at isAnchor (c .before .before .anchor .ensures)
-    (c .before .is-anchor .ensures) (c .if1 .taken))) refl refl refl
+    λ link. done (anchor-bad _ link _ _ _ _ _ _ _ (failed-at isAnchor (c .before .before .before .anchor .ensures)
+    (c .before .is-anchor .ensures) (c .if2 .taken))) refl refl refl
 
 returns-2 : tie.Need-returns-2
 returns-2 c =
     λ link.
-    let anchor = c .before .before .before .before .before .before .before .anchor .ensures in
-    done (anchor-changed _ link _ _ _ _ _ _ _ (passed-at isAnchor anchor
-    (c .before .before .before .before .before .before .is-anchor .ensures)
-    (c .before .before .before .before .before .if1 .left)) (omega arith)) refl
+    let asked = c .before .before .before .before in
+    let anchor = asked .before .before .before .anchor .ensures in
+    done (anchor-changed _ link _ _ _ _ _ _ _ (passed-at isAnchor anchor (asked .before .is-anchor .ensures)
+    (asked .if2 .left)) (omega arith)) refl
     (c .before .before .set-task-place .ensures) refl
 
 returns-3 : tie.Need-returns-3
 returns-3 c =
     λ link.
-    let anchor = c .before .before .before .before .before .before .before .anchor .ensures in
-    does (anchor-noted _ link _ _ _ _ _ _ _ (passed-at isAnchor anchor
-    (c .before .before .before .before .before .before .is-anchor .ensures)
-    (c .before .before .before .before .before .if1 .left)) (omega arith))
+    let at-entry = c .before .before .before .before .before .before .before .before in
+    does (anchor-noted _ link _ _ _ _ _ _ _ (omega arith) (at-entry .pre .3))
     (c .before .before .won .ensures link)
 
 pub exchange-of-spec : {M : Type 1} → statement M

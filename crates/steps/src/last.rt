@@ -1,6 +1,7 @@
-// The steps of strips, by place.
+// The steps at the last places: those of strips, and the last of leaving.
 use control::answer::Answer;
 use control::places;
+use steps_leave::end;
 use steps_strips::give;
 use steps_strips::take;
 ghost use Prim.Native.Nat.{ℕ, _≤_};
@@ -9,8 +10,8 @@ ghost use Rattle.control.specs.Places.{STRIP-TAKE};
 ghost use Rattle.stepped.specs.Done.{Given, Done};
 ghost use Rattle.stepped.specs.Steps.{stepAt};
 
-// The steps at the two places of strips; a place past them is outside its range. Caller: the step of a task at such a
-// place.
+// The steps at the two places of strips and at the last of leaving; a place past them is outside its range. Caller: the
+// step of a task at such a place.
 pub fn step(control: &mut [u8], regions: usize, task: usize, class: usize, place: u8) -> Answer
     requires { ⌜ Given (now control) regions task class × (STRIP-TAKE ≤ place) ⌝ }
     ensures { λ r. ⌜ ((link : ℕ → ℕ)
@@ -22,6 +23,9 @@ pub fn step(control: &mut [u8], regions: usize, task: usize, class: usize, place
     }
     if place == places::STRIP_GIVE {
         return give::give(control, task);
+    }
+    if place == places::LEAVE_END {
+        return end::finish(control, task);
     }
     Answer::Refused(14)
 }

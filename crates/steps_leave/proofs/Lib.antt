@@ -1,0 +1,2 @@
+-- Laws of the search for the next cache.
+pub mod Going

@@ -1,0 +1,2 @@
+-- What the search for the next cache ensures.
+pub mod Goes
