@@ -4,6 +4,7 @@
  * from two compilers.
  */
 #include "by_hand_free.h"
+#include "by_hand_sheet.h"
 #include "by_hand_strips.h"
 
 #ifndef BY_HAND
@@ -224,4 +225,13 @@ uint64_t BY_HAND(step)(uint8_t *control, uint64_t control_length, uint8_t *area,
     if (request.class >= CLASSES)
         return DAMAGED;
     return step_at(&request, c->task_place[task]);
+}
+
+uint64_t BY_HAND(sheet)(const uint8_t *control, uint64_t control_length, const uint8_t *area, uint64_t area_length,
+                        const uint8_t *strips, uint64_t strips_length, uint8_t *sheet, uint64_t sheet_length)
+{
+    const struct control *c = (const struct control *)control;
+    unsigned refused = tests(c, control_length, area_length, strips_length, 0);
+    (void)strips;
+    return refused != 0 ? refused : sheet_write(c, area, sheet, sheet_length);
 }

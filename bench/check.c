@@ -3,7 +3,7 @@
  * every call the answers and every byte of the control memories and areas are equal. The strips' memory cannot be read
  * or written. In half of the schedules each call is first made on memories that were damaged, the same way in each, so
  * that the tests for 14 are compared, too; then the damage and what came of it are taken back. In half of either tasks
- * leave, too.
+ * leave, too. Now and then the sheets of all are compared, also those of damaged memories.
  */
 #include <inttypes.h>
 #include <stdio.h>
@@ -15,17 +15,40 @@
 #include "schedule.h"
 
 enum { CALLS = 60000, SEEDS = 96, CONTENDERS_MOST = 3, PLACES_MOST = 36 };
-enum { AREA_MOST = POOL_REGIONS_MOST * POOL_REGION_BYTES };
+enum { AREA_MOST = POOL_REGIONS_MOST * POOL_REGION_BYTES, SHEET_EVERY = 53, FURTHER = 8 };
 
 static uint8_t controls[CONTENDERS_MOST][POOL_CONTROL_BYTES];
 static uint8_t areas[CONTENDERS_MOST][AREA_MOST];
 static uint64_t code_counts[256];
 static uint64_t damaged_counts[256];
 static uint64_t place_counts[256];
+static uint64_t sheet_counts[256];
+
+/* Whether the sheets of all contenders are the same, with what stands behind them in the row, and change nothing. */
+static int agree_sheets(size_t area_length)
+{
+    static uint8_t rows[CONTENDERS_MOST][POOL_SHEET_BYTES + FURTHER];
+    uint64_t answers[CONTENDERS_MOST] = {0};
+    for (unsigned i = 0; i < CONTENDER_COUNT; i++) {
+        memset(rows[i], 0x5C, sizeof rows[i]);
+        answers[i] = CONTENDERS[i].sheet(controls[i], POOL_CONTROL_BYTES, areas[i], area_length, untouchable_strips(),
+                                         POOL_STRIPS_BYTES, rows[i], sizeof rows[i]);
+        if (answers[i] != answers[0] || memcmp(rows[i], rows[0], sizeof rows[0]) != 0) {
+            printf("%s differs in the sheet: %" PRIu64 " and %" PRIu64 "\n", CONTENDERS[i].name, answers[i],
+                   answers[0]);
+            return 0;
+        }
+    }
+    sheet_counts[POOL_CODE(answers[0])] += 1;
+    return 1;
+}
 
 /* Whether all contenders answer the same and leave the same bytes. *answer is the library's. */
 static int agree(struct call call, size_t area_length, uint64_t *answer)
 {
+    static unsigned calls;
+    if (++calls % SHEET_EVERY == 0 && !agree_sheets(area_length))
+        return 0;
     *answer = make_call(&CONTENDERS[0], call, controls[0], areas[0], area_length);
     for (unsigned i = 1; i < CONTENDER_COUNT; i++) {
         uint64_t other = make_call(&CONTENDERS[i], call, controls[i], areas[i], area_length);
@@ -134,6 +157,7 @@ int main(void)
     printf("%u contenders; steps were made at %u of %d places\n", CONTENDER_COUNT, places, PLACES_MOST);
     print_counts("answers", code_counts);
     print_counts("answers on damaged memories", damaged_counts);
+    print_counts("sheets", sheet_counts);
     printf("%u passed, %u failed\n", passed, SEEDS - passed);
     return passed == SEEDS ? 0 : 1;
 }

@@ -1,4 +1,4 @@
-/* The pools that are compared, each as its five calls. */
+/* The pools that are compared, each as its six calls. */
 #ifndef CONTENDER_H
 #define CONTENDER_H
 
@@ -13,6 +13,8 @@ struct contender {
                            uint64_t unit);
     uint64_t (*begin_leave)(uint8_t *, uint64_t, const uint8_t *, uint64_t, const uint8_t *, uint64_t, uint64_t task);
     uint64_t (*step)(uint8_t *, uint64_t, uint8_t *, uint64_t, const uint8_t *, uint64_t, uint64_t task);
+    uint64_t (*sheet)(const uint8_t *, uint64_t, const uint8_t *, uint64_t, const uint8_t *, uint64_t, uint8_t *sheet,
+                      uint64_t sheet_length);
 };
 
 /* The library first, then the pool written by hand, from gcc and, where it was compiled in, from clang. */

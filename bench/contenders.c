@@ -10,19 +10,29 @@
                                  uint64_t, uint64_t); \
     uint64_t prefix##_begin_leave(uint8_t *, uint64_t, const uint8_t *, uint64_t, const uint8_t *, uint64_t, \
                                   uint64_t); \
-    uint64_t prefix##_step(uint8_t *, uint64_t, uint8_t *, uint64_t, const uint8_t *, uint64_t, uint64_t);
+    uint64_t prefix##_step(uint8_t *, uint64_t, uint8_t *, uint64_t, const uint8_t *, uint64_t, uint64_t); \
+    uint64_t prefix##_sheet(const uint8_t *, uint64_t, const uint8_t *, uint64_t, const uint8_t *, uint64_t, \
+                            uint8_t *, uint64_t);
 
 #define CALLS(prefix) \
-    prefix##_start, prefix##_begin_allocate, prefix##_begin_free, prefix##_begin_leave, prefix##_step
+    prefix##_start, prefix##_begin_allocate, prefix##_begin_free, prefix##_begin_leave, prefix##_step, prefix##_sheet
 
 #ifdef LIBRARY_ALONE
-/* An earlier library may lack this call; where it has it, its own is linked. */
+/* An earlier library may lack these calls; where it has them, its own are linked. */
 __attribute__((weak)) uint64_t pool_begin_leave(uint8_t *control, uint64_t control_length, const uint8_t *area,
                                                 uint64_t area_length, const uint8_t *strips, uint64_t strips_length,
                                                 uint64_t task)
 {
     (void)control, (void)control_length, (void)area, (void)area_length, (void)strips, (void)strips_length;
     return task;
+}
+
+__attribute__((weak)) uint64_t pool_sheet(const uint8_t *control, uint64_t control_length, const uint8_t *area,
+                                          uint64_t area_length, const uint8_t *strips, uint64_t strips_length,
+                                          uint8_t *sheet, uint64_t sheet_length)
+{
+    (void)control, (void)control_length, (void)area, (void)area_length, (void)strips, (void)strips_length, (void)sheet;
+    return sheet_length;
 }
 #else
 DECLARE(by_hand_gcc)

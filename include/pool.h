@@ -89,9 +89,9 @@
  *
  *   1. The three memories do not overlap, and each really has the length that is lent with it. A pointer may be null
  *      where its length is 0.
- *   2. Calls do not overlap in time: mask interrupts or lock around each single call. The longest is a step of at most
- *      388 instructions; docs/BENCHMARKS.md says what this bound rests on.
- *      A start, which comes before the others, also fills 8,192 bytes by your memset.
+ *   2. Calls do not overlap in time: mask interrupts or lock around each single call. But for a sheet, which is a tool
+ *      (see pool_sheet), the longest is a step of at most 388 instructions; docs/BENCHMARKS.md says what this bound
+ *      rests on. A start, which comes before the others, also fills 8,192 bytes by your memset.
  *   3. Each call but a start lends the control memory, the area and the strips' memory of the last accepted start. If
  *      it lends another length, it is refused and does no harm.
  *   4. Users write only inside blocks and strips that they hold. A block or strip is held from the step that finishes
@@ -127,13 +127,35 @@
  *   - let a task leave (pool_begin_leave) that has done its work: its caches keep no region any more;
  *   - start again: that gives everything back, and all blocks and strips are void.
  *
+ * ---- The stock sheet ----
+ *
+ * pool_sheet is a tool for the fitter: it tells where the blocks are, without changing the pool. For each class of
+ * blocks and each region the sheet has four numbers: how many blocks of the region are in users' hands, in tasks'
+ * caches, with running requests, and in the region's chain. With a running request are a block being freed, the group
+ * or chain that is under way, and blocks that are still to be carved. The classes are numbered by their blocks: 0 has
+ * 8 bytes, then 16, 32, 48, 64, 80, 96, 112, 128, 160, 192 and 224, and 12 has 256.
+ *
+ * The four numbers of an open region add up to the blocks that a region of its class has. A region that is not open in
+ * the class, or not in the area, shows four zeros. Strips are not on the sheet.
+ *
+ *     static uint8_t sheet[POOL_SHEET_BYTES];
+ *     if (pool_sheet(control, sizeof control, area, sizeof area, strips, sizeof strips, sheet, sizeof sheet)
+ *         == POOL_FINISHED)
+ *         cached = POOL_SHEET_NUMBER(sheet, class, region, POOL_IN_CACHES);
+ *
+ * It is one call like the others: no other call may run meanwhile. It takes much longer than they do, for it follows
+ * the links of all cached blocks: see pool_sheet.
+ *
  * ---- What the code needs ----
  *
  * The beginnings and the steps for blocks have no loop but one: leaving looks for the next of the task's thirteen
  * caches that is not empty. A step for a strip halves or joins at most seven times, and the start loops over the
  * control memory alone. No call makes a system call, allocates memory or keeps anything outside the memories that it is
  * lent. The library is target/staticlib/libpool.a, made by 'rt staticlib pool'. A start needs memset from the
- * firmware's C library, and SSE2 registers. The code is for x86-64.
+ * firmware's C library, and SSE2 registers; a sheet needs memset, memcpy and SSE2 registers. The code is for x86-64.
+ *
+ * Each function has a section of its own. Firmware that never calls pool_sheet can have the linker leave it out
+ * (gcc: -Wl,--gc-sections).
  */
 #ifndef POOL_H
 #define POOL_H
@@ -157,6 +179,8 @@ extern "C" {
 #define POOL_STRIP_FIRST 8192   /* the unit at the start of the strips' memory */
 #define POOL_UNIT_BYTES 8       /* of one unit */
 #define POOL_ALIGNMENT 16       /* of every block of 16 bytes or more, if the area has it */
+#define POOL_CLASSES 13         /* sizes of blocks, numbered from 0 for 8 bytes to 12 for 256 */
+#define POOL_SHEET_BYTES 1664   /* of the stock sheet: four numbers of two bytes for each class and region */
 
 /* ---- answers ---- */
 
@@ -174,17 +198,33 @@ extern "C" {
 #define POOL_STRIP(strips, unit) POOL_BLOCK(strips, (unit) - POOL_STRIP_FIRST)
 #define POOL_STRIP_UNIT(strips, strip) (POOL_UNIT(strips, strip) + POOL_STRIP_FIRST)
 
+/* The number in a column of a stock sheet, for a class and a region, and the byte at which their four numbers begin. A
+   number has two bytes, the low byte first. */
+#define POOL_SHEET_AT(class_number, region) (8 * (POOL_REGIONS_MOST * (size_t)(class_number) + (size_t)(region)))
+#define POOL_SHEET_NUMBER(sheet, class_number, region, column) \
+    ((unsigned)((const uint8_t *)(sheet))[POOL_SHEET_AT(class_number, region) + 2 * (size_t)(column)] \
+     + 256u * ((const uint8_t *)(sheet))[POOL_SHEET_AT(class_number, region) + 2 * (size_t)(column) + 1])
+
+/* The columns of a stock sheet: where the blocks of a region are. */
+enum pool_column {
+    POOL_IN_HAND = 0,       /* in users' hands */
+    POOL_IN_CACHES = 1,     /* in the caches of the tasks */
+    POOL_WITH_REQUESTS = 2, /* with requests that are not over */
+    POOL_IN_CHAIN = 3       /* in the region's own chain */
+};
+
 /* The codes. POOL_UNDER_WAY and POOL_FINISHED accept a call. POOL_NO_DESCRIPTOR, POOL_NO_REGION and POOL_NO_STRIP end a
    request: the task is idle afterwards and holds nothing new. Every other code refuses the call: it changed no byte. */
 enum pool_code {
     POOL_UNDER_WAY = 0, /* accepted; of a step: made, and the request goes on */
-    POOL_FINISHED = 20, /* the step finished the request; the value of an allocation is its unit */
+    POOL_FINISHED = 20, /* the step finished the request; the value of an allocation is its unit; of a sheet: given */
 
     /* Caused by whoever builds the pool into the firmware. */
     POOL_BAD_CONTROL = 1, /* the control memory is not 8,192 bytes */
     POOL_BAD_AREA = 2,    /* the area's length is 0, no multiple of 4,096 or above 65,536, or not the started one; or
                              the strips' memory is not 65,536 bytes */
     POOL_BAD_TASKS = 3,   /* a start with a number of tasks that is not 1 to 8 */
+    POOL_SHORT_ROW = 23,  /* a sheet of fewer than 1,664 bytes */
 
     /* Caused by a task's author. */
     POOL_NOT_STARTED = 4,     /* no start was accepted; a control memory of zeros is such a pool */
@@ -274,6 +314,30 @@ uint64_t pool_begin_leave(uint8_t *control, uint64_t control_length, const uint8
  */
 uint64_t pool_step(uint8_t *control, uint64_t control_length, uint8_t *area, uint64_t area_length,
                    const uint8_t *strips, uint64_t strips_length, uint64_t task);
+
+/*
+ * Writes the stock sheet of the pool into the first 1,664 bytes of the row that it is lent, and nothing else: no byte
+ * of the three memories, and no further byte of the row. A refused call changes no byte of the row either. The row is
+ * the firmware's own, beside the three memories. Requests may be at any step.
+ *
+ * The numbers of class c and region r begin at byte 8 * (16 * c + r): in hand, in caches, with requests, in the chain.
+ * POOL_SHEET_NUMBER reads one of them.
+ *
+ * Under the premises each number is that of the blocks which are there, and the call is not refused by POOL_DAMAGED.
+ * What is read is tested: the caches of all eight tasks, with every link of a cached block, the requests, and what
+ * opens the regions. Chains, groups and blocks that are to be carved are counted by their number.
+ *
+ * Answers, by the first test that fails: POOL_BAD_CONTROL, POOL_NOT_STARTED, POOL_BAD_AREA, POOL_DAMAGED where a value
+ * that is read is out of its range, POOL_SHORT_ROW; else POOL_FINISHED with value 0.
+ *
+ * It is a tool, and takes what the other calls need not. All its loops are bounded, but it follows the link of every
+ * cached block, at 13 instructions each: it takes 10,536 instructions in a fresh pool of one region, and 99,200 where
+ * all blocks of sixteen regions are cached. The most that was found for any memories is 160,456. A sheet uses at most
+ * 2,136 bytes of stack, of which 1,664 hold the numbers until all are tested; what your memset and memcpy use comes on
+ * top. Its code and its own constants have 3,514 bytes.
+ */
+uint64_t pool_sheet(const uint8_t *control, uint64_t control_length, const uint8_t *area, uint64_t area_length,
+                    const uint8_t *strips, uint64_t strips_length, uint8_t *sheet, uint64_t sheet_length);
 
 #ifdef __cplusplus
 }

@@ -37,6 +37,16 @@ uint64_t first_call(uint8_t *control)
     return pool_start(control, POOL_CONTROL_BYTES, area, sizeof area, strips, sizeof strips, POOL_TASKS_MOST);
 }
 
+static_assert(POOL_SHEET_AT(POOL_CLASSES, 0) == POOL_SHEET_BYTES, "the sheet has a row for each class and region");
+
+uint8_t sheet[POOL_SHEET_BYTES];
+
+unsigned blocks_in_hand(const uint8_t *control)
+{
+    pool_sheet(control, POOL_CONTROL_BYTES, area, sizeof area, strips, sizeof strips, sheet, sizeof sheet);
+    return POOL_SHEET_NUMBER(sheet, 0, POOL_REGIONS_MOST - 1, POOL_IN_HAND);
+}
+
 uint64_t last_request(uint8_t *control, uint64_t task)
 {
     return pool_begin_leave(control, POOL_CONTROL_BYTES, area, sizeof area, strips, sizeof strips, task);

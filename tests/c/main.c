@@ -8,6 +8,7 @@ int main(void)
     check_blocks();
     check_strips();
     check_leaving();
+    check_sheet();
     check_ends();
     check_regions();
     check_refusals();

@@ -112,7 +112,7 @@ pub fn round(seed: u64, checks: &mut Checks, counts: &mut Counts) {
 }
 
 /// Cuts or lengthens the memories now and then.
-fn odd_lengths(bytes: &mut Bytes, random: &mut Random) {
+pub fn odd_lengths(bytes: &mut Bytes, random: &mut Random) {
     if random.one_in(12) {
         bytes.control.resize(random.pick(&LENGTHS), random.next() as u8);
     }

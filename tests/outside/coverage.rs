@@ -4,6 +4,7 @@ use crate::checks::Checks;
 use crate::classes::CLASSES;
 use crate::leave_coverage::LeaveCoverage;
 use crate::pool::{Answer, Event, Place, Request, State, PLACES, REGIONS, TASKS};
+use crate::sheet_checks::SheetCoverage;
 use crate::strip_coverage::StripCoverage;
 use std::collections::BTreeMap;
 
@@ -71,6 +72,7 @@ pub struct Coverage {
     pub freed_by_another: u64,
     pub strips: StripCoverage,
     pub leaving: LeaveCoverage,
+    pub sheet: SheetCoverage,
 }
 
 impl Coverage {
@@ -157,6 +159,7 @@ impl Coverage {
         reached(checks, "frees by a task that did not allocate the block", self.freed_by_another);
         self.strips.report(checks);
         self.leaving.report(checks);
+        self.sheet.report(checks);
     }
 
     fn report_codes(&self, checks: &mut Checks) {
@@ -184,6 +187,7 @@ impl Coverage {
         println!("by class, chains taken: {:?}; groups returned: {:?}", self.taken, self.returned);
         self.strips.print();
         self.leaving.print();
+        self.sheet.print();
         for (kind, name) in KINDS.iter().enumerate() {
             let codes: Vec<String> = self
                 .codes

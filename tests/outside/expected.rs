@@ -54,7 +54,7 @@ fn start(bytes: &Bytes, tasks: u64) -> u64 {
 }
 
 /// Tests 1, 4, 2 and 5, with the stored numbers that 4 and 2 read.
-fn common(bytes: &Bytes, task: u64) -> u64 {
+pub fn common(bytes: &Bytes, task: u64) -> u64 {
     if bytes.control.len() != 8192 {
         return 1;
     }

@@ -1,7 +1,7 @@
 //! The paper's sentence on 14, clause by clause: in a state in the middle of a run one value that the next call has to
 //! read is made bad, and the call has to answer 14 and leave every byte as it is. The call is a step of a task, or the
-//! beginning of a free or of leaving by one that is idle. Beside them stand the last values that are in range, which are
-//! not 14.
+//! beginning of a free or of leaving by one that is idle. Beside them stand the last values that are in range, which
+//! are not 14.
 //!
 //! "14 a value read for this call is outside its field's range, or names none, or no block of the class, where one is
 //! due; a count would pass n; an anchor to take a chain from is FULL, or PARTIAL with count 0; or a link is outside 0
@@ -21,6 +21,7 @@ use crate::memory::Side;
 use crate::pool::Request;
 use crate::ranges;
 use crate::schedules::Schedule;
+use crate::sheet_fourteen;
 use crate::styles;
 use std::collections::BTreeMap;
 
@@ -44,21 +45,22 @@ fn cases() -> impl Iterator<Item = &'static Case> {
 }
 
 /// Runs schedules and tries each case in states where it applies.
-pub fn round(seed: u64, checks: &mut Checks, tried: &mut Tried) {
+pub fn round(seed: u64, checks: &mut Checks, tried: &mut Tried, sheets: &mut sheet_fourteen::Tried) {
     for (number, name) in STYLES.iter().enumerate() {
         let (mut own_checks, mut coverage) = (Checks::default(), Coverage::default());
         let seed = seed.wrapping_mul(31).wrapping_add(number as u64);
         let mut driver = Driver::new(1, seed, Fault::None, &mut own_checks, &mut coverage);
         let style = styles::named(name);
         let mut schedule = Schedule::new(&mut driver, style);
-        // A disagreement here is found and counted by the schedules themselves. It ends the schedule: the cases are about
-        // states that a run can have.
+        // A disagreement here is found and counted by the schedules themselves. It ends the schedule: the cases are
+        // about states that a run can have.
         let _ = schedule.start();
         for _ in 0..700 {
             if schedule.some(8).is_err() || !is_whole(schedule.driver) {
                 break;
             }
             try_all(schedule.driver, checks, tried);
+            sheet_fourteen::state(schedule.driver, checks, sheets);
         }
     }
 }

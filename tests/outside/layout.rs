@@ -166,7 +166,7 @@ impl View<'_> {
     }
 
     /// "A free block's first four bytes, low byte first, hold a link."
-    fn link(&self, unit: u64) -> Result<u64, String> {
+    pub fn link(&self, unit: u64) -> Result<u64, String> {
         let first = (unit * UNIT) as usize;
         let bytes = self.area.get(first..first + 4).ok_or(format!("unit {unit} is outside the area"))?;
         Ok(bytes.iter().rev().fold(0, |value, &byte| value << 8 | u64::from(byte)))

@@ -32,6 +32,16 @@ mod random;
 mod ranges;
 mod refusals;
 mod schedules;
+mod sheet;
+mod sheet_arbitrary;
+mod sheet_bytes;
+mod sheet_cases;
+mod sheet_checks;
+mod sheet_directed;
+mod sheet_fourteen;
+mod sheet_refusals;
+mod sheet_shared_cases;
+mod sheet_trial;
 mod slots;
 mod stand;
 mod stand_test;
@@ -46,6 +56,7 @@ mod structure;
 mod styles;
 mod table;
 mod tamper;
+mod tamper_sheet;
 mod unread;
 mod users;
 
@@ -69,8 +80,10 @@ struct Options {
 }
 
 const FIXED_ROUNDS: u64 = 16;
+/// One in this many rounds tries what the sheet refuses, which is mostly the same each time.
+const REFUSALS_EVERY: u64 = 8;
 type Directed = fn(&mut Driver) -> Result<(), Parted>;
-const DIRECTED: [Directed; 23] = [
+const DIRECTED: [Directed; 30] = [
     directed::first_allocations,
     directed::bench_refusals,
     directed::every_size,
@@ -94,6 +107,13 @@ const DIRECTED: [Directed; 23] = [
     leave_directed::after_a_strip,
     leave_directed::refusals_of_leaving,
     leave_directed::no_descriptor_by_leaving,
+    sheet_directed::first_block,
+    sheet_directed::carving,
+    sheet_directed::chain_on_the_way,
+    sheet_directed::group_and_block,
+    sheet_directed::leaving_half_way,
+    sheet_directed::strips_are_on_no_sheet,
+    sheet_directed::sixteen_regions,
 ];
 
 fn usage() -> ! {
@@ -155,25 +175,43 @@ fn schedule(options: &Options, round: u64, index: usize, checks: &mut Checks, co
     };
 }
 
+/// What the calls on arbitrary and on damaged memories reached.
+#[derive(Default)]
+struct Reached {
+    arbitrary: arbitrary::Counts,
+    tried: fourteen::Tried,
+    sheets: sheet_arbitrary::Counts,
+    sheets_tried: sheet_fourteen::Tried,
+}
+
+impl Reached {
+    fn report(&self, checks: &mut Checks) {
+        self.arbitrary.print();
+        self.arbitrary.report(checks);
+        fourteen::report(&self.tried, checks);
+        self.sheets.print();
+        self.sheets.report(checks);
+        sheet_fourteen::report(&self.sheets_tried, checks);
+    }
+}
+
 /// The round's calls on arbitrary and on damaged memories.
-fn memories(
-    options: &Options,
-    round: u64,
-    checks: &mut Checks,
-    arbitrary: &mut arbitrary::Counts,
-    tried: &mut fourteen::Tried,
-) {
+fn memories(options: &Options, round: u64, checks: &mut Checks, reached: &mut Reached) {
     checks.context = format!("round {round}, arbitrary memories");
-    unread::round(options.seed.wrapping_add(round), checks);
-    arbitrary::round(options.seed.wrapping_add(round << 32), checks, arbitrary);
-    fourteen::round(options.seed.wrapping_add(round), checks, tried);
+    let seed = options.seed.wrapping_add(round);
+    unread::round(seed, checks);
+    arbitrary::round(options.seed.wrapping_add(round << 32), checks, &mut reached.arbitrary);
+    fourteen::round(seed, checks, &mut reached.tried, &mut reached.sheets_tried);
+    if round % REFUSALS_EVERY == 0 {
+        sheet_refusals::round(seed, checks);
+    }
+    sheet_arbitrary::round(seed, checks, &mut reached.sheets);
 }
 
 /// Runs with a fault stop at the first failure and say which check made it. Where the fault leads the plain pool into
 /// a state that it cannot go on from, nothing was compared there, so that does not count as caught.
 fn run_fault(options: &Options) -> bool {
-    let (mut checks, mut coverage) = (Checks::default(), Coverage::default());
-    let (mut arbitrary, mut tried) = (arbitrary::Counts::default(), fourteen::Tried::new());
+    let (mut checks, mut coverage, mut reached) = (Checks::default(), Coverage::default(), Reached::default());
     std::panic::set_hook(Box::new(|_| ()));
     let _ = tamper::TAMPERING.set(options.fault);
     for number in 0..FIXED_ROUNDS {
@@ -181,7 +219,7 @@ fn run_fault(options: &Options) -> bool {
             let body = || {
                 schedule(options, number, index, &mut checks, &mut coverage);
                 if index + 1 == schedules_of_a_round() {
-                    memories(options, number, &mut checks, &mut arbitrary, &mut tried);
+                    memories(options, number, &mut checks, &mut reached);
                 }
             };
             let _ = std::panic::catch_unwind(std::panic::AssertUnwindSafe(body));
@@ -217,8 +255,7 @@ fn main() {
     if options.fault != Fault::None {
         std::process::exit(if run_fault(&options) { 0 } else { 1 });
     }
-    let (mut checks, mut coverage) = (Checks::default(), Coverage::default());
-    let (mut arbitrary, mut tried) = (arbitrary::Counts::default(), fourteen::Tried::new());
+    let (mut checks, mut coverage, mut reached) = (Checks::default(), Coverage::default(), Reached::default());
     let begun = Instant::now();
     once(&options, &mut checks);
     let mut number = 0;
@@ -230,15 +267,13 @@ fn main() {
         for index in 0..schedules_of_a_round() {
             schedule(&options, number, index, &mut checks, &mut coverage);
         }
-        memories(&options, number, &mut checks, &mut arbitrary, &mut tried);
+        memories(&options, number, &mut checks, &mut reached);
         number += 1;
     }
     checks.context = "all rounds".to_string();
     coverage.print();
     coverage.report(&mut checks);
-    arbitrary.print();
-    arbitrary.report(&mut checks);
-    fourteen::report(&tried, &mut checks);
+    reached.report(&mut checks);
     println!("rounds: {number}; seed: {}", options.seed);
     std::process::exit(if checks.report() { 0 } else { 1 })
 }

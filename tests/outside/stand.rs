@@ -22,6 +22,15 @@ pub struct Stand {
 
 /// The whole output for an input.
 pub fn output(input: &[u8]) -> String {
+    played(input).close()
+}
+
+/// The pool after the last record of an input.
+pub fn pool_after(input: &[u8]) -> Pool {
+    played(input).pool
+}
+
+fn played(input: &[u8]) -> Stand {
     let mut stand = Stand::new();
     let mut rest = &input[..input.len().min(LIMIT)];
     while !rest.is_empty() {
@@ -30,7 +39,7 @@ pub fn output(input: &[u8]) -> String {
             None => break,
         }
     }
-    stand.close()
+    stand
 }
 
 /// The bytes of a record's body, by its kind: "1 start (tasks, regions); 2 allocate (task, size in two bytes, low

@@ -1,12 +1,14 @@
 //! The stored schedules of the stand, NAME.hex in hexadecimal with comments and NAME.in as bytes, and their tables
-//! NAME.out: the plain pool has to print them, too. Their tables were worked out from the paper or come from another
-//! model, so that this holds the plain pool against both.
+//! NAME.out: the plain pool has to print them, too. A file NAME.sheet is the stock sheet after the last record. All
+//! were worked out from the paper or come from another model, so that this holds the plain pool against both.
 
 use crate::checks::Checks;
+use crate::sheet::sheet;
 use crate::stand;
 use std::path::{Path, PathBuf};
 
 const TABLES: &str = "stand: the plain pool prints the stored table";
+const SHEETS: &str = "stand: the plain pool has the stored sheet after the schedule";
 
 /// The bytes of a schedule.
 pub fn schedule(path: &Path) -> Result<Vec<u8>, String> {
@@ -21,15 +23,31 @@ pub fn schedule(path: &Path) -> Result<Vec<u8>, String> {
     digits.chunks(2).map(|pair| byte(pair).map_err(|error| format!("{}: {error}", path.display()))).collect()
 }
 
-/// Compares every stored table of the folder and of its folders.
+/// Compares every stored table of the folder and of its folders, and every stored sheet.
 pub fn compare(folder: &str, checks: &mut Checks) {
     let paths = schedules(Path::new(folder));
     let _ = checks.hold("stand: there are stored schedules", !paths.is_empty(), || folder.to_string());
     for path in paths {
+        let Ok(bytes) = schedule(&path) else {
+            let _ = checks.hold(TABLES, false, || format!("{} cannot be read", path.display()));
+            continue;
+        };
+        if let Ok(due) = std::fs::read_to_string(path.with_extension("sheet")) {
+            let same = hexadecimal(&sheet(&stand::pool_after(&bytes))) == due;
+            let _ = checks.hold(SHEETS, same, || format!("{}", path.display()));
+            if !path.with_extension("out").exists() {
+                continue;
+            }
+        }
         let due = std::fs::read_to_string(path.with_extension("out")).unwrap_or_default();
-        let same = schedule(&path).map(|bytes| stand::output(&bytes) == due);
-        let _ = checks.hold(TABLES, same == Ok(true), || format!("{}: {same:?}", path.display()));
+        let _ = checks.hold(TABLES, stand::output(&bytes) == due, || format!("{}", path.display()));
     }
+}
+
+/// A row in hexadecimal, 32 bytes a line.
+fn hexadecimal(row: &[u8]) -> String {
+    let line = |bytes: &[u8]| bytes.iter().map(|byte| format!("{byte:02x}")).collect::<String>() + "\n";
+    row.chunks(32).map(line).collect()
 }
 
 fn schedules(folder: &Path) -> Vec<PathBuf> {

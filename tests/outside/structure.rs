@@ -210,9 +210,9 @@ fn plain_holders(pool: &Pool) -> Result<Vec<Holder>, String> {
     Ok(holders)
 }
 
-/// "a chain or group under way, a block being freed and blocks still to be carved count with their task's cache". A task
-/// that leaves frees no block of its own.
-fn plain_under_way(pool: &Pool, task: usize) -> Vec<u64> {
+/// "a chain or group under way, a block being freed and blocks still to be carved count with their task's cache". A
+/// task that leaves frees no block of its own.
+pub fn plain_under_way(pool: &Pool, task: usize) -> Vec<u64> {
     let state = &pool.tasks[task];
     let unit = |block: u64| state.region as u64 * UNITS_PER_REGION + block * units(state.class);
     let mut all: Vec<u64> = match &state.under {

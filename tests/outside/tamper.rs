@@ -124,7 +124,7 @@ pub fn before(lent: &Lent, request: Request) -> Before {
     Before { place, class, byte: control.bytes().get(SKIPPED).copied().unwrap_or(0) }
 }
 
-fn flip(memory: &mut Memory, place: usize) {
+pub fn flip(memory: &mut Memory, place: usize) {
     if let Some(byte) = memory.bytes_mut().get_mut(place) {
         *byte ^= 1;
     }

@@ -2,6 +2,7 @@
 import difflib
 import glob
 import os
+import re
 import subprocess
 import sys
 
@@ -59,6 +60,14 @@ def on_the_stand():
     if not schedules or len(schedules) != len(due):
         return [f'README.md has {len(schedules)} blocks ```schedule and {len(due)} blocks ```table']
     return [line for schedule, table in zip(schedules, due) for line in played(schedule, table)]
+
+
+def sheets():
+    """A block ```sheet is the file beside the example that its first line names. tests/stand tests that file."""
+    shown = blocks(read(README), 'sheet')
+    beside = [re.sub(r'\.txt, read as text$', '.sheet', sheet.splitlines()[0]) for sheet in shown]
+    wrong = [f'{README}: it does not show {path}' for path, sheet in zip(beside, shown) if read(path) != sheet]
+    return wrong if shown else [f'{README} has no block ```sheet']
 
 
 def quoted():

@@ -9,6 +9,8 @@ SIZES = 'crates/classes/proofs/Sizes.antt'
 SIZE_CODE = 'crates/classes/src/size.rt'
 BENCH_SIZES = 'crates/agreement/proofs/BenchSizes.antt'
 TESTS = 'crates/demands/specs/Tests.antt'
+REPORT_ROWS = 'crates/reports/specs/Rows.antt'
+SHEET = 'crates/sheet/specs/Sheet.antt'
 PICTURE = 'docs/pictures/memories.svg'
 # The rows of the table of numbers, and the constants of the header, by the names of the definitions.
 ROWS = {'tasks': 'TASKS', 'bytes of the control memory': 'CONTROL-BYTES', 'regions of the area': 'REGIONS',
@@ -19,11 +21,12 @@ ROWS = {'tasks': 'TASKS', 'bytes of the control memory': 'CONTROL-BYTES', 'regio
 CONSTANTS = {'POOL_CONTROL_BYTES': 'CONTROL-BYTES', 'POOL_REGION_BYTES': 'REGION-BYTES', 'POOL_REGIONS_MOST': 'REGIONS',
              'POOL_TASKS_MOST': 'TASKS', 'POOL_BLOCK_MOST': 'LARGEST-SIZE', 'POOL_UNIT_BYTES': 'UNIT-BYTES',
              'POOL_ALIGNMENT': 'ALIGNMENT', 'POOL_STRIPS_BYTES': 'STRIPS-BYTES', 'POOL_STRIP_LEAST': 'SLOT-BYTES',
-             'POOL_STRIP_FIRST': 'UNITS'}
+             'POOL_STRIP_FIRST': 'UNITS', 'POOL_CLASSES': 'CLASSES', 'POOL_SHEET_BYTES': 'SHEET-BYTES'}
 # The sentences on the order of the tests, and the lists of tests that make them up. 14 comes between, where it is read.
 ORDERS = {'a start': ['startTests'], 'the beginning of an allocation': ['callTests', 'idleTests', 'sizeTests'],
           'the beginning of a free': ['callTests', 'idleTests', 'unitTests'],
-          'the beginning of leaving': ['callTests', 'idleTests', 'searchTests'], 'a step': ['callTests', 'requestTests']}
+          'the beginning of leaving': ['callTests', 'idleTests', 'searchTests'],
+          'a step': ['callTests', 'requestTests']}
 
 
 def number_of(cell):
@@ -34,7 +37,7 @@ def number_of(cell):
 
 def limits():
     """The table's numbers, and the header's constants, are those of the definitions."""
-    known = named(LIMITS, CLASSES)
+    known = named(LIMITS, CLASSES, REPORT_ROWS, SHEET)
     rows = tables_by(POOL, 'there are')
     told = [(POOL, row[0], number_of(row[1]), ROWS[row[0]]) for row in rows]
     told += [(HEADER, name, int(number), CONSTANTS[name])

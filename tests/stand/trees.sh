@@ -27,12 +27,14 @@ make_tree() {
 }
 
 # Gives the tree a program, the shell commands of the first argument. It is newer than the sources unless 'old' is said.
+# Its name is stand unless another is given.
 make_fake() {
+    local fake=$tree/target/bin/${3-stand}
     mkdir -p "$tree/target/bin"
-    printf '#!/bin/sh\n%s\n' "$1" >"$tree/target/bin/stand"
-    chmod 755 "$tree/target/bin/stand"
+    printf '#!/bin/sh\n%s\n' "$1" >"$fake"
+    chmod 755 "$fake"
     find "$tree/crates" "$tree/crates.txt" -exec touch -t 202001020000 {} +
-    [ "${2-new}" = new ] || touch -t 202001010000 "$tree/target/bin/stand"
+    [ "${2-new}" = new ] || touch -t 202001010000 "$fake"
 }
 
 # Gives the tree an rt, the shell commands of the argument.

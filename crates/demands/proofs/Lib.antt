@@ -9,3 +9,4 @@ pub mod WholeStep
 pub mod HandedOut
 pub mod Demands
 pub mod TaskLeaves
+pub mod StockSheet

@@ -1,3 +1,4 @@
 -- Laws of the exported calls.
 pub mod Calling
 pub mod Started
+pub mod Reporting

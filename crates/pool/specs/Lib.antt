@@ -1,2 +1,3 @@
 -- What the exported calls ensure.
 pub mod Call
+pub mod ReportCall

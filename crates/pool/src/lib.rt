@@ -11,6 +11,7 @@ use steps::step;
 ghost use Rattle.plain.specs.Calls.{start, allocate as allocated, free as freed, leave as left};
 ghost use Rattle.plain.specs.Calls.{step as stepped};
 ghost use Rattle.pool.specs.Call.{Ensures};
+ghost use Rattle.pool.specs.ReportCall.{SheetEnsures};
 
 // Begins a new run with so many tasks, on any bytes: it fills the control memory, and leaves the others as they are.
 #[no_mangle]
@@ -114,4 +115,19 @@ pub extern "C" fn pool_step(control: &mut [u8], area: &mut [u8], strips: &[u8], 
     }
     let regions = started::regions(control) as usize;
     step::step(control, area, regions, task as usize)
+}
+
+// The stock sheet: where the small blocks are, for each class and region, in the lent row. It changes nothing else. The
+// tests 1, 4, 2 are those of a call of task 0, which every started pool has.
+#[no_mangle]
+pub extern "C" fn pool_sheet(control: &[u8], area: &[u8], strips: &[u8], sheet: &mut [u8]) -> u64
+    ensures { λ r. ⌜ SheetEnsures (now (control .entry)) (now (area .entry)) (now (strips .entry))
+        (now (sheet .entry)) (now (sheet .exit)) r ⌝ }
+{
+    let refused = tests::tests(control, area.len(), strips.len(), 0);
+    if refused != 0 {
+        return refused as u64;
+    }
+    let regions = started::regions(control) as usize;
+    sheet::write(control, area, regions, sheet)
 }

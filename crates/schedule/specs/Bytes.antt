@@ -15,7 +15,7 @@ use Rattle.control.specs.Answers.{numberOf}
 use Rattle.stepped.specs.Outcome.{Memories}
 use Rattle.stepped.specs.Calls.{effectOf}
 use Rattle.schedule.specs.Stand.{STAND-REGIONS, STAND-AREA}
-use Rattle.schedule.specs.Stand.{Lends, named, as-started}
+use Rattle.schedule.specs.Stand.{Lends, named, as-started, played}
 
 -- "The stand keeps an area of 16,384 bytes and control memory of 8,192, zero at first", and so the strips' memory: "A
 -- second lent area of 65,536 bytes holds them" (the request for strips)
@@ -36,10 +36,14 @@ pub record StandMemories (control area strips : List ℕ) : Type 0 where
 abbrev pub lentRegions : View → ℕ
 lentRegions v = cond (eqb (v Tasks) 0) 0 (cond (ltb STAND-REGIONS (v Regions)) STAND-REGIONS (v Regions))
 
--- a call that is lent the control memory, the first n bytes of the area, and the strips' memory
+-- what is lent of three memories: the control memory, the first n bytes of the area, and the strips' memory
+abbrev pub part : ℕ → Memories → Memories
+part n s = record { control = s .control; area = midOf 0 n (s .area); strips = s .strips }
+
+-- a call that is lent that
 abbrev pub onPart : Call → ℕ → Memories → Memories × ℕ
 onPart k n s =
-    let e = effectOf k (record { control = s .control; area = midOf 0 n (s .area); strips = s .strips }) in (
+    let e = effectOf k (part n s) in (
       record { control = e .control; area = putMid 0 n (s .area) (e .area); strips = e .strips },
       numberOf (e .answer),
     )
@@ -48,6 +52,14 @@ onPart k n s =
 abbrev pub onBytes : Call → Lends → Memories → Memories × ℕ
 onBytes k (named regions) s = cond (ltb STAND-REGIONS regions) (s, 2) (onPart k (REGION-BYTES * regions) s)
 onBytes k as-started s = onPart k (REGION-BYTES * lentRegions (seen (s .control))) s
+
+-- what a report is lent: of the area, what the last accepted start was lent
+abbrev pub startedPart : Memories → Memories
+startedPart s = part (REGION-BYTES * lentRegions (seen (s .control))) s
+
+-- the three memories, zero at first, after all records of a schedule
+abbrev pub afterAll : (input : List ℕ) → Memories
+afterAll input = played onBytes (length input) input 0 zeros
 
 -- three memories as bytes, together
 abbrev pub together : (control area strips : List ℕ) → Memories
@@ -60,3 +72,10 @@ pub record Does {A : Type 0} (f : Memories → Memories × A) (control area stri
   pub area-is : area′ ≡ f (together control area strips) .0 .area
   pub strips-is : strips′ ≡ f (together control area strips) .0 .strips
   pub answer : r ≡ f (together control area strips) .1
+
+-- What a function ensures that plays a whole schedule: its three memories are those that the records leave, and are the
+-- stand's.
+pub record PlaysAll (input : List ℕ) (control area strips control′ area′ strips′ : List ℕ) : Type 0 where
+  pub memories-are : together control′ area′ strips′
+      ≡ played onBytes (length input) input 0 (together control area strips)
+  pub kept : StandMemories control′ area′ strips′

@@ -66,3 +66,10 @@ module _ {S : Type 0} (call : Call → Lends → S → S × ℕ) where
       let x = shown (entryAt input at n) s in
       let rest = table f input (endOf (recordAt input at) at (length input)) (n + 1) (counted y (x .1 .code)) (x .0) in
       cond (ltb at (length input)) (x .1 ∷ rest .0, rest .1) ([], y)
+
+  -- the state after the records from the byte `at` on; no more than f records
+  unfoldable pub played : ℕ → List ℕ → ℕ → S → S
+  played zero input at s = s
+  played (suc f) input at s =
+      let body = recordAt input at in
+      cond (ltb at (length input)) (played f input (endOf body at (length input)) (treated body s .0)) s

@@ -15,8 +15,8 @@ const STAND_REGIONS: usize = 4;
 
 pub const STAND_AREA: usize = STAND_REGIONS * limits::REGION_BYTES;
 
-// How many bytes of the area the pool was started with. Callers: the calls that are no start.
-fn lent(control: &[u8]) -> usize
+// How many bytes of the area the pool was started with. Callers: the calls that are no start, and reports on the pool.
+pub fn lent(control: &[u8]) -> usize
     requires { ⌜ Control (now control) ⌝ }
     ensures { λ r. ⌜ (r ≡ REGION-BYTES * lentRegions (seen (now (control .entry)))) × (r ≤ STAND-AREA) ⌝ }
 {

@@ -78,15 +78,9 @@ pub record SameAnswer (n : ℕ) (x : Memories × ℕ) (y : Pool × ℕ) : Type 0
   pub number : x .1 ≡ y .1
   pub beside : Beside n (x .0) (y .0)
 
-module _ {n : ℕ} {s : Memories} {p : Pool} (B : Beside n s p) (small : n < TAGS) where
-  abbrev regions : ℕ
-  regions = regionsFed p
-
-  abbrev lent : Memories
-  lent = partOf regions s
-
+module _ {n : ℕ} {s : Memories} {p : Pool} (B : Beside n s p) where
   -- the stand lends what the plain pool is fed
-  lent-same : lentRegions (seen (s .control)) ≡ regionsFed p
+  pub lent-same : lentRegions (seen (s .control)) ≡ regionsFed p
   lent-same = by (ℕ-discrete (p .tasks) 0)
     where
       by : Dec (p .tasks ≡ 0) → lentRegions (seen (s .control)) ≡ regionsFed p
@@ -99,6 +93,13 @@ module _ {n : ℕ} {s : Memories} {p : Pool} (B : Beside n s p) (small : n < TAG
             le-ltb STAND-REGIONS (p .regions) (omega (arith, B .few, q)),
             ne-eqb (p .tasks) 0 k,
           ) refl
+
+module _ {n : ℕ} {s : Memories} {p : Pool} (B : Beside n s p) (small : n < TAGS) where
+  abbrev regions : ℕ
+  regions = regionsFed p
+
+  abbrev lent : Memories
+  lent = partOf regions s
 
   part-is : length (lent .area) ≡ REGION-BYTES * regions
   part-is = part-length (REGION-BYTES * regions) (s .area) (omega (arith, B .few, B .area-is))
@@ -160,7 +161,7 @@ module _ {n : ℕ} {s : Memories} {p : Pool} (B : Beside n s p) (small : n < TAG
     same-lent : SameAnswer (suc n) (onBytes q as-started s) (onPlain q as-started p)
     same-lent =
         subst (λ (k : ℕ). SameAnswer (suc n) (onPart q (REGION-BYTES * k) s) (feeding q (REGION-BYTES * regions) p))
-        (sym lent-same) same-call
+        (sym (lent-same B)) same-call
 
   -- ---- the calls
 

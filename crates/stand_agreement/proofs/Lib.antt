@@ -5,3 +5,4 @@ pub mod Beside
 pub mod BesideStart
 pub mod Table
 pub mod Whole
+pub mod StandSheet

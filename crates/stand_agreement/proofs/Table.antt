@@ -62,7 +62,9 @@ wide-fits at end kind task number h l =
     (λ e. branch P (eqb kind FREE-KIND) (λ f. record { most = omega arith; from = omega arith; to = h })
     (λ f. record { most = omega (arith, l); from = omega arith; to = h }))
 
-record-fits : (input : List ℕ) (at : ℕ) → Bytes input → at < length input → Fits at (length input) (recordAt input at)
+-- every record that begins in the input fits
+pub record-fits : (input : List ℕ) (at : ℕ) → Bytes input → at < length input
+    → Fits at (length input) (recordAt input at)
 unfolding recordAt
 record-fits input at b l =
     let P = Fits at (length input) in
@@ -123,7 +125,8 @@ same-runs (suc m) n a t s p B l =
 after : {n : ℕ} {x : Memories × ℕ} {y : Pool × ℕ} → SameAnswer (suc n) x y → SameAnswer (n + MOST-CALLS) x y
 after S = record { number = S .number; beside = later (omega arith) (S .beside) }
 
-same-treated : {n : ℕ} {s : Memories} {p : Pool} (r : Record) → mostOf r ≤ MOST-CALLS → Beside n s p
+-- a record in both runs
+pub same-treated : {n : ℕ} {s : Memories} {p : Pool} (r : Record) → mostOf r ≤ MOST-CALLS → Beside n s p
     → n + MOST-CALLS < TAGS
     → SameAnswer (n + MOST-CALLS) (treated onBytes r s) (treated onPlain r p)
 same-treated (Start tasks regions) m B l = after (same-start B (record { tasks = tasks }) regions)
@@ -167,7 +170,7 @@ module _ (input : List ℕ) (bytes : Bytes input) (long : length input ≤ INPUT
           (rest next (counted y (z .1 % CODES)) (x .0) (z .0) (F .to) (omega (arith, l, F .from)) (S .beside)))
 
 -- the stand's memories before the first record, and the plain pool that is not started
-zeros-beside : Beside 0 zeros unstarted
+pub zeros-beside : Beside 0 zeros unstarted
 unfolding unstarted
 zeros-beside = record {
   area-is = length-replicate {A = ℕ} STAND-AREA 0;

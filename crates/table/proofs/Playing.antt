@@ -8,28 +8,17 @@ use lib.ListN.{length, take}
 use lib.Seq.{length-take-le}
 use Rattle.stepped.specs.Outcome.{Memories}
 use Rattle.schedule.specs.declared.record.Entry.{Entry}
-use Rattle.schedule.specs.declared.record.Record.{Record}
-use Rattle.schedule.specs.declared.record.Record.the-variants.{Start, Allocate, Free, Step, Run, Leave, Bad}
 use Rattle.schedule.specs.declared.tally.Tally.{Tally}
 use Rattle.schedule.specs.declared.treat.Line.{Line}
 use Rattle.schedule.specs.Records.{INPUT-BYTES, recordAt, entryAt, endOf}
 use Rattle.schedule.specs.Tally.{noneCounted, counted}
 use Rattle.schedule.specs.Stand.{shown, table}
 use Rattle.schedule.specs.Bytes.{onBytes, together, Does}
+use Rattle.schedule.proofs.Playing.{further}
 use Rattle.text.specs.Texts.{Appended}
 use Rattle.text.specs.Lines.{LINE-BYTES, columnsText, lineText, totalText}
 use Rattle.text.proofs.Digits.{short-line}
 use Rattle.table.specs.Output.{TABLE-BYTES, rowsText, tableText, output}
-
--- the next record begins at least one byte further
-pub further : (r : Record) (at end : ℕ) → at < end → at < endOf r at end
-further (Start a b) at end h = omega arith
-further (Allocate a b) at end h = omega arith
-further (Free a b) at end h = omega arith
-further (Step a) at end h = omega arith
-further (Run a b) at end h = omega arith
-further (Leave a) at end h = omega arith
-further Bad at end h = h
 
 -- the text of a line
 abbrev textOf : Line → List ℕ

@@ -6,8 +6,9 @@ use lib.ListN.{length}
 use borrow.Author.Needs.{needs}
 use borrow.Rule.Slice.PartMut.{mid-len}
 use Rattle.schedule.specs.Bytes.{together}
+use Rattle.schedule.proofs.Playing.{further}
 use Rattle.text.proofs.TextWriting.{at-part}
-use Rattle.table.proofs.Playing.{TableAhead, within, begins, short, goes-on, ends, further}
+use Rattle.table.proofs.Playing.{TableAhead, within, begins, short, goes-on, ends}
 use Rattle.table.proofs.write.Statement.{statement}
 use Rattle.table.proofs.write.Tie as tie
 

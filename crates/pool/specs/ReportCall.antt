@@ -1,0 +1,12 @@
+-- docs/POOL.md, "Reports"
+-- What each exported report ensures.
+use mathlib.Core.List.{List}
+use Prim.Native.Nat.{ℕ}
+use Rattle.reports.specs.Reports.{Answers}
+use Rattle.sheet.specs.Sheet.{sheetOf}
+
+-- What pool_sheet ensures: lent the bytes `control`, `area` and `strips`, and the row `sheet`, it answers r and leaves
+-- `sheet′`, as the definition of the sheet says. The three memories are lent to be read, so that it cannot change them.
+abbrev pub SheetEnsures : (control area strips sheet sheet′ : List ℕ) → ℕ → Type 0
+SheetEnsures control area strips sheet sheet′ r =
+    Answers (sheetOf (record { control = control; area = area; strips = strips }) sheet) sheet′ r

@@ -1,0 +1,11 @@
+-- Laws of what the reports tell of the plain pool.
+pub mod Sums
+pub mod HandsTold
+pub mod CachesTold
+pub mod RequestTests
+pub mod RequestsTold
+pub mod RegionsTold
+pub mod ReportTests
+pub mod SheetAddsUp
+pub mod SheetNumbers
+pub mod SheetOfRuns

@@ -1,0 +1,3 @@
+-- What the reports tell of the plain pool.
+pub mod Whereabouts
+pub mod SheetTells

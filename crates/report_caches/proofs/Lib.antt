@@ -1,0 +1,2 @@
+-- Laws of caches that are walked and counted.
+pub mod Walking

@@ -1,0 +1,2 @@
+-- Blocks in caches, counted by region.
+pub mod CacheRows

@@ -1,0 +1,2 @@
+-- Laws of what is read of a region.
+pub mod OpenWays

@@ -1,0 +1,2 @@
+-- Which regions are open.
+pub mod Opened

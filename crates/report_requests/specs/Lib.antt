@@ -1,0 +1,2 @@
+-- Blocks with running requests, counted by region.
+pub mod UnderWay

@@ -1,0 +1,5 @@
+-- Laws of what the reports share.
+pub mod Passing
+pub mod ByRegion
+pub mod TasksCounted
+pub mod Rows

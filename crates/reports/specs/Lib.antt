@@ -1,0 +1,5 @@
+-- What the reports share.
+pub mod Passing
+pub mod ByRegion
+pub mod Rows
+pub mod Reports

@@ -1,0 +1,45 @@
+-- docs/POOL.md, "Reports"
+-- How a report ends: its tests in their order, its answer, and the row that it leaves.
+use mathlib.Core.Path.{_≡_}
+use mathlib.Core.Bool.{Bool, cond}
+use mathlib.Core.List.{List}
+use Prim.Native.Nat.{ℕ, _*_}
+use lib.Dec.{leb, eqb}
+use lib.ListN.{length}
+use Rattle.limits.specs.Limits.{CONTROL-BYTES, TASKS, REGIONS}
+use Rattle.fields.specs.Columns.{View}
+use Rattle.plain.specs.Calls.{Lengths}
+use Rattle.control.specs.Layout.{Tasks, Regions}
+use Rattle.stepped.specs.Ranges.{oneTo}
+use Rattle.stepped.specs.Calls.{isStartedLengths}
+use Rattle.reports.specs.Rows.{BYTES-OF-NUMBER, withNumbers}
+
+-- the tests 1, 4, 2 of a report, which are those of every call but a start, without the task's: the number of the first
+-- that fails, 14 where a stored number that they read is out of its range; 0 where all pass
+unfoldable pub reportRefusal : Lengths → View → ℕ
+reportRefusal lent v =
+    cond (eqb (lent .control) CONTROL-BYTES)
+    (cond (leb (v Tasks) TASKS)
+    (cond (eqb (v Tasks) 0) 4 (cond (oneTo REGIONS (v Regions)) (cond (isStartedLengths lent (v Regions)) 0 2) 14))
+    14)
+    1
+
+-- The answer of a report that has passed these tests, and the row that it leaves. `inRange` tells whether all that it
+-- reads is in its range, and `numbers` are those that it writes. "Memory that is out of range is answered with 14" (the
+-- request for the stock sheet); then comes 23, where the row is too short for the numbers; else 20, with the numbers at
+-- the row's start. A refused report leaves the row.
+unfoldable pub answered : (inRange : Bool) (numbers row : List ℕ) → ℕ × List ℕ
+answered inRange numbers row =
+    cond inRange
+    (cond (leb (BYTES-OF-NUMBER * length numbers) (length row)) (20, withNumbers 0 numbers row) (23, row))
+    (14, row)
+
+-- a report by the lengths that it is lent, the fields, and its row: its answer, and the row that it leaves
+unfoldable pub reportOf : Lengths → View → (inRange : Bool) (numbers row : List ℕ) → ℕ × List ℕ
+reportOf lent v inRange numbers row =
+    cond (eqb (reportRefusal lent v) 0) (answered inRange numbers row) (reportRefusal lent v, row)
+
+-- What a report's function ensures: it answers r and leaves the row, as x says.
+pub record Answers (x : ℕ × List ℕ) (row : List ℕ) (r : ℕ) : Type 0 where
+  pub number : r ≡ x .0
+  pub row-is : row ≡ x .1

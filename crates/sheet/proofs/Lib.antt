@@ -1,0 +1,6 @@
+-- Laws of the sheet's numbers.
+pub mod FourWays
+pub mod FourNumbers
+pub mod RowsFilled
+pub mod SheetFilled
+pub mod SheetAnswers

@@ -1,0 +1,3 @@
+-- The stock sheet.
+pub mod Sheet
+pub mod Filling
