@@ -1,5 +1,5 @@
-//! Leaving on any bytes of control: its beginning, its last step, and where the return of a group leads. "Where it looks
-//! for the next cache the counts that it reads are tested (14 above n)."
+//! Leaving on any bytes of control: its beginning, its last step, and where the return of a group leads. Where it looks
+//! for the next cache, the counts that it reads are tested: 14 above n.
 
 use crate::classes::{per_region, CLASSES};
 use crate::layout::{cache_index, get, set, COUNT, GROUP_COUNT, LEAVING, TASK_CLASS, TASK_PLACE, TASK_UNIT};
