@@ -3,7 +3,7 @@
  * every call the answers and every byte of the control memories and areas are equal. The strips' memory cannot be read
  * or written. In half of the schedules each call is first made on memories that were damaged, the same way in each, so
  * that the tests for 14 are compared, too; then the damage and what came of it are taken back. In half of either tasks
- * leave, too. Now and then the sheets of all are compared, also those of damaged memories.
+ * leave, too. Now and then the reports of all are compared, also those of damaged memories.
  */
 #include <inttypes.h>
 #include <stdio.h>
@@ -15,31 +15,40 @@
 #include "schedule.h"
 
 enum { CALLS = 60000, SEEDS = 96, CONTENDERS_MOST = 3, PLACES_MOST = 36 };
-enum { AREA_MOST = POOL_REGIONS_MOST * POOL_REGION_BYTES, SHEET_EVERY = 53, FURTHER = 8 };
+enum { AREA_MOST = POOL_REGIONS_MOST * POOL_REGION_BYTES, REPORT_EVERY = 53, FURTHER = 8 };
 
 static uint8_t controls[CONTENDERS_MOST][POOL_CONTROL_BYTES];
 static uint8_t areas[CONTENDERS_MOST][AREA_MOST];
 static uint64_t code_counts[256];
 static uint64_t damaged_counts[256];
 static uint64_t place_counts[256];
-static uint64_t sheet_counts[256];
+static uint64_t report_counts[REPORTS][256];
 
-/* Whether the sheets of all contenders are the same, with what stands behind them in the row, and change nothing. */
-static int agree_sheets(size_t area_length)
+/* Whether this report of all contenders is the same, with what stands behind it in the row, and changes nothing. */
+static int agree_report(unsigned which, size_t area_length)
 {
     static uint8_t rows[CONTENDERS_MOST][POOL_SHEET_BYTES + FURTHER];
     uint64_t answers[CONTENDERS_MOST] = {0};
     for (unsigned i = 0; i < CONTENDER_COUNT; i++) {
         memset(rows[i], 0x5C, sizeof rows[i]);
-        answers[i] = CONTENDERS[i].sheet(controls[i], POOL_CONTROL_BYTES, areas[i], area_length, untouchable_strips(),
-                                         POOL_STRIPS_BYTES, rows[i], sizeof rows[i]);
+        answers[i] = CONTENDERS[i].reports[which](controls[i], POOL_CONTROL_BYTES, areas[i], area_length,
+                                                  untouchable_strips(), POOL_STRIPS_BYTES, rows[i],
+                                                  NAMED_REPORTS[which].bytes + FURTHER);
         if (answers[i] != answers[0] || memcmp(rows[i], rows[0], sizeof rows[0]) != 0) {
-            printf("%s differs in the sheet: %" PRIu64 " and %" PRIu64 "\n", CONTENDERS[i].name, answers[i],
-                   answers[0]);
+            printf("%s differs in the %s: %" PRIu64 " and %" PRIu64 "\n", CONTENDERS[i].name,
+                   NAMED_REPORTS[which].name, answers[i], answers[0]);
             return 0;
         }
     }
-    sheet_counts[POOL_CODE(answers[0])] += 1;
+    report_counts[which][POOL_CODE(answers[0])] += 1;
+    return 1;
+}
+
+static int agree_reports(size_t area_length)
+{
+    for (unsigned which = 0; which < REPORTS; which++)
+        if (!agree_report(which, area_length))
+            return 0;
     return 1;
 }
 
@@ -47,7 +56,7 @@ static int agree_sheets(size_t area_length)
 static int agree(struct call call, size_t area_length, uint64_t *answer)
 {
     static unsigned calls;
-    if (++calls % SHEET_EVERY == 0 && !agree_sheets(area_length))
+    if (++calls % REPORT_EVERY == 0 && !agree_reports(area_length))
         return 0;
     *answer = make_call(&CONTENDERS[0], call, controls[0], areas[0], area_length);
     for (unsigned i = 1; i < CONTENDER_COUNT; i++) {
@@ -137,9 +146,9 @@ static int run(uint64_t seed)
     return 1;
 }
 
-static void print_counts(const char *name, const uint64_t counts[256])
+static void print_counts(const char *name, const char *more, const uint64_t counts[256])
 {
-    printf("%s, by code:", name);
+    printf("%s%s, by code:", name, more);
     for (unsigned code = 0; code < 256; code++)
         if (counts[code] != 0)
             printf(" %u: %" PRIu64, code, counts[code]);
@@ -155,9 +164,10 @@ int main(void)
     for (unsigned place = 1; place <= PLACES_MOST; place++)
         places += place_counts[place] != 0;
     printf("%u contenders; steps were made at %u of %d places\n", CONTENDER_COUNT, places, PLACES_MOST);
-    print_counts("answers", code_counts);
-    print_counts("answers on damaged memories", damaged_counts);
-    print_counts("sheets", sheet_counts);
+    print_counts("answers", "", code_counts);
+    print_counts("answers", " on damaged memories", damaged_counts);
+    for (unsigned which = 0; which < REPORTS; which++)
+        print_counts(NAMED_REPORTS[which].name, "s", report_counts[which]);
     printf("%u passed, %u failed\n", passed, SEEDS - passed);
     return passed == SEEDS ? 0 : 1;
 }

@@ -11,11 +11,11 @@
     uint64_t prefix##_begin_leave(uint8_t *, uint64_t, const uint8_t *, uint64_t, const uint8_t *, uint64_t, \
                                   uint64_t); \
     uint64_t prefix##_step(uint8_t *, uint64_t, uint8_t *, uint64_t, const uint8_t *, uint64_t, uint64_t); \
-    uint64_t prefix##_sheet(const uint8_t *, uint64_t, const uint8_t *, uint64_t, const uint8_t *, uint64_t, \
-                            uint8_t *, uint64_t);
+    report prefix##_sheet, prefix##_holders;
 
 #define CALLS(prefix) \
-    prefix##_start, prefix##_begin_allocate, prefix##_begin_free, prefix##_begin_leave, prefix##_step, prefix##_sheet
+    prefix##_start, prefix##_begin_allocate, prefix##_begin_free, prefix##_begin_leave, prefix##_step, \
+        {prefix##_sheet, prefix##_holders}
 
 #ifdef LIBRARY_ALONE
 /* An earlier library may lack these calls; where it has them, its own are linked. */
@@ -27,13 +27,18 @@ __attribute__((weak)) uint64_t pool_begin_leave(uint8_t *control, uint64_t contr
     return task;
 }
 
-__attribute__((weak)) uint64_t pool_sheet(const uint8_t *control, uint64_t control_length, const uint8_t *area,
-                                          uint64_t area_length, const uint8_t *strips, uint64_t strips_length,
-                                          uint8_t *sheet, uint64_t sheet_length)
-{
-    (void)control, (void)control_length, (void)area, (void)area_length, (void)strips, (void)strips_length, (void)sheet;
-    return sheet_length;
-}
+#define LACKED_REPORT(name) \
+    __attribute__((weak)) uint64_t name(const uint8_t *control, uint64_t control_length, const uint8_t *area, \
+                                        uint64_t area_length, const uint8_t *strips, uint64_t strips_length, \
+                                        uint8_t *row, uint64_t row_length) \
+    { \
+        (void)control, (void)control_length, (void)area, (void)area_length, (void)strips, (void)strips_length; \
+        (void)row; \
+        return row_length; \
+    }
+
+LACKED_REPORT(pool_sheet)
+LACKED_REPORT(pool_holders)
 #else
 DECLARE(by_hand_gcc)
 #endif
@@ -52,3 +57,6 @@ const struct contender CONTENDERS[] = {
 };
 
 const unsigned CONTENDER_COUNT = sizeof CONTENDERS / sizeof *CONTENDERS;
+
+const struct named_report NAMED_REPORTS[REPORTS] = {[SHEET] = {"sheet", POOL_SHEET_BYTES},
+                                                    [FORM] = {"form", POOL_FORM_BYTES}};

@@ -2,7 +2,7 @@
 """The deepest stack of each call, in bytes, from the disassembly of the library.
 
 It is counted from the caller's stack pointer on: the call's return address, what is pushed and reserved, and the same
-of a function that is called, as often as it can be entered. Of memset and memcpy, which a start and a sheet call and
+of a function that is called, as often as it can be entered. Of memset and memcpy, which a start and a report call and
 the firmware brings, the return address alone counts.
 Every path through the code is looked at, also those that cannot be taken, so the number is a bound.
 
@@ -22,6 +22,7 @@ NAMES = {
     "pool_begin_leave": "deepest stack, beginning of leaving",
     "pool_step": "deepest stack, step",
     "pool_sheet": "deepest stack, sheet",
+    "pool_holders": "deepest stack, form",
 }
 
 

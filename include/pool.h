@@ -89,9 +89,9 @@
  *
  *   1. The three memories do not overlap, and each really has the length that is lent with it. A pointer may be null
  *      where its length is 0.
- *   2. Calls do not overlap in time: mask interrupts or lock around each single call. But for a sheet, which is a tool
- *      (see pool_sheet), the longest is a step of at most 388 instructions; docs/BENCHMARKS.md says what this bound
- *      rests on. A start, which comes before the others, also fills 8,192 bytes by your memset.
+ *   2. Calls do not overlap in time: mask interrupts or lock around each single call. But for a report, which is a tool
+ *      (see pool_sheet and pool_holders), the longest is a step of at most 388 instructions; docs/BENCHMARKS.md says
+ *      what this bound rests on. A start, which comes before the others, also fills 8,192 bytes by your memset.
  *   3. Each call but a start lends the control memory, the area and the strips' memory of the last accepted start. If
  *      it lends another length, it is refused and does no harm.
  *   4. Users write only inside blocks and strips that they hold. A block or strip is held from the step that finishes
@@ -127,24 +127,40 @@
  *   - let a task leave (pool_begin_leave) that has done its work: its caches keep no region any more;
  *   - start again: that gives everything back, and all blocks and strips are void.
  *
+ * ---- Reports ----
+ *
+ * A report is a tool: it tells where the blocks are, without changing the pool. There are two, the stock sheet for the
+ * fitter and the form by holder for the fleet office. Tasks need neither.
+ *
+ * Each block of an open region has one holder: a user's hands, a task's cache, a task's running request or the region's
+ * chain. With a running request are a block being freed, the group or chain that is under way, and blocks that are
+ * still to be carved. The classes of blocks are numbered: 0 has 8 bytes, then 16, 32, 48, 64, 80, 96, 112, 128, 160,
+ * 192 and 224, and 12 has 256. Strips are in no report.
+ *
+ * A report is one call like the others: no other call may run meanwhile. It takes much longer than they do, for it
+ * follows the links of all cached blocks: see pool_sheet and pool_holders.
+ *
  * ---- The stock sheet ----
  *
- * pool_sheet is a tool for the fitter: it tells where the blocks are, without changing the pool. For each class of
- * blocks and each region the sheet has four numbers: how many blocks of the region are in users' hands, in tasks'
- * caches, with running requests, and in the region's chain. With a running request are a block being freed, the group
- * or chain that is under way, and blocks that are still to be carved. The classes are numbered by their blocks: 0 has
- * 8 bytes, then 16, 32, 48, 64, 80, 96, 112, 128, 160, 192 and 224, and 12 has 256.
- *
- * The four numbers of an open region add up to the blocks that a region of its class has. A region that is not open in
- * the class, or not in the area, shows four zeros. Strips are not on the sheet.
+ * For each class and each region the sheet has four numbers: how many blocks of the region are in users' hands, in
+ * tasks' caches, with running requests, and in the region's chain. The four numbers of an open region add up to the
+ * blocks that a region of its class has. A region that is not open in the class, or not in the area, shows four zeros.
  *
  *     static uint8_t sheet[POOL_SHEET_BYTES];
  *     if (pool_sheet(control, sizeof control, area, sizeof area, strips, sizeof strips, sheet, sizeof sheet)
  *         == POOL_FINISHED)
  *         cached = POOL_SHEET_NUMBER(sheet, class, region, POOL_IN_CACHES);
  *
- * It is one call like the others: no other call may run meanwhile. It takes much longer than they do, for it follows
- * the links of all cached blocks: see pool_sheet.
+ * ---- The form by holder ----
+ *
+ * The form has a line for each class, in which the regions are added up and the tasks are told apart. Its 18 numbers
+ * are the blocks in users' hands, in the cache of each of eight tasks, with the request of each, and in the chains of
+ * open regions. They add up to what the sheet has of the class.
+ *
+ *     static uint8_t form[POOL_FORM_BYTES];
+ *     if (pool_holders(control, sizeof control, area, sizeof area, strips, sizeof strips, form, sizeof form)
+ *         == POOL_FINISHED)
+ *         cached = POOL_FORM_NUMBER(form, class, POOL_HOLDER_CACHE(task));
  *
  * ---- What the code needs ----
  *
@@ -152,10 +168,19 @@
  * caches that is not empty. A step for a strip halves or joins at most seven times, and the start loops over the
  * control memory alone. No call makes a system call, allocates memory or keeps anything outside the memories that it is
  * lent. The library is target/staticlib/libpool.a, made by 'rt staticlib pool'. A start needs memset from the
- * firmware's C library, and SSE2 registers; a sheet needs memset, memcpy and SSE2 registers. The code is for x86-64.
+ * firmware's C library, and SSE2 registers; a report needs memset, memcpy and SSE2 registers. The code is for x86-64.
  *
- * Each function has a section of its own. Firmware that never calls pool_sheet can have the linker leave it out
- * (gcc: -Wl,--gc-sections).
+ * Each function has a section of its own, so that the linker can leave out a report that is never called (gcc:
+ * -Wl,--gc-sections). What it leaves out are code and constants that no other call uses:
+ *
+ *   1,810 bytes   of the sheet alone, where the sheet is not called;
+ *   1,591 bytes   of the form alone, where the form is not called;
+ *   2,367 bytes   that both reports share, where neither is called.
+ *
+ * So 5,768 bytes are left out where neither is called, and no memcpy is needed.
+ *
+ * A report keeps values below the stack pointer, in the 128 bytes that the System V ABI calls the red zone; the other
+ * calls do not. An interrupt that comes during a report, and uses the same stack, has to leave these bytes as they are.
  */
 #ifndef POOL_H
 #define POOL_H
@@ -181,6 +206,7 @@ extern "C" {
 #define POOL_ALIGNMENT 16       /* of every block of 16 bytes or more, if the area has it */
 #define POOL_CLASSES 13         /* sizes of blocks, numbered from 0 for 8 bytes to 12 for 256 */
 #define POOL_SHEET_BYTES 1664   /* of the stock sheet: four numbers of two bytes for each class and region */
+#define POOL_FORM_BYTES 468     /* of the form by holder: 18 numbers of two bytes for each class */
 
 /* ---- answers ---- */
 
@@ -198,12 +224,14 @@ extern "C" {
 #define POOL_STRIP(strips, unit) POOL_BLOCK(strips, (unit) - POOL_STRIP_FIRST)
 #define POOL_STRIP_UNIT(strips, strip) (POOL_UNIT(strips, strip) + POOL_STRIP_FIRST)
 
-/* The number in a column of a stock sheet, for a class and a region, and the byte at which their four numbers begin. A
-   number has two bytes, the low byte first. */
+/* The number at a byte of a report's row: two bytes, the low byte first. */
+#define POOL_ROW_NUMBER(row, byte) \
+    ((unsigned)((const uint8_t *)(row))[byte] + 256u * ((const uint8_t *)(row))[(byte) + 1])
+
+/* The number in a column of a stock sheet, for a class and a region, and the byte at which their four numbers begin. */
 #define POOL_SHEET_AT(class_number, region) (8 * (POOL_REGIONS_MOST * (size_t)(class_number) + (size_t)(region)))
 #define POOL_SHEET_NUMBER(sheet, class_number, region, column) \
-    ((unsigned)((const uint8_t *)(sheet))[POOL_SHEET_AT(class_number, region) + 2 * (size_t)(column)] \
-     + 256u * ((const uint8_t *)(sheet))[POOL_SHEET_AT(class_number, region) + 2 * (size_t)(column) + 1])
+    POOL_ROW_NUMBER(sheet, POOL_SHEET_AT(class_number, region) + 2 * (size_t)(column))
 
 /* The columns of a stock sheet: where the blocks of a region are. */
 enum pool_column {
@@ -213,18 +241,29 @@ enum pool_column {
     POOL_IN_CHAIN = 3       /* in the region's own chain */
 };
 
+/* The number of a holder in a form by holder, for a class, and the byte at which the line of the class begins. */
+#define POOL_FORM_AT(class_number) (36 * (size_t)(class_number))
+#define POOL_FORM_NUMBER(form, class_number, holder) \
+    POOL_ROW_NUMBER(form, POOL_FORM_AT(class_number) + 2 * (size_t)(holder))
+
+/* The holders of a form, by the order of their numbers: the users' hands, the cache of each task, the request of each
+   task that is not over, the chains of open regions. */
+enum pool_holder { POOL_HOLDER_HANDS = 0, POOL_HOLDER_CHAINS = 17 };
+#define POOL_HOLDER_CACHE(task) (1 + (size_t)(task))
+#define POOL_HOLDER_REQUEST(task) (9 + (size_t)(task))
+
 /* The codes. POOL_UNDER_WAY and POOL_FINISHED accept a call. POOL_NO_DESCRIPTOR, POOL_NO_REGION and POOL_NO_STRIP end a
    request: the task is idle afterwards and holds nothing new. Every other code refuses the call: it changed no byte. */
 enum pool_code {
     POOL_UNDER_WAY = 0, /* accepted; of a step: made, and the request goes on */
-    POOL_FINISHED = 20, /* the step finished the request; the value of an allocation is its unit; of a sheet: given */
+    POOL_FINISHED = 20, /* a step finished its request; the value of an allocation is its unit; of a report: written */
 
     /* Caused by whoever builds the pool into the firmware. */
     POOL_BAD_CONTROL = 1, /* the control memory is not 8,192 bytes */
     POOL_BAD_AREA = 2,    /* the area's length is 0, no multiple of 4,096 or above 65,536, or not the started one; or
                              the strips' memory is not 65,536 bytes */
     POOL_BAD_TASKS = 3,   /* a start with a number of tasks that is not 1 to 8 */
-    POOL_SHORT_ROW = 23,  /* a sheet of fewer than 1,664 bytes */
+    POOL_SHORT_ROW = 23,  /* a sheet of fewer than 1,664 bytes, or a form of fewer than 468 */
 
     /* Caused by a task's author. */
     POOL_NOT_STARTED = 4,     /* no start was accepted; a control memory of zeros is such a pool */
@@ -331,13 +370,40 @@ uint64_t pool_step(uint8_t *control, uint64_t control_length, uint8_t *area, uin
  * that is read is out of its range, POOL_SHORT_ROW; else POOL_FINISHED with value 0.
  *
  * It is a tool, and takes what the other calls need not. All its loops are bounded, but it follows the link of every
- * cached block, at 13 instructions each: it takes 10,536 instructions in a fresh pool of one region, and 99,200 where
- * all blocks of sixteen regions are cached. The most that was found for any memories is 160,456. A sheet uses at most
- * 2,136 bytes of stack, of which 1,664 hold the numbers until all are tested; what your memset and memcpy use comes on
- * top. Its code and its own constants have 3,514 bytes.
+ * cached block, at 13 instructions each: it takes 13,804 instructions in a fresh pool of one region, and 103,256 where
+ * all blocks of sixteen regions are cached. The most that was found for any memories is 163,976. A sheet uses at most
+ * 2,097 bytes of stack, of which 1,664 hold the numbers until all are tested; what your memset and memcpy use comes on
+ * top. "What the code needs" above says what its code takes.
  */
 uint64_t pool_sheet(const uint8_t *control, uint64_t control_length, const uint8_t *area, uint64_t area_length,
                     const uint8_t *strips, uint64_t strips_length, uint8_t *sheet, uint64_t sheet_length);
+
+/*
+ * Writes the form by holder into the first 468 bytes of the row that it is lent, and nothing else. What pool_sheet says
+ * of its row, of the memories and of requests holds here, too.
+ *
+ * The line of class c begins at byte 36 * c and has 18 numbers of two bytes: number 0 is of users' hands, number 1 + t
+ * of the cache of task t, number 9 + t of the request of task t, number 17 of the chains of open regions.
+ * POOL_FORM_NUMBER reads one of them.
+ *
+ * A number adds up what the sheet counts in the regions that are open in the class. So on any memories the number of
+ * users' hands is the sum of the sheet's numbers in hand. The eight of caches are together the sum of those in caches,
+ * the eight of requests that of those with requests, and the number of chains is that of those in the chain. What is
+ * read and tested is what pool_sheet reads and tests.
+ *
+ * Under the premises each number is that of the class's blocks which are there, and the call is not refused by
+ * POOL_DAMAGED.
+ *
+ * Answers, by the first test that fails: POOL_BAD_CONTROL, POOL_NOT_STARTED, POOL_BAD_AREA, POOL_DAMAGED exactly where
+ * pool_sheet has it, POOL_SHORT_ROW; else POOL_FINISHED with value 0.
+ *
+ * It follows the link of every cached block, at 13 instructions each. It takes 20,432 instructions in a fresh pool of
+ * one region, and 108,814 where all blocks of sixteen regions are cached. The most that was found for any memories is
+ * 169,534. A form uses at most 865 bytes of stack, of which 468 hold the numbers until all are tested; what your memset
+ * and memcpy use comes on top. "What the code needs" above says what its code takes.
+ */
+uint64_t pool_holders(const uint8_t *control, uint64_t control_length, const uint8_t *area, uint64_t area_length,
+                      const uint8_t *strips, uint64_t strips_length, uint8_t *form, uint64_t form_length);
 
 #ifdef __cplusplus
 }

@@ -20,6 +20,7 @@ void check_blocks(void);
 void check_strips(void);
 void check_leaving(void);
 void check_sheet(void);
+void check_holders(void);
 void check_ends(void);
 void check_regions(void);
 void check_refusals(void);

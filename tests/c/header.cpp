@@ -47,6 +47,20 @@ unsigned blocks_in_hand(const uint8_t *control)
     return POOL_SHEET_NUMBER(sheet, 0, POOL_REGIONS_MOST - 1, POOL_IN_HAND);
 }
 
+static_assert(POOL_FORM_AT(POOL_CLASSES) == POOL_FORM_BYTES, "the form has a line for each class");
+static_assert(POOL_FORM_AT(1) == 2 * (POOL_HOLDER_CHAINS + 1), "the chains are the last number of a line");
+static_assert(POOL_HOLDER_CACHE(0) == POOL_HOLDER_HANDS + 1, "the caches begin behind the hands");
+static_assert(POOL_HOLDER_REQUEST(0) == POOL_HOLDER_CACHE(POOL_TASKS_MOST), "the requests begin behind the caches");
+static_assert(POOL_HOLDER_CHAINS == POOL_HOLDER_REQUEST(POOL_TASKS_MOST), "the chains come behind the requests");
+
+uint8_t form[POOL_FORM_BYTES];
+
+unsigned blocks_with_request(const uint8_t *control, uint64_t task)
+{
+    pool_holders(control, POOL_CONTROL_BYTES, area, sizeof area, strips, sizeof strips, form, sizeof form);
+    return POOL_FORM_NUMBER(form, POOL_CLASSES - 1, POOL_HOLDER_REQUEST(task));
+}
+
 uint64_t last_request(uint8_t *control, uint64_t task)
 {
     return pool_begin_leave(control, POOL_CONTROL_BYTES, area, sizeof area, strips, sizeof strips, task);

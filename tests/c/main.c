@@ -9,6 +9,7 @@ int main(void)
     check_strips();
     check_leaving();
     check_sheet();
+    check_holders();
     check_ends();
     check_regions();
     check_refusals();

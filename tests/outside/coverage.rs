@@ -4,7 +4,7 @@ use crate::checks::Checks;
 use crate::classes::CLASSES;
 use crate::leave_coverage::LeaveCoverage;
 use crate::pool::{Answer, Event, Place, Request, State, PLACES, REGIONS, TASKS};
-use crate::sheet_checks::SheetCoverage;
+use crate::report_coverage::{FormCoverage, SheetCoverage};
 use crate::strip_coverage::StripCoverage;
 use std::collections::BTreeMap;
 
@@ -73,6 +73,7 @@ pub struct Coverage {
     pub strips: StripCoverage,
     pub leaving: LeaveCoverage,
     pub sheet: SheetCoverage,
+    pub form: FormCoverage,
 }
 
 impl Coverage {
@@ -160,6 +161,7 @@ impl Coverage {
         self.strips.report(checks);
         self.leaving.report(checks);
         self.sheet.report(checks);
+        self.form.report(checks);
     }
 
     fn report_codes(&self, checks: &mut Checks) {
@@ -188,6 +190,7 @@ impl Coverage {
         self.strips.print();
         self.leaving.print();
         self.sheet.print();
+        self.form.print();
         for (kind, name) in KINDS.iter().enumerate() {
             let codes: Vec<String> = self
                 .codes

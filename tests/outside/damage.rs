@@ -197,7 +197,23 @@ fn damage_leaving(bytes: &mut Bytes, random: &mut Random) {
 }
 
 fn damage_link(bytes: &mut Bytes, random: &mut Random) {
-    let unit = random.below(bytes.area.len() as u64 / 8) as usize * 8;
-    let value = edge(random) as u32;
-    bytes.area[unit..unit + 4].copy_from_slice(&value.to_le_bytes());
+    let unit = random.below(bytes.area.len() as u64 / 8);
+    let value = edge(random);
+    set_link(bytes, unit, value);
+}
+
+pub fn set_link(bytes: &mut Bytes, unit: u64, link: u64) {
+    let first = unit as usize * 8;
+    bytes.area[first..first + 4].copy_from_slice(&(link as u32).to_le_bytes());
+}
+
+/// Makes a cache of these blocks, the last on top.
+pub fn link_cache(bytes: &mut Bytes, (task, class): (usize, usize), units: &[u64]) {
+    let mut below = pool::ALL_UNITS as u64;
+    for &unit in units {
+        set_link(bytes, unit, below);
+        below = unit;
+    }
+    set(&mut bytes.control, TOP, cache_index(task, class), below);
+    set(&mut bytes.control, COUNT, cache_index(task, class), units.len() as u64);
 }

@@ -13,8 +13,8 @@ use crate::pieces;
 use crate::pool::{Answer, Call, Place, Pool, Request, ALL_UNITS, CONTROL, TASKS};
 use crate::random::Random;
 use crate::ranges;
-use crate::sheet::BYTES;
-use crate::sheet_checks::FURTHER;
+use crate::report::REPORTS;
+use crate::report_checks::FURTHER;
 use crate::slots::Slots;
 use crate::strip_checks::STRIPS_KEPT;
 use crate::strips::{LEAST_SIZE, STRIPS};
@@ -34,8 +34,8 @@ pub const LEFT: &str = "a task that has left has no block in any cache";
 pub struct Driver<'a> {
     pub pool: Pool,
     pub lent: Lent,
-    /// The row into which sheets are written.
-    pub row: Memory,
+    /// The rows into which the reports are written.
+    pub rows: [Memory; REPORTS.len()],
     pub control_before: Vec<u8>,
     pub area_before: Vec<u8>,
     pub strips_before: Vec<u8>,
@@ -70,7 +70,7 @@ impl<'a> Driver<'a> {
             area_before: area.bytes().to_vec(),
             strips_before: strips.bytes().to_vec(),
             lent: Lent { control, area, strips },
-            row: Memory::new(BYTES + FURTHER, Side::EndsAtGuard),
+            rows: REPORTS.map(|report| Memory::new(report.bytes() + FURTHER, Side::EndsAtGuard)),
             asked: [None; TASKS],
             freeing: [None; TASKS],
             held: Vec::new(),
@@ -242,7 +242,7 @@ impl<'a> Driver<'a> {
             return Ok(());
         }
         self.coverage.comparisons += 1;
-        self.compare_sheet()?;
+        self.compare_reports()?;
         self.compare_pieces()?;
         let view = View { control: self.lent.control.bytes(), area: self.lent.area.bytes() };
         let pool = &self.pool;

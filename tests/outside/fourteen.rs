@@ -20,8 +20,8 @@ use crate::library::{self, Lent};
 use crate::memory::Side;
 use crate::pool::Request;
 use crate::ranges;
+use crate::report_fourteen;
 use crate::schedules::Schedule;
-use crate::sheet_fourteen;
 use crate::styles;
 use std::collections::BTreeMap;
 
@@ -45,7 +45,7 @@ fn cases() -> impl Iterator<Item = &'static Case> {
 }
 
 /// Runs schedules and tries each case in states where it applies.
-pub fn round(seed: u64, checks: &mut Checks, tried: &mut Tried, sheets: &mut sheet_fourteen::Tried) {
+pub fn round(seed: u64, checks: &mut Checks, tried: &mut Tried, reports: &mut report_fourteen::Tried) {
     for (number, name) in STYLES.iter().enumerate() {
         let (mut own_checks, mut coverage) = (Checks::default(), Coverage::default());
         let seed = seed.wrapping_mul(31).wrapping_add(number as u64);
@@ -60,7 +60,7 @@ pub fn round(seed: u64, checks: &mut Checks, tried: &mut Tried, sheets: &mut she
                 break;
             }
             try_all(schedule.driver, checks, tried);
-            sheet_fourteen::state(schedule.driver, checks, sheets);
+            report_fourteen::state(schedule.driver, checks, reports);
         }
     }
 }

@@ -1,9 +1,10 @@
-//! The six functions of the library, called with numbers and the three memories as the firmware in C calls them.
+//! The seven functions of the library, called with numbers and the three memories as the firmware in C calls them.
 
 use crate::memory::{Memory, Side};
 use crate::pool::{Answer, Request};
+use crate::report::Report;
 use crate::tamper;
-use crate::tamper_sheet;
+use crate::tamper_report;
 
 unsafe extern "C" {
     fn pool_start(
@@ -63,6 +64,16 @@ unsafe extern "C" {
         sheet: *mut u8,
         sheet_length: u64,
     ) -> u64;
+    fn pool_holders(
+        control: *const u8,
+        control_length: u64,
+        area: *const u8,
+        area_length: u64,
+        strips: *const u8,
+        strips_length: u64,
+        form: *mut u8,
+        form_length: u64,
+    ) -> u64;
 }
 
 /// The three memories that a call is lent.
@@ -105,18 +116,22 @@ pub fn call(lent: &mut Lent, request: Request) -> Answer {
     tamper::after(lent, request, before, (answer % 256, answer / 256))
 }
 
-/// The sheet of the library, written into the row.
-pub fn sheet(lent: &mut Lent, row: &mut Memory) -> Answer {
-    let answer = true_sheet(lent, row);
-    tamper_sheet::after(lent, row, answer)
+/// A report of the library, written into the row.
+pub fn report(report: Report, lent: &mut Lent, row: &mut Memory) -> Answer {
+    let answer = true_report(report, lent, row);
+    tamper_report::after(report, lent, row, answer)
 }
 
 /// The same without a deliberate fault.
-pub fn true_sheet(lent: &Lent, row: &mut Memory) -> Answer {
+pub fn true_report(report: Report, lent: &Lent, row: &mut Memory) -> Answer {
     let (c, c_length) = (lent.control.pointer(), lent.control.len() as u64);
     let (a, a_length) = (lent.area.pointer(), lent.area.len() as u64);
     let (s, s_length) = (lent.strips.pointer(), lent.strips.len() as u64);
+    let called = match report {
+        Report::Sheet => pool_sheet,
+        Report::Form => pool_holders,
+    };
     // SAFETY: the three memories and the row are lent for the call with their true lengths.
-    let answer = unsafe { pool_sheet(c, c_length, a, a_length, s, s_length, row.pointer(), row.len() as u64) };
+    let answer = unsafe { called(c, c_length, a, a_length, s, s_length, row.pointer(), row.len() as u64) };
     (answer % 256, answer / 256)
 }

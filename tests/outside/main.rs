@@ -11,11 +11,15 @@ mod driver;
 mod expected;
 mod faults;
 mod fitting;
+mod form;
+mod form_directed;
+mod form_uncounted;
 mod fourteen;
 mod fourteen_cases;
 mod fourteen_leaving;
 mod fourteen_strips;
 mod frames;
+mod holders;
 mod layout;
 mod leave_coverage;
 mod leave_directed;
@@ -31,17 +35,20 @@ mod pool;
 mod random;
 mod ranges;
 mod refusals;
+mod report;
+mod report_arbitrary;
+mod report_bytes;
+mod report_cases;
+mod report_checks;
+mod report_coverage;
+mod report_fourteen;
+mod report_refusals;
+mod report_shared_cases;
+mod report_sums;
+mod report_trial;
 mod schedules;
 mod sheet;
-mod sheet_arbitrary;
-mod sheet_bytes;
-mod sheet_cases;
-mod sheet_checks;
 mod sheet_directed;
-mod sheet_fourteen;
-mod sheet_refusals;
-mod sheet_shared_cases;
-mod sheet_trial;
 mod slots;
 mod stand;
 mod stand_test;
@@ -56,7 +63,7 @@ mod structure;
 mod styles;
 mod table;
 mod tamper;
-mod tamper_sheet;
+mod tamper_report;
 mod unread;
 mod users;
 
@@ -80,10 +87,10 @@ struct Options {
 }
 
 const FIXED_ROUNDS: u64 = 16;
-/// One in this many rounds tries what the sheet refuses, which is mostly the same each time.
+/// One in this many rounds tries what the reports refuse, which is mostly the same each time.
 const REFUSALS_EVERY: u64 = 8;
 type Directed = fn(&mut Driver) -> Result<(), Parted>;
-const DIRECTED: [Directed; 30] = [
+const DIRECTED: [Directed; 35] = [
     directed::first_allocations,
     directed::bench_refusals,
     directed::every_size,
@@ -114,6 +121,11 @@ const DIRECTED: [Directed; 30] = [
     sheet_directed::leaving_half_way,
     sheet_directed::strips_are_on_no_sheet,
     sheet_directed::sixteen_regions,
+    form_directed::first_block,
+    form_directed::two_regions,
+    form_directed::each_task,
+    form_directed::several_classes,
+    form_directed::large_numbers,
 ];
 
 fn usage() -> ! {
@@ -180,8 +192,8 @@ fn schedule(options: &Options, round: u64, index: usize, checks: &mut Checks, co
 struct Reached {
     arbitrary: arbitrary::Counts,
     tried: fourteen::Tried,
-    sheets: sheet_arbitrary::Counts,
-    sheets_tried: sheet_fourteen::Tried,
+    reports: report_arbitrary::Counts,
+    reports_tried: report_fourteen::Tried,
 }
 
 impl Reached {
@@ -189,9 +201,9 @@ impl Reached {
         self.arbitrary.print();
         self.arbitrary.report(checks);
         fourteen::report(&self.tried, checks);
-        self.sheets.print();
-        self.sheets.report(checks);
-        sheet_fourteen::report(&self.sheets_tried, checks);
+        self.reports.print();
+        self.reports.report(checks);
+        report_fourteen::report(&self.reports_tried, checks);
     }
 }
 
@@ -201,11 +213,12 @@ fn memories(options: &Options, round: u64, checks: &mut Checks, reached: &mut Re
     let seed = options.seed.wrapping_add(round);
     unread::round(seed, checks);
     arbitrary::round(options.seed.wrapping_add(round << 32), checks, &mut reached.arbitrary);
-    fourteen::round(seed, checks, &mut reached.tried, &mut reached.sheets_tried);
+    fourteen::round(seed, checks, &mut reached.tried, &mut reached.reports_tried);
     if round % REFUSALS_EVERY == 0 {
-        sheet_refusals::round(seed, checks);
+        report_refusals::round(seed, checks);
+        form_uncounted::round(seed, checks);
     }
-    sheet_arbitrary::round(seed, checks, &mut reached.sheets);
+    report_arbitrary::round(seed, checks, &mut reached.reports);
 }
 
 /// Runs with a fault stop at the first failure and say which check made it. Where the fault leads the plain pool into

@@ -5,26 +5,28 @@ use crate::classes::{class_of, per_region, UNITS_PER_REGION};
 use crate::directed::{allocate, free, start, steps_to_the_end};
 use crate::driver::Driver;
 use crate::pool::{Request, REGIONS, TASKS};
-use crate::sheet::{row_of, Four, BYTES};
+use crate::report::Report;
+use crate::report_checks::written;
+use crate::sheet::{row_of, Four};
 use crate::strips::FIRST_UNIT;
 
 /// The sheet shows these numbers and else zeros.
 fn shows(driver: &mut Driver, name: &str, numbers: &[(usize, usize, Four)]) -> Result<(), Parted> {
-    driver.compare_sheet()?;
-    let same = driver.row.bytes()[..BYTES] == row_of(numbers);
-    driver.checks.hold(&format!("sheet: {name}"), same, || format!("{numbers:?} are due"))
+    driver.compare_reports()?;
+    let same = written(&driver.rows, Report::Sheet) == row_of(numbers);
+    driver.checks.hold(&Report::Sheet.check(name), same, || format!("{numbers:?} are due"))
 }
 
-fn step(driver: &mut Driver, task: u64) -> Result<(), Parted> {
+pub fn step(driver: &mut Driver, task: u64) -> Result<(), Parted> {
     driver.ask(Request::Step { task }).map(|_| ())
 }
 
-fn steps(driver: &mut Driver, task: u64, times: u64) -> Result<(), Parted> {
+pub fn steps(driver: &mut Driver, task: u64, times: u64) -> Result<(), Parted> {
     (0..times).try_for_each(|_| step(driver, task))
 }
 
 /// So many blocks of the size; answers their units in rising order.
-fn allocate_all(driver: &mut Driver, task: u64, size: u64, times: u64) -> Result<Vec<u64>, Parted> {
+pub fn allocate_all(driver: &mut Driver, task: u64, size: u64, times: u64) -> Result<Vec<u64>, Parted> {
     let mut units = (0..times).map(|_| Ok(allocate(driver, task, size)?.1 .1)).collect::<Result<Vec<_>, Parted>>()?;
     units.sort();
     Ok(units)
@@ -32,7 +34,7 @@ fn allocate_all(driver: &mut Driver, task: u64, size: u64, times: u64) -> Result
 
 /// Before a start, of fresh pools, and one block in hand that another task frees.
 pub fn first_block(driver: &mut Driver) -> Result<(), Parted> {
-    driver.compare_sheet()?;
+    driver.compare_reports()?;
     for (tasks, regions) in [(1, 1), (TASKS as u64, REGIONS as u64), (2, 3)] {
         start(driver, tasks, regions)?;
         shows(driver, "a fresh pool shows zeros", &[])?;

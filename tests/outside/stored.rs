@@ -1,14 +1,15 @@
 //! The stored schedules of the stand, NAME.hex in hexadecimal with comments and NAME.in as bytes, and their tables
-//! NAME.out: the plain pool has to print them, too. A file NAME.sheet is the stock sheet after the last record. All
-//! were worked out from the paper or come from another model, so that this holds the plain pool against both.
+//! NAME.out: the plain pool has to print them, too. A file NAME.sheet is the stock sheet after the last record, and
+//! NAME.holders the form by holder. All were worked out from the paper or come from another model, so that this holds
+//! the plain pool against both.
 
 use crate::checks::Checks;
-use crate::sheet::sheet;
+use crate::holders;
+use crate::report::{Report, REPORTS};
 use crate::stand;
 use std::path::{Path, PathBuf};
 
 const TABLES: &str = "stand: the plain pool prints the stored table";
-const SHEETS: &str = "stand: the plain pool has the stored sheet after the schedule";
 
 /// The bytes of a schedule.
 pub fn schedule(path: &Path) -> Result<Vec<u8>, String> {
@@ -23,7 +24,7 @@ pub fn schedule(path: &Path) -> Result<Vec<u8>, String> {
     digits.chunks(2).map(|pair| byte(pair).map_err(|error| format!("{}: {error}", path.display()))).collect()
 }
 
-/// Compares every stored table of the folder and of its folders, and every stored sheet.
+/// Compares every stored table of the folder and of its folders, and every stored report.
 pub fn compare(folder: &str, checks: &mut Checks) {
     let paths = schedules(Path::new(folder));
     let _ = checks.hold("stand: there are stored schedules", !paths.is_empty(), || folder.to_string());
@@ -32,16 +33,26 @@ pub fn compare(folder: &str, checks: &mut Checks) {
             let _ = checks.hold(TABLES, false, || format!("{} cannot be read", path.display()));
             continue;
         };
-        if let Ok(due) = std::fs::read_to_string(path.with_extension("sheet")) {
-            let same = hexadecimal(&sheet(&stand::pool_after(&bytes))) == due;
-            let _ = checks.hold(SHEETS, same, || format!("{}", path.display()));
-            if !path.with_extension("out").exists() {
-                continue;
-            }
+        let reports = REPORTS.iter().filter(|&&report| compare_report(report, &path, &bytes, checks)).count();
+        if reports > 0 && !path.with_extension("out").exists() {
+            continue;
         }
         let due = std::fs::read_to_string(path.with_extension("out")).unwrap_or_default();
         let _ = checks.hold(TABLES, stand::output(&bytes) == due, || format!("{}", path.display()));
     }
+}
+
+/// Whether a report of the schedule is stored; then it is compared.
+fn compare_report(report: Report, path: &Path, schedule: &[u8], checks: &mut Checks) -> bool {
+    let kind = match report {
+        Report::Sheet => "sheet",
+        Report::Form => "holders",
+    };
+    let Ok(due) = std::fs::read_to_string(path.with_extension(kind)) else { return false };
+    let same = hexadecimal(&holders::row(report, &stand::pool_after(schedule))) == due;
+    let name = format!("stand: the plain pool has the stored {} after the schedule", report.name());
+    let _ = checks.hold(&name, same, || format!("{}", path.display()));
+    true
 }
 
 /// A row in hexadecimal, 32 bytes a line.

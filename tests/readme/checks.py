@@ -18,6 +18,7 @@ CHECKS = [
     ("the README's program as C++11", examples.as_cpp),
     ("the README's schedules give its tables", examples.on_the_stand),
     ("the README's sheets are those of its examples", examples.sheets),
+    ("the README's forms by holder are those of its examples", examples.forms),
     ('definitions and statements are quoted as they stand', examples.quoted),
     ('links lead to files and headings', references.links),
     ('paths in backticks exist', references.paths),

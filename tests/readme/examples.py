@@ -62,12 +62,20 @@ def on_the_stand():
     return [line for schedule, table in zip(schedules, due) for line in played(schedule, table)]
 
 
+def reported(report):
+    """A block of a report is the file beside the example that its first line names. tests/stand tests that file."""
+    shown = blocks(read(README), report)
+    beside = [re.sub(r'\.txt, read as text$', f'.{report}', table.splitlines()[0]) for table in shown]
+    wrong = [f'{README}: it does not show {path}' for path, table in zip(beside, shown) if read(path) != table]
+    return wrong if shown else [f'{README} has no block ```{report}']
+
+
 def sheets():
-    """A block ```sheet is the file beside the example that its first line names. tests/stand tests that file."""
-    shown = blocks(read(README), 'sheet')
-    beside = [re.sub(r'\.txt, read as text$', '.sheet', sheet.splitlines()[0]) for sheet in shown]
-    wrong = [f'{README}: it does not show {path}' for path, sheet in zip(beside, shown) if read(path) != sheet]
-    return wrong if shown else [f'{README} has no block ```sheet']
+    return reported('sheet')
+
+
+def forms():
+    return reported('holders')
 
 
 def quoted():

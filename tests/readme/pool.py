@@ -11,6 +11,7 @@ BENCH_SIZES = 'crates/agreement/proofs/BenchSizes.antt'
 TESTS = 'crates/demands/specs/Tests.antt'
 REPORT_ROWS = 'crates/reports/specs/Rows.antt'
 SHEET = 'crates/sheet/specs/Sheet.antt'
+FORM = 'crates/holders/specs/Form.antt'
 PICTURE = 'docs/pictures/memories.svg'
 # The rows of the table of numbers, and the constants of the header, by the names of the definitions.
 ROWS = {'tasks': 'TASKS', 'bytes of the control memory': 'CONTROL-BYTES', 'regions of the area': 'REGIONS',
@@ -21,7 +22,8 @@ ROWS = {'tasks': 'TASKS', 'bytes of the control memory': 'CONTROL-BYTES', 'regio
 CONSTANTS = {'POOL_CONTROL_BYTES': 'CONTROL-BYTES', 'POOL_REGION_BYTES': 'REGION-BYTES', 'POOL_REGIONS_MOST': 'REGIONS',
              'POOL_TASKS_MOST': 'TASKS', 'POOL_BLOCK_MOST': 'LARGEST-SIZE', 'POOL_UNIT_BYTES': 'UNIT-BYTES',
              'POOL_ALIGNMENT': 'ALIGNMENT', 'POOL_STRIPS_BYTES': 'STRIPS-BYTES', 'POOL_STRIP_LEAST': 'SLOT-BYTES',
-             'POOL_STRIP_FIRST': 'UNITS', 'POOL_CLASSES': 'CLASSES', 'POOL_SHEET_BYTES': 'SHEET-BYTES'}
+             'POOL_STRIP_FIRST': 'UNITS', 'POOL_CLASSES': 'CLASSES', 'POOL_SHEET_BYTES': 'SHEET-BYTES',
+             'POOL_FORM_BYTES': 'FORM-BYTES'}
 # The sentences on the order of the tests, and the lists of tests that make them up. 14 comes between, where it is read.
 ORDERS = {'a start': ['startTests'], 'the beginning of an allocation': ['callTests', 'idleTests', 'sizeTests'],
           'the beginning of a free': ['callTests', 'idleTests', 'unitTests'],
@@ -37,7 +39,7 @@ def number_of(cell):
 
 def limits():
     """The table's numbers, and the header's constants, are those of the definitions."""
-    known = named(LIMITS, CLASSES, REPORT_ROWS, SHEET)
+    known = named(LIMITS, CLASSES, REPORT_ROWS, SHEET, FORM)
     rows = tables_by(POOL, 'there are')
     told = [(POOL, row[0], number_of(row[1]), ROWS[row[0]]) for row in rows]
     told += [(HEADER, name, int(number), CONSTANTS[name])

@@ -10,3 +10,4 @@ pub mod HandedOut
 pub mod Demands
 pub mod TaskLeaves
 pub mod StockSheet
+pub mod SheetByHolder

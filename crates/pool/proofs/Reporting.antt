@@ -20,8 +20,7 @@ use Rattle.stepped.specs.Ranges.{oneTo}
 use Rattle.stepped.specs.Calls.{tested, isStartedLengths, lengths, lending}
 use Rattle.begins.specs.TestNumber.{unlessRefused, TestsAre}
 use Rattle.reports.specs.Rows.{numbersTo}
-use Rattle.reports.specs.Reports.{reportRefusal, answered, reportOf, Answers}
-use Rattle.sheet.specs.Sheet.{SHEET-NUMBERS, sheetNumber, sheetInRange, sheetOf}
+use Rattle.reports.specs.Reports.{reportRefusal, answered, reportOf, reportOn, Answers}
 
 -- ---- the number of the first test that fails
 
@@ -78,18 +77,19 @@ module _ (lent : Lengths) (v : View) (inRange : Bool) (numbers row : List ℕ) (
   unfolding reportOf
   report-answers e A = rw (← (refusal-is lent v r T), eq-eqb r 0 e) A
 
--- ---- the sheet
+-- ---- on memories
 
-module _ (s : Memories) (row : List ℕ) (r : ℕ) (T : TestsAre (lengths (lending s)) (seen (s .control)) 0 r) where
-  -- the tests refuse the sheet
-  pub sheet-refused : r ≢ 0 → Answers (sheetOf s row) row r
-  unfolding sheetOf
-  sheet-refused n = report-refused _ _ _ _ row r T n
+module _ (inRange : View → (ℕ → ℕ) → ℕ → Bool) (n : ℕ) (number : View → (ℕ → ℕ) → ℕ → ℕ → ℕ) (s : Memories)
+    (row : List ℕ) (r : ℕ) (T : TestsAre (lengths (lending s)) (seen (s .control)) 0 r) where
+  -- the tests refuse the report
+  pub on-refused : r ≢ 0 → Answers (reportOn inRange n number s row) row r
+  unfolding reportOn
+  on-refused d = report-refused _ _ _ _ row r T d
 
-  -- the tests pass, and the sheet is that of the started regions
-  pub sheet-answers : (regions : ℕ) → r ≡ 0 → regions ≡ seen (s .control) Regions → {n : ℕ} {row′ : List ℕ}
-      → Answers (answered (sheetInRange (seen (s .control)) (link (s .area)) regions)
-      (numbersTo SHEET-NUMBERS (sheetNumber (seen (s .control)) (link (s .area)) regions)) row) row′ n
-      → Answers (sheetOf s row) row′ n
-  unfolding sheetOf
-  sheet-answers regions e f A = report-answers _ _ _ _ row r T e (rw f at A)
+  -- the tests pass, and the report is that of the started regions
+  pub on-answers : (regions : ℕ) → r ≡ 0 → regions ≡ seen (s .control) Regions → {k : ℕ} {row′ : List ℕ}
+      → Answers (answered (inRange (seen (s .control)) (link (s .area)) regions)
+      (numbersTo n (number (seen (s .control)) (link (s .area)) regions)) row) row′ k
+      → Answers (reportOn inRange n number s row) row′ k
+  unfolding reportOn
+  on-answers regions e f A = report-answers _ _ _ _ row r T e (rw f at A)

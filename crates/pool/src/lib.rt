@@ -8,10 +8,13 @@ use begins::tests;
 use control::answer;
 use control::started;
 use steps::step;
+ghost use lib.ListN.{length};
 ghost use Rattle.plain.specs.Calls.{start, allocate as allocated, free as freed, leave as left};
 ghost use Rattle.plain.specs.Calls.{step as stepped};
+ghost use Rattle.control.specs.Layout.{seen};
+ghost use Rattle.begins.specs.TestNumber.{TestsAre};
 ghost use Rattle.pool.specs.Call.{Ensures};
-ghost use Rattle.pool.specs.ReportCall.{SheetEnsures};
+ghost use Rattle.pool.specs.ReportCall.{SheetEnsures, HoldersEnsures};
 
 // Begins a new run with so many tasks, on any bytes: it fills the control memory, and leaves the others as they are.
 #[no_mangle]
@@ -117,17 +120,42 @@ pub extern "C" fn pool_step(control: &mut [u8], area: &mut [u8], strips: &[u8], 
     step::step(control, area, regions, task as usize)
 }
 
-// The stock sheet: where the small blocks are, for each class and region, in the lent row. It changes nothing else. The
-// tests 1, 4, 2 are those of a call of task 0, which every started pool has.
+// The tests 1, 4, 2 of a report: those of a call of task 0, which every started pool has. Callers: the reports below.
+fn report_tests(control: &[u8], area: &[u8], strips: &[u8]) -> u8
+    ensures { λ r. ⌜ TestsAre (record {
+      control = length (now (control .entry));
+      area = length (now (area .entry));
+      strips = length (now (strips .entry));
+    })
+        (seen (now (control .entry))) 0 r ⌝ }
+{
+    tests::tests(control, area.len(), strips.len(), 0)
+}
+
+// The stock sheet: where the small blocks are, for each class and region, in the lent row. It changes nothing else.
 #[no_mangle]
 pub extern "C" fn pool_sheet(control: &[u8], area: &[u8], strips: &[u8], sheet: &mut [u8]) -> u64
     ensures { λ r. ⌜ SheetEnsures (now (control .entry)) (now (area .entry)) (now (strips .entry))
         (now (sheet .entry)) (now (sheet .exit)) r ⌝ }
 {
-    let refused = tests::tests(control, area.len(), strips.len(), 0);
+    let refused = report_tests(control, area, strips);
     if refused != 0 {
         return refused as u64;
     }
     let regions = started::regions(control) as usize;
     sheet::write(control, area, regions, sheet)
+}
+
+// The form by holder: how many small blocks of each class each holder has, in the lent row. It changes nothing else.
+#[no_mangle]
+pub extern "C" fn pool_holders(control: &[u8], area: &[u8], strips: &[u8], form: &mut [u8]) -> u64
+    ensures { λ r. ⌜ HoldersEnsures (now (control .entry)) (now (area .entry)) (now (strips .entry))
+        (now (form .entry)) (now (form .exit)) r ⌝ }
+{
+    let refused = report_tests(control, area, strips);
+    if refused != 0 {
+        return refused as u64;
+    }
+    let regions = started::regions(control) as usize;
+    holders::write(control, area, regions, form)
 }

@@ -8,4 +8,10 @@ pub mod RegionsTold
 pub mod ReportTests
 pub mod SheetAddsUp
 pub mod SheetNumbers
+pub mod TiedReports
+pub mod ReportCells
 pub mod SheetOfRuns
+pub mod NoneLeftOut
+pub mod FormNumbers
+pub mod FormOfRuns
+pub mod FormAddsUp

@@ -25,8 +25,10 @@ use Rattle.plain.proofs.Homes.{Home, home}
 use Rattle.agreement.specs.Contents.{Contents}
 use Rattle.agreement.specs.Observe.{plainClassBy, plainClass, plainChain, SameObserved}
 use Rattle.reports.specs.ByRegion.{inRegion}
+use Rattle.report_agreement.specs.Sums.{sum}
 use Rattle.report_agreement.specs.Whereabouts.{timesInHand, timesCached, timesRunning, timesChained, blocksThere}
-use Rattle.report_agreement.proofs.Sums.{sum, sum-same, sum-add, sum-ones, sum-passing, sum-total, row-blocks}
+use Rattle.report_agreement.specs.Whereabouts.{timesCachedBy, timesRunningBy}
+use Rattle.report_agreement.proofs.Sums.{sum-same, sum-add, sum-ones, sum-passing, sum-total, row-blocks}
 use Rattle.report_agreement.proofs.Sums.{row-length}
 
 -- the class of a descriptor that opens a region
@@ -36,18 +38,20 @@ if-class (no n) x c e = absurd (omega arith)
 
 -- ---- the blocks that the tasks have of a region that is open in the class c
 
-module _ {regions : ℕ} {m : Mem} (I : Invariant regions m) (r c : ℕ) (opened : plainClass m r ≡ suc c) where
+module _ {regions : ℕ} {m : Mem} (I : Invariant regions m) where
   -- what a task has for a class is a block of an open region of that class
-  has-home : (t e v : ℕ) → t < TASKS → 1 ≤ blockClassWeight e v t (m .task t) → Home m e v
+  pub has-home : (t e v : ℕ) → t < TASKS → 1 ≤ blockClassWeight e v t (m .task t) → Home m e v
   has-home t e v l h =
       home I e v (omega (arith, I .blockClasses e v, total-one TASKS (blockClassWeight e v) (m .task) t l))
 
   -- what a task has under way is a block of its place's class
-  under-home : (t v : ℕ) → t < TASKS → 1 ≤ count v (underWay (m .task t .place)) → Home m (classAt (m .task t .place)) v
+  pub under-home : (t v : ℕ) → t < TASKS → 1 ≤ count v (underWay (m .task t .place))
+      → Home m (classAt (m .task t .place)) v
   under-home t v l h =
       let p = m .task t .place in
       has-home t (classAt p) v l (omega (arith, when-same (classAt p) (count v (underWay p))))
 
+module _ {regions : ℕ} {m : Mem} (I : Invariant regions m) (r c : ℕ) (opened : plainClass m r ≡ suc c) where
   -- in this region the class is the region's
   one-class : (e v : ℕ) → regionOf v ≡ r → Home m e v → e ≡ c
   one-class e v i H =
@@ -68,7 +72,7 @@ module _ {regions : ℕ} {m : Mem} (I : Invariant regions m) (r c : ℕ) (opened
         → total CLASSES (rowWeight v) (m .task t .cache) ≡ count v (m .task t .cache c)
     cache-only v i k = total-only CLASSES (rowWeight v) (m .task t .cache) c k (λ e j d.
         elim (order? 0 (count v (m .task t .cache e))) [
-          | before h ↦ absurd (d (one-class e v i (has-home t e v l (omega arith))))
+          | before h ↦ absurd (d (one-class e v i (has-home I t e v l (omega arith))))
           | after h ↦ omega arith
         ])
 
@@ -80,12 +84,12 @@ module _ {regions : ℕ} {m : Mem} (I : Invariant regions m) (r c : ℕ) (opened
         sum-same (perRegion c) (λ i. total CLASSES (rowWeight (unitOf r c i)) (m .task t .cache))
         (λ i. count (unitOf r c i) (m .task t .cache c))
         (λ i h. cache-only (unitOf r c i) (region-again r c i h) k)
-        ∙ row-blocks r c (m .task t .cache c) (λ u h e. home-block u e (has-home t c u l (omega arith)))
+        ∙ row-blocks r c (m .task t .cache c) (λ u h e. home-block u e (has-home I t c u l (omega arith)))
 
     -- what is under way for another class is not in this region
     other-class : classAt (m .task t .place) ≢ c → (v : ℕ) → regionOf v ≡ r → count v (underWay (m .task t .place)) ≡ 0
     other-class d v i = elim (order? 0 (count v (underWay (m .task t .place)))) [
-      | before h ↦ absurd (d (one-class (classAt (m .task t .place)) v i (under-home t v l h)))
+      | before h ↦ absurd (d (one-class (classAt (m .task t .place)) v i (under-home I t v l h)))
       | after h ↦ omega arith
     ]
 
@@ -97,7 +101,7 @@ module _ {regions : ℕ} {m : Mem} (I : Invariant regions m) (r c : ℕ) (opened
         elim (same? c (classAt p)) [
           | same e ↦
               row-blocks r c (underWay p) (λ u h i. home-block u i
-              (subst (λ (x : ℕ). Home m x u) (sym e) (under-home t u l h)))
+              (subst (λ (x : ℕ). Home m x u) (sym e) (under-home I t u l h)))
               ∙ sym (ap (λ (x : ℕ). when c x (inRegion r (underWay p))) (sym e) ∙ when-same c (inRegion r (underWay p)))
           | other d ↦
               total-zero (perRegion c) (λ i x. x) (λ i. count (unitOf r c i) (underWay p)) (λ i h.
@@ -137,6 +141,28 @@ module _ {regions : ℕ} {a : Contents} {m : Mem} (S : SameObserved regions a m)
 
   timesChained-there : sum (perRegion c) (λ i. timesChained m r (unitOf r c i)) ≡ blocksThere (timesChained m r) r c
   timesChained-there = there (timesChained m r) (λ i h. omega (arith, once i h))
+
+  module _ (t : ℕ) (task : t < TASKS) where
+    -- the number in the cache of one task is that of blocks there
+    pub cache-there : inRegion r (m .task t .cache c) ≡ blocksThere (timesCachedBy (m .task t)) r c
+    cache-there =
+        sym (cache-sum I r c opened t task class)
+        ∙ there (timesCachedBy (m .task t)) (λ i h. omega (
+          arith,
+          once i h,
+          total-one TASKS (λ t T. timesCachedBy T (unitOf r c i)) (m .task) t task,
+        ))
+
+    -- the number that the request of one task has under way is that of blocks there
+    pub request-there : when c (classAt (m .task t .place)) (inRegion r (underWay (m .task t .place)))
+        ≡ blocksThere (timesRunningBy (m .task t)) r c
+    request-there =
+        sym (request-sum I r c opened t task)
+        ∙ there (timesRunningBy (m .task t)) (λ i h. omega (
+          arith,
+          once i h,
+          total-one TASKS (λ t T. timesRunningBy T (unitOf r c i)) (m .task) t task,
+        ))
 
   -- the number in the tasks' caches of the class is that of blocks there
   pub caches-there : total TASKS (λ t T. inRegion r (T .cache c)) (m .task) ≡ blocksThere (timesCached m) r c

@@ -3,18 +3,13 @@ use mathlib.Core.Path.{_≡_, refl, ap, _∙_}
 use mathlib.Core.Logic.{_≢_}
 use mathlib.Core.Bool.{true}
 use mathlib.Core.List.{List, [], _∷_}
-use Prim.Native.Nat.{ℕ, zero, suc, _+_, _*_, _≤_, _<_}
-use native.Mathlib.Omega.{arith}
-use lib.Dec.{leb}
-use lib.ListN.{length, getD}
+use Prim.Native.Nat.{ℕ, zero, suc, _≤_, _<_}
+use lib.ListN.{length}
 use borrow.Author.Tests.{lt-ltb, le-ltb, eq-eqb, ne-eqb}
-use Rattle.limits.specs.Limits.{REGIONS, CLASSES, MOST-BLOCKS}
+use Rattle.limits.specs.Limits.{REGIONS, CLASSES}
 use Rattle.rows.specs.Comparisons.{before, after, order?}
 use Rattle.fields.specs.Columns.{View}
 use Rattle.links.specs.Link.{link}
-use Rattle.classes.specs.Classes.{perRegion}
-use Rattle.classes.specs.Geometry.{unitOf}
-use Rattle.classes.proofs.Tables.{perRegion-high}
 use Rattle.plain.specs.State.{Mem}
 use Rattle.plain.specs.Invariant.{Invariant, StripsHold}
 use Rattle.agreement.specs.Contents.{contentsOf}
@@ -22,14 +17,13 @@ use Rattle.agreement.specs.Relation.{Related}
 use Rattle.agreement.specs.Observe.{plainClass, plainChain, SameObserved}
 use Rattle.agreement.proofs.BothPass.{both-true}
 use Rattle.agreement.proofs.Observing.{observed}
-use Rattle.reports.proofs.Passing.{passing-max, all-pass}
+use Rattle.reports.proofs.Passing.{all-pass}
 use Rattle.report_marks.specs.InHand.{blocksInHand}
 use Rattle.report_caches.specs.CacheRows.{cachesInRange, blocksInCaches}
 use Rattle.report_requests.specs.UnderWay.{blocksInRequests}
 use Rattle.report_regions.specs.declared.Opened.the-variants.{Open}
 use Rattle.report_regions.specs.Opened.{openedOf}
-use Rattle.sheet.specs.Sheet.{COLUMNS, fourZeros, fourBy, fourWith, fourOf, sheetNumber, sheetInRange}
-use Rattle.sheet.proofs.SheetFilled.{number-at}
+use Rattle.sheet.specs.Sheet.{fourZeros, fourBy, fourWith, fourOf, sheetInRange}
 use Rattle.report_agreement.specs.Whereabouts.{timesInHand, timesCached, timesRunning, timesChained, blocksThere}
 use Rattle.report_agreement.proofs.HandsTold.{hands-told}
 use Rattle.report_agreement.proofs.CachesTold.{caches-pass, caches-told}
@@ -37,34 +31,11 @@ use Rattle.report_agreement.proofs.RequestsTold.{requests-pass, request
 use Rattle.report_agreement.proofs.RegionsTold.{told, region-told, regions-pass}
 use Rattle.report_agreement.proofs.SheetAddsUp.{caches-there, requests-there, chain-there}
 
--- each of four zeros
-zero-there : (j : ℕ) → getD fourZeros j 0 ≡ 0
-zero-there zero = refl
-zero-there (suc zero) = refl
-zero-there (suc (suc zero)) = refl
-zero-there (suc (suc (suc zero))) = refl
-zero-there (suc (suc (suc (suc j)))) = refl
-
 -- the blocks of the class c and the region r in users' hands, in caches, with requests, and in the chain
 abbrev pub plainRow : Mem → ℕ → ℕ → List ℕ
 plainRow m c r =
     blocksThere (timesInHand m) r c ∷ blocksThere (timesCached m) r c ∷ blocksThere (timesRunning m) r c
     ∷ blocksThere (timesChained m r) r c ∷ []
-
--- no number is larger than a region's blocks are many
-pub plain-most : (m : Mem) (c r j : ℕ) → getD (plainRow m c r) j 0 ≤ MOST-BLOCKS
-plain-most m c r j = by j
-  where
-    most : (often : ℕ → ℕ) → blocksThere often r c ≤ MOST-BLOCKS
-    most often =
-        omega (arith, passing-max (perRegion c) (λ i. leb 1 (often (unitOf r c i))), perRegion-high c)
-
-    by : (j : ℕ) → getD (plainRow m c r) j 0 ≤ MOST-BLOCKS
-    by zero = most (timesInHand m)
-    by (suc zero) = most (timesCached m)
-    by (suc (suc zero)) = most (timesRunning m)
-    by (suc (suc (suc zero))) = most (timesChained m r)
-    by (suc (suc (suc (suc j)))) = omega arith
 
 -- ---- the sheet of any memories
 
@@ -85,8 +56,9 @@ module _ {regions : ℕ} {m : Mem} (v : View) (area : List ℕ) (small : regions
       (both-true (requests-pass v area small R I) (regions-pass v area R I))
 
   module _ (c r : ℕ) where
-    -- a region that is open in the class
-    open-row : c < CLASSES → r < regions → plainClass m r ≡ suc c → fourOf v (link area) regions c r ≡ plainRow m c r
+    -- the numbers of a region that is open in the class are those of the plain pool's holders
+    pub open-row : c < CLASSES → r < regions → plainClass m r ≡ suc c
+        → fourOf v (link area) regions c r ≡ plainRow m c r
     unfolding fourWith
     open-row class l o =
         let S : SameObserved regions (contentsOf v area) m = observed small R I H in
@@ -102,8 +74,8 @@ module _ {regions : ℕ} {m : Mem} (v : View) (area : List ℕ) (small : regions
           chain-there S I r c l class o,
         )
 
-    -- a region that is not open in the class
-    closed-row : ((r < regions) × (plainClass m r ≡ suc c) → ⊥) → fourOf v (link area) regions c r ≡ fourZeros
+    -- "A region that is not open in the class shows four zeros"
+    pub closed-row : ((r < regions) × (plainClass m r ≡ suc c) → ⊥) → fourOf v (link area) regions c r ≡ fourZeros
     unfolding fourWith
     closed-row n = elim (order? r regions) [
       | before l ↦
@@ -114,18 +86,3 @@ module _ {regions : ℕ} {m : Mem} (v : View) (area : List ℕ) (small : regions
           (plainClass m r) (length (plainChain m r)) (λ e. n (l, e)))
       | after l ↦ rw (le-ltb r regions l)
     ]
-
-    module _ (j : ℕ) (column : j < COLUMNS) where
-      -- the numbers of a region that is open in the class are those of the plain pool's holders
-      pub open-number : c < CLASSES → r < regions → plainClass m r ≡ suc c
-          → sheetNumber v (link area) regions (COLUMNS * (REGIONS * c + r) + j) ≡ getD (plainRow m c r) j 0
-      open-number class l o =
-          number-at v (link area) regions c r j (omega arith) column
-          ∙ ap (λ (q : List ℕ). getD q j 0) (open-row class l o)
-
-      -- "A region that is not open in the class shows four zeros"
-      pub closed-number : r < REGIONS → ((r < regions) × (plainClass m r ≡ suc c) → ⊥)
-          → sheetNumber v (link area) regions (COLUMNS * (REGIONS * c + r) + j) ≡ 0
-      closed-number l n =
-          number-at v (link area) regions c r j l column ∙ ap (λ (q : List ℕ). getD q j 0) (closed-row n)
-          ∙ zero-there j

@@ -17,10 +17,7 @@ use Rattle.classes.specs.Geometry.{unitOf, regionOf, BlockOf}
 use Rattle.classes.proofs.BlockUnits.{region-again, same-block, region-is}
 use Rattle.reports.specs.Passing.{weigh, passing}
 use Rattle.reports.specs.ByRegion.{inRegion}
-
--- the sum of the first n numbers of f
-abbrev pub sum : ℕ → (ℕ → ℕ) → ℕ
-sum n f = total n (λ i x. x) f
+use Rattle.report_agreement.specs.Sums.{sum}
 
 -- numbers that agree below n have the same sum
 pub sum-same : (n : ℕ) (f g : ℕ → ℕ) → ((i : ℕ) → i < n → f i ≡ g i) → sum n f ≡ sum n g

@@ -7,7 +7,7 @@ use Rattle.rows.specs.Counting.{count}
 use Rattle.rows.specs.Totals.{total}
 use Rattle.classes.specs.Classes.{perRegion}
 use Rattle.classes.specs.Geometry.{unitOf}
-use Rattle.plain.specs.State.{Mem}
+use Rattle.plain.specs.State.{Task, Mem}
 use Rattle.plain.specs.Held.{underWay}
 use Rattle.plain.specs.HolderWeights.{rowWeight}
 use Rattle.agreement.specs.Observe.{plainChain}
@@ -17,13 +17,21 @@ use Rattle.reports.specs.Passing.{passing}
 abbrev pub timesInHand : Mem → ℕ → ℕ
 timesInHand m v = m .hands v
 
--- "in caches": how often the block v stands in some task's caches
-abbrev pub timesCached : Mem → ℕ → ℕ
-timesCached m v = total TASKS (λ t T. total CLASSES (rowWeight v) (T .cache)) (m .task)
+-- "each task's caches": how often the block v stands in the caches of a task
+abbrev pub timesCachedBy : Task → ℕ → ℕ
+timesCachedBy T v = total CLASSES (rowWeight v) (T .cache)
 
--- "with running requests": how often some task's request has the block v under way
+-- "in caches": how often it stands in those of all tasks
+abbrev pub timesCached : Mem → ℕ → ℕ
+timesCached m v = total TASKS (λ t T. timesCachedBy T v) (m .task)
+
+-- "each task's request": how often the request of a task has the block v under way
+abbrev pub timesRunningBy : Task → ℕ → ℕ
+timesRunningBy T v = count v (underWay (T .place))
+
+-- "with running requests": how often those of all tasks have it
 abbrev pub timesRunning : Mem → ℕ → ℕ
-timesRunning m v = total TASKS (λ t T. count v (underWay (T .place))) (m .task)
+timesRunning m v = total TASKS (λ t T. timesRunningBy T v) (m .task)
 
 -- "in the chain": how often the block v stands in the chain of the region r
 abbrev pub timesChained : Mem → ℕ → ℕ → ℕ

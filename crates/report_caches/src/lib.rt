@@ -53,8 +53,8 @@ fn walk(
 }
 
 // The blocks of a task's cache of a class, added to the counts of the regions. Callers have the started regions, and
-// counts that can grow: `of_class`.
-fn cache(
+// counts that can grow: `of_class`, and the reports that tell the tasks apart.
+pub fn cache(
     control: &[u8],
     area: &[u8],
     regions: usize,

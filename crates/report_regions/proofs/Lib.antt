@@ -1,2 +1,4 @@
 -- Laws of what is read of a region.
 pub mod OpenWays
+pub mod ReadRegions
+pub mod ChainBound

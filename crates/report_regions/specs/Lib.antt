@@ -1,2 +1,3 @@
 -- Which regions are open.
 pub mod Opened
+pub mod OpenClasses

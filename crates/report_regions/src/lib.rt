@@ -1,6 +1,6 @@
-// Whether a region is open, in which class, and how many blocks its chain has. Each function makes the tests of one
-// read, in the order of the reads: the map entry, the descriptor's region and anchor, its class. Nothing here writes
-// memory.
+// Whether a region is open, in which class, and how many blocks its chain has. Each of the first functions makes the
+// tests of one read, in the order of the reads: the map entry, the descriptor's region and anchor, its class. Nothing
+// here writes memory.
 use classes::table;
 use control::regions;
 use words::anchor;
@@ -9,7 +9,8 @@ ghost use mathlib.Core.Path.{_≡_};
 ghost use Prim.Native.Nat.{_<_, _≤_};
 ghost use Rattle.limits.specs.Limits.{REGIONS, DESCRIPTORS, MOST-BLOCKS};
 ghost use Rattle.control.specs.Layout.{Control, seen};
-ghost use Rattle.report_regions.specs.Opened.{openAs, openBy, openedOf};
+ghost use Rattle.report_regions.specs.Opened.{openAs, openBy, openedOf, isInside};
+ghost use Rattle.report_regions.specs.OpenClasses.{classIn, chainIn, RegionsRead};
 
 // What is read of a region.
 pub enum Opened {
@@ -73,4 +74,76 @@ pub fn of_region(control: &[u8], regions: usize, region: usize) -> Opened
         return Opened::Outside;
     }
     by(control, regions, region, entry - 1)
+}
+
+// What is read of all regions of the area: the class in which each is open, 13 where it is not, and how many blocks its
+// chain has. `fits` is false where a value that was read is out of its range, and then the others say nothing.
+pub struct OpenRegions {
+    pub fits: bool,
+    pub classes: [u8; limits::REGIONS],
+    pub chains: [u16; limits::REGIONS],
+}
+
+// The class of a region that is not open: the first number that is no class.
+const NO_CLASS: u8 = limits::CLASSES as u8;
+
+// Whether all that was read of a region is in its range. Caller: `of_regions`.
+fn is_inside(found: Opened) -> bool
+    ensures { λ r. ⌜ r ≡ isInside found ⌝ }
+{
+    match found {
+        Opened::Closed => true,
+        Opened::Open(_, _) => true,
+        Opened::Outside => false,
+    }
+}
+
+// The class of a region. Caller: `of_regions`.
+fn class_in(found: Opened) -> u8
+    ensures { λ r. ⌜ r ≡ classIn found ⌝ }
+{
+    match found {
+        Opened::Closed => NO_CLASS,
+        Opened::Open(class, _) => class,
+        Opened::Outside => NO_CLASS,
+    }
+}
+
+// The length of a region's chain. Caller: `of_regions`.
+fn chain_in(found: Opened) -> u16
+    ensures { λ r. ⌜ r ≡ chainIn found ⌝ }
+{
+    match found {
+        Opened::Closed => 0,
+        Opened::Open(_, chain) => chain,
+        Opened::Outside => 0,
+    }
+}
+
+// What is read of all regions of the area. Callers have the started regions: the reports.
+pub fn of_regions(control: &[u8], regions: usize) -> OpenRegions
+    requires { ⌜ Control (now control) × (regions ≤ REGIONS) ⌝ }
+    ensures { λ r. ⌜ RegionsRead (seen (now (control .entry))) regions r ⌝ }
+{
+    let mut classes = [NO_CLASS; limits::REGIONS];
+    let mut chains = [0u16; limits::REGIONS];
+    let mut region: usize = 0;
+    while region < regions {
+        let found = of_region(control, regions, region);
+        if !is_inside(found) {
+            return OpenRegions {
+                fits: false,
+                classes: classes,
+                chains: chains,
+            };
+        }
+        classes[region] = class_in(found);
+        chains[region] = chain_in(found);
+        region += 1;
+    }
+    OpenRegions {
+        fits: true,
+        classes: classes,
+        chains: chains,
+    }
 }

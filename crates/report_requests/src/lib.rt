@@ -238,8 +238,8 @@ pub fn of_task(control: &[u8], regions: usize, task: usize) -> RequestBlocks
 }
 
 // The blocks of a task's request that are of the class, added to the counts of the regions. Callers have the started
-// regions, and counts that can grow: `of_class`.
-fn with_request(
+// regions, and counts that can grow: `of_class`, and the reports that tell the tasks apart.
+pub fn with_request(
     control: &[u8],
     regions: usize,
     task: usize,

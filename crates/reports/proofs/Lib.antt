@@ -3,3 +3,5 @@ pub mod Passing
 pub mod ByRegion
 pub mod TasksCounted
 pub mod Rows
+pub mod ReportAnswers
+pub mod ReportFilled

@@ -8,6 +8,7 @@ use native.Mathlib.Nat.{add-suc, add-zero}
 use Rattle.rows.specs.Comparisons.{same, other, same?}
 use Rattle.rows.specs.Totals.{total}
 use Rattle.rows.proofs.Totals.{total-same, total-only, total-zero}
+use Rattle.stepped.proofs.Conjunction.{both}
 use Rattle.reports.specs.Passing.{weigh, passing, allPass}
 
 -- ---- how many pass
@@ -49,6 +50,15 @@ pub all-pass : (n : ℕ) (f : ℕ → Bool) → ((i : ℕ) → i < n → f i ≡
 unfolding allPass
 all-pass zero f h = refl
 all-pass (suc n) f h = rw (all-pass n f (λ i l. h i (omega arith)), h n (omega arith))
+
+-- each passes, where all do
+pub each-passes : (n : ℕ) (f : ℕ → Bool) → allPass n f ≡ true → (i : ℕ) → i < n → f i ≡ true
+unfolding allPass
+each-passes zero f a i l = absurd (omega arith)
+each-passes (suc n) f a i l = elim (same? i n) [
+  | same e ↦ rw e (both (allPass n f) (f n) a .1)
+  | other d ↦ each-passes n f (both (allPass n f) (f n) a .0) i (omega arith)
+]
 
 -- one more passes
 pub one-more : (n : ℕ) (f : ℕ → Bool) → allPass n f ≡ true → f n ≡ true → allPass (n + 1) f ≡ true

@@ -1,6 +1,6 @@
 -- The row that a report fills: the numbers that stand in it, and what is left of it.
 use mathlib.Core.Path.{_≡_, refl, ap, _∙_}
-use mathlib.Core.List.{List, [], _∷_}
+use mathlib.Core.List.{List, [], _∷_, _++_}
 use Prim.Native.Nat.{ℕ, zero, suc, _+_, _*_, _≤_, _<_}
 use native.Mathlib.Omega.{arith}
 use lib.ListN.{length, getD, drop}
@@ -110,3 +110,21 @@ numbers-are [] (suc n) f e h = absurd (omega arith)
 numbers-are (x ∷ ns) zero f e h = absurd (omega arith)
 numbers-are (x ∷ ns) (suc n) f e h =
     rw (h 0 (omega arith), numbers-are ns n (λ i. f (suc i)) (omega arith) (λ i l. h (suc i) (omega arith)))
+
+-- with a list behind them, the first n are those,
+pub number-first : (n : ℕ) (f : ℕ → ℕ) (rest : List ℕ) (i : ℕ) → i < n → getD (numbersTo n f ++ rest) i 0 ≡ f i
+unfolding numbersTo
+number-first zero f rest i l = absurd (omega arith)
+number-first (suc n) f rest zero l = refl
+number-first (suc n) f rest (suc i) l = number-first n (λ i. f (suc i)) rest i (omega arith)
+
+-- and then comes the list
+pub number-behind : (n : ℕ) (f : ℕ → ℕ) (rest : List ℕ) (i : ℕ)
+    → getD (numbersTo n f ++ rest) (n + i) 0 ≡ getD rest i 0
+unfolding numbersTo
+number-behind zero f rest i =
+    let e : 0 + i ≡ i = omega arith in
+    rw e
+number-behind (suc n) f rest i =
+    let e : suc n + i ≡ suc (n + i) = omega arith in
+    rw e (number-behind n (λ i. f (suc i)) rest i)

@@ -1,8 +1,9 @@
 -- A weight summed over the first n holders: bounds by its parts, and what one update changes.
 use mathlib.Core.Path.{_≡_, refl, ap}
 use mathlib.Core.Logic.{_≢_}
-use Prim.Native.Nat.{ℕ, zero, suc, _+_, _≤_, _<_}
+use Prim.Native.Nat.{ℕ, zero, suc, _+_, _*_, _≤_, _<_}
 use native.Mathlib.Omega.{arith}
+use native.Mathlib.Nat.{suc-mul}
 use Rattle.rows.specs.Comparisons.{same, other, same?, before, after, order?}
 use Rattle.rows.specs.Update.{update}
 use Rattle.rows.specs.Totals.{total, Found}
@@ -78,6 +79,27 @@ module _ {A : Type 0} where
     | other d ↦
         omega (arith, h n (omega arith) d, total-only n w f k (omega arith) (λ i l. h i (omega arith)))
   ]
+
+  -- Holders whose parts are all 0 add nothing.
+  pub total-more : (n k : ℕ) (w : ℕ → A → ℕ) (f : ℕ → A) → n ≤ k → ((i : ℕ) → n ≤ i → i < k → w i (f i) ≡ 0)
+      → total k w f ≡ total n w f
+  unfolding total
+  total-more n zero w f l h =
+      let e : n ≡ 0 = omega arith in
+      rw e
+  total-more n (suc k) w f l h = elim (order? k n) [
+    | before b ↦ (let e : n ≡ suc k = omega arith in
+        rw e)
+    | after b ↦ omega (arith, total-more n k w f b (λ i g j. h i g (omega arith)), h k b (omega arith))
+  ]
+
+  -- A total of n parts, each at most b, is at most n × b.
+  pub total-most : (n b : ℕ) (w : ℕ → A → ℕ) (f : ℕ → A) → ((i : ℕ) → i < n → w i (f i) ≤ b) → total n w f ≤ n * b
+  unfolding total
+  total-most zero b w f h = omega arith
+  total-most (suc n) b w f h =
+      let e : suc n * b ≡ n * b + b = suc-mul n b in
+      omega (arith, e, total-most n b w f (λ i l. h i (omega arith)), h n (omega arith))
 
   -- If the total is not 0, some holder's part is not 0.
   pub total-found : (n : ℕ) (w : ℕ → A → ℕ) (f : ℕ → A) → 1 ≤ total n w f → Found n w f

@@ -1,11 +1,11 @@
--- The four numbers of a class and region, put where they begin.
-use mathlib.Core.Path.{_≡_, _∙_}
+-- The four numbers of a class and region, put where they begin; and four zeros.
+use mathlib.Core.Path.{_≡_, refl, _∙_}
 use mathlib.Core.List.{List}
 use Prim.Native.Nat.{ℕ, zero, suc, _+_, _≤_, _<_}
 use native.Mathlib.Omega.{arith}
 use lib.ListN.{length, getD, set, length-set}
 use lib.Seq.{getD-set-same, getD-set-other}
-use Rattle.sheet.specs.Sheet.{COLUMNS}
+use Rattle.sheet.specs.Sheet.{COLUMNS, fourZeros}
 use Rattle.sheet.specs.declared.Four.{Four}
 use Rattle.sheet.specs.Filling.{rowOf, withFour}
 
@@ -65,3 +65,11 @@ four-there ns at x j l h =
     by-column (suc (suc zero)) h a b c d = c
     by-column (suc (suc (suc zero))) h a b c d = d
     by-column (suc (suc (suc (suc j)))) h a b c d = absurd (omega arith)
+
+-- each of four zeros
+pub zero-there : (j : ℕ) → getD fourZeros j 0 ≡ 0
+zero-there zero = refl
+zero-there (suc zero) = refl
+zero-there (suc (suc zero)) = refl
+zero-there (suc (suc (suc zero))) = refl
+zero-there (suc (suc (suc (suc j)))) = refl

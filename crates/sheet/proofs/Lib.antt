@@ -3,4 +3,3 @@ pub mod FourWays
 pub mod FourNumbers
 pub mod RowsFilled
 pub mod SheetFilled
-pub mod SheetAnswers

@@ -1,6 +1,6 @@
 -- The numbers of the sheet, class by class.
 use mathlib.Core.Path.{_≡_, refl, sym, ap, ap₂, _∙_}
-use mathlib.Core.Bool.{Bool, true, false, _&&_, false≢true}
+use mathlib.Core.Bool.{Bool, true, false, _&&_}
 use mathlib.Core.List.{List}
 use Prim.Native.Nat.{ℕ, _+_, _/_, _%_, _≤_, _<_}
 use native.Mathlib.Omega.{arith}
@@ -12,12 +12,14 @@ use Rattle.reports.specs.declared.counts.RegionCounts.{RegionCounts}
 use Rattle.reports.specs.Passing.{allPass}
 use Rattle.reports.specs.ByRegion.{Counted}
 use Rattle.reports.proofs.Passing.{all-pass, one-fails}
+use Rattle.reports.specs.Rows.{numbersTo}
+use Rattle.reports.specs.Reports.{Gathered}
 use Rattle.reports.proofs.Rows.{numbers-are}
 use Rattle.report_caches.specs.CacheRows.{cachesInRange, blocksInCaches}
 use Rattle.report_requests.specs.UnderWay.{requestsInRange, blocksInRequests}
 use Rattle.report_regions.specs.Opened.{regionsInRange}
 use Rattle.sheet.specs.Sheet.{COLUMNS, SHEET-NUMBERS, fourWith, fourOf, sheetNumber, sheetInRange}
-use Rattle.sheet.specs.Filling.{placeOf, RowsAre, SheetIs}
+use Rattle.sheet.specs.Filling.{placeOf, RowsAre}
 
 -- a conjunction, one part of which fails
 behind : (a b : Bool) → b ≡ false → (a && b) ≡ false
@@ -122,12 +124,9 @@ module _ (v : View) (link : ℕ → ℕ) (regions : ℕ) where
       ];
     }
 
-  -- what stops it: nothing is said of the numbers
-  pub sheet-fails : (ns : List ℕ) → sheetInRange v link regions ≡ false → SheetIs v link regions ns false
-  sheet-fails ns e = record { tested = sym e; numbers = λ f. absurd (false≢true f) }
-
   -- all are
-  pub sheet-end : (ns : List ℕ) → SheetTo CLASSES ns → SheetIs v link regions ns true
+  pub sheet-end : (ns : List ℕ) → SheetTo CLASSES ns
+      → Gathered (sheetInRange v link regions) (numbersTo SHEET-NUMBERS (sheetNumber v link regions)) ns true
   unfolding sheetInRange
   sheet-end ns S = record {
     tested = sym (rw (
@@ -135,6 +134,6 @@ module _ (v : View) (link : ℕ → ℕ) (regions : ℕ) where
       S .requests (omega arith),
       S .opened (omega arith),
     ));
-    numbers = λ e. numbers-are ns SHEET-NUMBERS (sheetNumber v link regions) (S .long)
+    numbers-are = λ e. numbers-are ns SHEET-NUMBERS (sheetNumber v link regions) (S .long)
         (λ i l. S .numbers i (omega arith));
   }

@@ -8,10 +8,9 @@ use lib.Dec.{ltb}
 use lib.ListN.{length, getD, set}
 use Rattle.limits.specs.Limits.{REGIONS}
 use Rattle.fields.specs.Columns.{View}
-use Rattle.reports.specs.Rows.{numbersTo}
 use Rattle.report_regions.specs.Opened.{openedOf, isInside, regionsInRange}
 use Rattle.sheet.specs.declared.Four.{Four}
-use Rattle.sheet.specs.Sheet.{COLUMNS, SHEET-NUMBERS, fourWith, sheetNumber, sheetInRange}
+use Rattle.sheet.specs.Sheet.{COLUMNS, fourWith}
 
 -- four zeros
 abbrev pub zerosOf : Bool → Four
@@ -48,8 +47,3 @@ pub record RowsAre (v : View) (regions : ℕ) (caches requests : List ℕ) (c : 
   pub kept : (i : ℕ) → i < placeOf c 0 → getD after i 0 ≡ getD before i 0
   pub rows : fits ≡ true → (r j : ℕ) → r < REGIONS → j < COLUMNS
       → getD after (placeOf c r + j) 0 ≡ getD (fourWith v regions (getD caches r 0) (getD requests r 0) c r) j 0
-
--- all numbers of the sheet are filled in
-pub record SheetIs (v : View) (link : ℕ → ℕ) (regions : ℕ) (after : List ℕ) (fits : Bool) : Type 0 where
-  pub tested : fits ≡ sheetInRange v link regions
-  pub numbers : fits ≡ true → after ≡ numbersTo SHEET-NUMBERS (sheetNumber v link regions)

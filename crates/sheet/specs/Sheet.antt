@@ -8,13 +8,10 @@ use lib.Dec.{ltb, eqb}
 use lib.ListN.{getD}
 use Rattle.limits.specs.Limits.{REGIONS, CLASSES}
 use Rattle.fields.specs.Columns.{View}
-use Rattle.links.specs.Link.{link}
-use Rattle.control.specs.Layout.{Regions, seen}
 use Rattle.stepped.specs.Outcome.{Memories}
-use Rattle.stepped.specs.Calls.{lengths, lending}
 use Rattle.reports.specs.Passing.{allPass}
-use Rattle.reports.specs.Rows.{BYTES-OF-NUMBER, numbersTo}
-use Rattle.reports.specs.Reports.{reportOf}
+use Rattle.reports.specs.Rows.{BYTES-OF-NUMBER}
+use Rattle.reports.specs.Reports.{reportOn}
 use Rattle.report_marks.specs.InHand.{blocksInHand}
 use Rattle.report_caches.specs.CacheRows.{cachesInRange, blocksInCaches}
 use Rattle.report_requests.specs.UnderWay.{requestsInRange, blocksInRequests}
@@ -67,11 +64,6 @@ module _ (v : View) (link : ℕ → ℕ) (regions : ℕ) where
       allPass CLASSES (λ c. cachesInRange v link regions c)
       && (requestsInRange v regions && regionsInRange v regions)
 
--- The sheet, lent the memories s and a row: its answer, and the row that it leaves. Nothing else is written.
-unfoldable pub sheetOf : Memories → List ℕ → ℕ × List ℕ
-sheetOf s row =
-    let v = seen (s .control) in
-    let links = link (s .area) in
-    let regions = v Regions in
-    reportOf (lengths (lending s)) v (sheetInRange v links regions)
-    (numbersTo SHEET-NUMBERS (sheetNumber v links regions)) row
+-- The sheet, lent the memories and a row: its answer, and the row that it leaves.
+abbrev pub sheetOf : Memories → List ℕ → ℕ × List ℕ
+sheetOf = reportOn sheetInRange SHEET-NUMBERS sheetNumber

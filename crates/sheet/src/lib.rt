@@ -11,9 +11,9 @@ ghost use Rattle.links.specs.Link.{link};
 ghost use Rattle.control.specs.Layout.{Control, seen};
 ghost use Rattle.stepped.specs.Done.{GivenArea};
 ghost use Rattle.reports.specs.Rows.{numbersTo};
-ghost use Rattle.reports.specs.Reports.{answered, Answers};
+ghost use Rattle.reports.specs.Reports.{answered, Answers, Gathered};
 ghost use Rattle.sheet.specs.Sheet.{COLUMNS, SHEET-NUMBERS, sheetNumber, sheetInRange};
-ghost use Rattle.sheet.specs.Filling.{zerosOf, FourAre, withFour, RowsAre, SheetIs};
+ghost use Rattle.sheet.specs.Filling.{zerosOf, FourAre, withFour, RowsAre};
 
 pub const COLUMNS: usize = 4;
 
@@ -126,8 +126,9 @@ fn rows(
 // Fills in all numbers, class by class; false where a value that was read is out of its range. Caller: `write`.
 fn fill(control: &[u8], area: &[u8], regions: usize, numbers: &mut [u16]) -> bool
     requires { ⌜ GivenArea (now control) (now area) regions 0 0 × (length (now numbers) ≡ SHEET-NUMBERS) ⌝ }
-    ensures { λ r.
-        ⌜ SheetIs (seen (now (control .entry))) (link (now (area .entry))) regions (now (numbers .exit)) r ⌝ }
+    ensures { λ r. ⌜ Gathered (sheetInRange (seen (now (control .entry))) (link (now (area .entry))) regions)
+        (numbersTo SHEET-NUMBERS (sheetNumber (seen (now (control .entry))) (link (now (area .entry))) regions))
+        (now (numbers .exit)) r ⌝ }
 {
     let mut class: usize = 0;
     while class < limits::CLASSES {

@@ -5,4 +5,5 @@ pub mod Beside
 pub mod BesideStart
 pub mod Table
 pub mod Whole
-pub mod StandSheet
+pub mod AfterAll
+pub mod StandReports

@@ -1,20 +1,20 @@
 -- The tests, then the sheet.
 use native.Mathlib.Omega.{arith}
 use Rattle.pool.proofs.Calling.{control-is, regions-are, regions-some, area-is}
-use Rattle.pool.proofs.Reporting.{sheet-refused, sheet-answers}
+use Rattle.pool.proofs.Reporting.{on-refused, on-answers}
 use borrow.Author.Needs.{needs}
 use Rattle.pool.proofs.pool_sheet.Statement.{statement}
 use Rattle.pool.proofs.pool_sheet.Tie as tie
 
 returns : tie.Need-returns
-returns c = sheet-refused _ _ _ (c .before .tests .ensures) (λ e. omega arith)
+returns c = on-refused _ _ _ _ _ _ (c .before .report-tests .ensures) (λ e. omega arith)
 
 regions-requires : tie.Need-regions-requires
-regions-requires c κs = control-is _ _ _ _ (c .before .tests .ensures) (omega arith)
+regions-requires c κs = control-is _ _ _ _ (c .before .report-tests .ensures) (omega arith)
 
 write-requires : tie.Need-write-requires
 write-requires c κs =
-    let T = c .before .before .before .tests .ensures in
+    let T = c .before .before .before .report-tests .ensures in
     let e = c .before .regions .ensures in
     record {
       given = record {
@@ -31,7 +31,7 @@ returns-2 : tie.Need-returns-2
 returns-2 c =
     let written = c .before .before in
     let read = written .before .before in
-    sheet-answers _ _ _ (read .before .before .tests .ensures) _ (omega arith) (read .regions .ensures)
+    on-answers _ _ _ _ _ _ (read .before .before .report-tests .ensures) _ (omega arith) (read .regions .ensures)
     (written .write .ensures)
 
 pub pool-sheet-spec : {M : Type 1} → statement M

@@ -6,7 +6,8 @@ use Rattle.limits.specs.Limits.{CLASSES}
 use Rattle.links.specs.Link.{link}
 use Rattle.control.specs.Layout.{seen}
 use Rattle.ranges.proofs.Passed.{failed, passed}
-use Rattle.sheet.proofs.SheetFilled.{SheetTo, sheet-begin, sheet-next, sheet-fails, sheet-end}
+use Rattle.reports.proofs.ReportAnswers.{not-gathered}
+use Rattle.sheet.proofs.SheetFilled.{SheetTo, sheet-begin, sheet-next, sheet-end}
 use Rattle.sheet.proofs.SheetFilled.{caches-fail, requests-fail, regions-fail}
 use Rattle.sheet.proofs.fill.Statement.{statement}
 use Rattle.sheet.proofs.fill.Tie as tie
@@ -44,7 +45,7 @@ returns : tie.Need-returns Inv-loop μ-loop
 returns c =
     let cached = c .before .before in
     let at-loop = cached .before .before in
-    sheet-fails _ _ _ _ (caches-fail _ _ _ (at-loop .loop .class) (omega arith)
+    not-gathered _ _ (caches-fail _ _ _ (at-loop .loop .class) (omega arith)
     (sym (cached .of-class .ensures .tested) ∙ failed refl (c .if1 .taken)))
 
 of-class-requires-2 : tie.Need-of-class-requires-2 Inv-loop μ-loop
@@ -60,7 +61,7 @@ same-length-2 c =
 returns-2 : tie.Need-returns-2 Inv-loop μ-loop
 returns-2 c =
     let running = c .before .before in
-    sheet-fails _ _ _ _ (requests-fail _ _ _ (sym (running .of-class2 .ensures .tested) ∙ failed refl (c .if2 .taken)))
+    not-gathered _ _ (requests-fail _ _ _ (sym (running .of-class2 .ensures .tested) ∙ failed refl (c .if2 .taken)))
 
 rows-requires : tie.Need-rows-requires Inv-loop μ-loop
 rows-requires c κs =
@@ -78,7 +79,7 @@ same-length-3 c =
 returns-3 : tie.Need-returns-3 Inv-loop μ-loop
 returns-3 c =
     let rowed = c .before .before .before in
-    sheet-fails _ _ _ _ (regions-fail _ _ _ (sym (rowed .rows .ensures .tested) ∙ failed refl (c .if3 .taken)))
+    not-gathered _ _ (regions-fail _ _ _ (sym (rowed .rows .ensures .tested) ∙ failed refl (c .if3 .taken)))
 
 loop-again : tie.Need-loop-again Inv-loop μ-loop
 loop-again c =

@@ -3,7 +3,7 @@ use mathlib.Core.Path.{refl}
 use native.Mathlib.Omega.{arith}
 use borrow.Author.Needs.{needs}
 use Rattle.ranges.proofs.Passed.{failed, passed}
-use Rattle.sheet.proofs.SheetAnswers.{answers-14, answers-23, answers-20}
+use Rattle.reports.proofs.ReportAnswers.{answers-14, answers-23, answers-20}
 use Rattle.sheet.proofs.write.Statement.{statement}
 use Rattle.sheet.proofs.write.Tie as tie
 

@@ -1,0 +1,3 @@
+-- The form by holder.
+pub mod Form
+pub mod FormFilling

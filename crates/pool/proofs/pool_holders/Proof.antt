@@ -1,0 +1,48 @@
+-- The tests, then the form.
+use native.Mathlib.Omega.{arith}
+use Rattle.pool.proofs.Calling.{control-is, regions-are, regions-some, area-is}
+use Rattle.pool.proofs.Reporting.{on-refused, on-answers}
+use borrow.Author.Needs.{needs}
+use Rattle.pool.proofs.pool_holders.Statement.{statement}
+use Rattle.pool.proofs.pool_holders.Tie as tie
+
+returns : tie.Need-returns
+returns c = on-refused _ _ _ _ _ _ (c .before .report-tests .ensures) (λ e. omega arith)
+
+regions-requires : tie.Need-regions-requires
+regions-requires c κs = control-is _ _ _ _ (c .before .report-tests .ensures) (omega arith)
+
+write-requires : tie.Need-write-requires
+write-requires c κs =
+    let T = c .before .before .before .report-tests .ensures in
+    let e = c .before .regions .ensures in
+    record {
+      given = record {
+        control = control-is _ _ _ _ T (omega arith);
+        some = regions-some _ _ _ _ T (omega arith) _ e;
+        regions = regions-are _ _ _ _ T (omega arith) _ e;
+        task = omega arith;
+        class = omega arith;
+      };
+      area = area-is _ _ _ _ T (omega arith) _ e;
+    }
+
+returns-2 : tie.Need-returns-2
+returns-2 c =
+    let written = c .before .before in
+    let read = written .before .before in
+    on-answers _ _ _ _ _ _ (read .before .before .report-tests .ensures) _ (omega arith) (read .regions .ensures)
+    (written .write .ensures)
+
+pub pool-holders-spec : {M : Type 1} → statement M
+pool-holders-spec =
+    tie.close
+    (tie.spec
+    (λ c κs. search needs)
+    (λ c. search needs)
+    returns
+    regions-requires
+    (λ c. search needs)
+    write-requires
+    (λ c. search needs)
+    returns-2)

@@ -1,0 +1,100 @@
+//! Calls of a report on memories of its own, beside guard pages: they may only be read, the strips' memory not even
+//! that. The answer and every byte of the row are checked, and both reports of the same memories against each other.
+
+use crate::checks::{Checks, Parted};
+use crate::damage::Bytes;
+use crate::library::{self, Lent};
+use crate::memory::{Memory, Side};
+use crate::pool::Answer;
+use crate::random::Random;
+use crate::report::{Report, REPORTS};
+use crate::report_bytes;
+use crate::report_sums;
+use crate::tamper_report;
+
+const CODE: &str = "the code that is due";
+const ROW: &str = "the numbers that are due, and no further byte of the row changes";
+const REFUSED: &str = "a refused call changes no byte of the row";
+const KEPT: &str = "no byte of the three memories changes, and none beside them";
+const TOGETHER: &str = "form of any memories: it is refused as the sheet is, but for the length of the row";
+const COLUMNS: &str = "form of any memories: its numbers add up to the columns of the sheet";
+
+/// What a call left.
+struct Made {
+    report: Report,
+    answer: Answer,
+    row_before: Vec<u8>,
+    row: Vec<u8>,
+    /// Whether no byte but those of the row has changed.
+    kept: bool,
+}
+
+/// The code and the row afterwards.
+pub type Told = (u64, Vec<u8>);
+
+/// Makes the call for a row of this length.
+pub fn call(
+    report: Report,
+    bytes: &Bytes,
+    length: usize,
+    random: &mut Random,
+    checks: &mut Checks,
+) -> Result<Told, Parted> {
+    make(report, bytes, length, random).compared(bytes, checks)
+}
+
+/// Both reports of the same memories, the sheet first, with rows of these lengths. They are held against each other
+/// before each is held against what is due.
+pub fn both(bytes: &Bytes, lengths: [usize; 2], random: &mut Random, checks: &mut Checks) -> Result<[Told; 2], Parted> {
+    let [sheet, form] = [0, 1].map(|index| make(REPORTS[index], bytes, lengths[index], random));
+    let codes = (sheet.answer.0, form.answer.0);
+    let together = codes.0 == codes.1 || matches!(codes, (20 | 23, 20 | 23));
+    checks.hold(TOGETHER, together, || format!("{codes:?}"))?;
+    if sheet.is_given() && form.is_given() {
+        checks.agree(COLUMNS, report_sums::same_columns(&sheet.row, &form.row))?;
+    }
+    Ok([sheet.compared(bytes, checks)?, form.compared(bytes, checks)?])
+}
+
+fn make(report: Report, bytes: &Bytes, length: usize, random: &mut Random) -> Made {
+    let mut side = || if random.one_in(2) { Side::EndsAtGuard } else { Side::StartsAtGuard };
+    let mut lent = Lent::closed(&bytes.control, &bytes.area, bytes.strips, side());
+    let mut row = Memory::new(length, side());
+    random.fill(row.bytes_mut());
+    let row_before = row.bytes().to_vec();
+    let answer = read_only(report, &mut lent, &mut row);
+    let kept = lent.control.bytes() == bytes.control && lent.area.bytes() == bytes.area;
+    let kept = kept && lent.slack_untouched() && row.slack_untouched();
+    Made { report, answer, row_before, row: row.bytes().to_vec(), kept }
+}
+
+/// The call while control and area cannot be written: a call that does it ends the program at once.
+fn read_only(report: Report, lent: &mut Lent, row: &mut Memory) -> Answer {
+    lent.control.writable(false);
+    lent.area.writable(false);
+    let answer = library::true_report(report, lent, row);
+    lent.control.writable(true);
+    lent.area.writable(true);
+    tamper_report::after(report, lent, row, answer)
+}
+
+impl Made {
+    fn is_given(&self) -> bool {
+        self.answer.0 == 20 && self.row.len() >= self.report.bytes()
+    }
+
+    /// Holds it against what is due.
+    fn compared(self, bytes: &Bytes, checks: &mut Checks) -> Result<Told, Parted> {
+        let Made { report, answer, row_before, row, kept } = self;
+        let length = row.len();
+        let (code, numbers) = report_bytes::due(report, bytes, length);
+        let name = |what| format!("{} of any memories: {what}", report.name());
+        checks.hold(&name(CODE), answer == (code, 0), || format!("{answer:?} where {code} is due, row of {length}"))?;
+        let mut due = row_before;
+        due[..numbers.len()].copy_from_slice(&numbers);
+        let same = name(if code == 20 { ROW } else { REFUSED });
+        checks.hold(&same, row == due, || format!("answer {code}, row of {length}"))?;
+        checks.hold(&name(KEPT), kept, || format!("answer {code}"))?;
+        Ok((code, row))
+    }
+}
