@@ -7,6 +7,7 @@ use Prim.Native.Nat.{ℕ}
 use native.Mathlib.Omega.{arith}
 use borrow.Author.Tests.{eq-eqb, ne-eqb, lt-ltb}
 use lib.Dec.{ltb, leb, eqb}
+use lib.ListN.{length}
 use Rattle.limits.specs.Limits.{CONTROL-BYTES, TASKS, REGIONS}
 use Rattle.rows.specs.Comparisons.{same, other, same?}
 use Rattle.fields.specs.Columns.{View}
@@ -18,9 +19,11 @@ use Rattle.control.specs.Answers.{codeOf}
 use Rattle.stepped.specs.Outcome.{Outcome, refuse, bad, accept, Memories}
 use Rattle.stepped.specs.Ranges.{oneTo}
 use Rattle.stepped.specs.Calls.{tested, isStartedLengths, lengths, lending}
+use Rattle.stepped.specs.Done.{GivenArea}
 use Rattle.begins.specs.TestNumber.{unlessRefused, TestsAre}
 use Rattle.reports.specs.Rows.{numbersTo}
 use Rattle.reports.specs.Reports.{reportRefusal, answered, reportOf, reportOn, Answers}
+use Rattle.pool.proofs.Calling.{control-is, regions-are, regions-some, area-is}
 
 -- ---- the number of the first test that fails
 
@@ -93,3 +96,18 @@ module _ (inRange : View → (ℕ → ℕ) → ℕ → Bool) (n : ℕ) (number :
       → Answers (reportOn inRange n number s row) row′ k
   unfolding reportOn
   on-answers regions e f A = report-answers _ _ _ _ row r T e (rw f at A)
+
+-- where the tests pass, its work is given the control memory, the started regions and their area
+pub given-report : (c a : List ℕ) (strips r : ℕ)
+    → TestsAre (record { control = length c; area = length a; strips = strips }) (seen c) 0 r → r ≡ 0 → {regions : ℕ}
+    → regions ≡ seen c Regions → GivenArea c a regions 0 0
+given-report c a strips r T h e = record {
+  given = record {
+    control = control-is _ _ _ _ T h;
+    some = regions-some _ _ _ _ T h _ e;
+    regions = regions-are _ _ _ _ T h _ e;
+    task = omega arith;
+    class = omega arith;
+  };
+  area = area-is _ _ _ _ T h _ e;
+}

@@ -2,6 +2,7 @@
 pub mod Passing
 pub mod ByRegion
 pub mod TasksCounted
+pub mod GivenFor
 pub mod Rows
 pub mod ReportAnswers
 pub mod ReportFilled

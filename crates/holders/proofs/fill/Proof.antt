@@ -5,6 +5,7 @@ use native.Mathlib.Omega.{arith}
 use Rattle.links.specs.Link.{link}
 use Rattle.control.specs.Layout.{seen}
 use Rattle.ranges.proofs.Passed.{failed, passed}
+use Rattle.reports.proofs.GivenFor.{given-for}
 use Rattle.reports.proofs.ReportAnswers.{not-gathered}
 use Rattle.sheet.proofs.SheetFilled.{regions-fail}
 use Rattle.holders.specs.Form.{FORM-NUMBERS}
@@ -37,16 +38,7 @@ of-holder-requires c κs =
     let else = c .before .before in
     let read = else .before .before in
     let G = read .before .before .before .before .pre .0 in (
-      record {
-        given = record {
-          control = G .given .control;
-          some = G .given .some;
-          regions = G .given .regions;
-          task = G .given .task;
-          class = omega arith;
-        };
-        area = G .area;
-      },
+      given-for G (G .given .task) (omega arith),
       omega arith,
       read .of-regions .ensures,
       passed refl (else .if1 .left),

@@ -1,7 +1,7 @@
 -- The tests, then the sheet.
 use native.Mathlib.Omega.{arith}
-use Rattle.pool.proofs.Calling.{control-is, regions-are, regions-some, area-is}
-use Rattle.pool.proofs.Reporting.{on-refused, on-answers}
+use Rattle.pool.proofs.Calling.{control-is}
+use Rattle.pool.proofs.Reporting.{on-refused, on-answers, given-report}
 use borrow.Author.Needs.{needs}
 use Rattle.pool.proofs.pool_sheet.Statement.{statement}
 use Rattle.pool.proofs.pool_sheet.Tie as tie
@@ -14,18 +14,8 @@ regions-requires c κs = control-is _ _ _ _ (c .before .report-tests .ensures) (
 
 write-requires : tie.Need-write-requires
 write-requires c κs =
-    let T = c .before .before .before .report-tests .ensures in
-    let e = c .before .regions .ensures in
-    record {
-      given = record {
-        control = control-is _ _ _ _ T (omega arith);
-        some = regions-some _ _ _ _ T (omega arith) _ e;
-        regions = regions-are _ _ _ _ T (omega arith) _ e;
-        task = omega arith;
-        class = omega arith;
-      };
-      area = area-is _ _ _ _ T (omega arith) _ e;
-    }
+    let read = c .before in
+    given-report _ _ _ _ (read .before .before .report-tests .ensures) (omega arith) (read .regions .ensures)
 
 returns-2 : tie.Need-returns-2
 returns-2 c =

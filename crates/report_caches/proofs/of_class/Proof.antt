@@ -6,6 +6,7 @@ use Rattle.limits.specs.Limits.{TASKS}
 use Rattle.links.specs.Link.{link}
 use Rattle.control.specs.Layout.{seen}
 use Rattle.reports.specs.ByRegion.{inRegion}
+use Rattle.reports.proofs.GivenFor.{given-for}
 use Rattle.reports.proofs.TasksCounted.{TasksCounted, tasks-begin, tasks-room, tasks-next, tasks-stop, tasks-end}
 use Rattle.report_caches.specs.CacheRows.{cacheRow, isCache, cachesInRange, blocksInCaches}
 use Rattle.report_caches.proofs.Walking.{cache-max}
@@ -27,18 +28,9 @@ loop-holds c = (omega arith, tasks-begin _ _ _)
 cache-requires : tie.Need-cache-requires Inv-loop μ-loop
 cache-requires c κs =
     let at-loop = c .before in
-    let given = at-loop .before .before .before .pre .given in
+    let G = at-loop .before .before .before .pre in
     let below = c .loop-test .taken in (
-      record {
-        given = record {
-          control = given .control;
-          some = given .some;
-          regions = given .regions;
-          task = omega (arith, below);
-          class = given .class;
-        };
-        area = at-loop .before .before .before .pre .area;
-      },
+      given-for G (omega (arith, below)) (G .given .class),
       tasks-room _ _ _ (at-loop .loop .inv .1) below,
     )
 

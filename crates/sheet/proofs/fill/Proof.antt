@@ -6,6 +6,7 @@ use Rattle.limits.specs.Limits.{CLASSES}
 use Rattle.links.specs.Link.{link}
 use Rattle.control.specs.Layout.{seen}
 use Rattle.ranges.proofs.Passed.{failed, passed}
+use Rattle.reports.proofs.GivenFor.{given-for}
 use Rattle.reports.proofs.ReportAnswers.{not-gathered}
 use Rattle.sheet.proofs.SheetFilled.{SheetTo, sheet-begin, sheet-next, sheet-end}
 use Rattle.sheet.proofs.SheetFilled.{caches-fail, requests-fail, regions-fail}
@@ -25,16 +26,7 @@ loop-holds c = (omega arith, sheet-begin _ _ _ _ (c .before .before .before .pre
 of-class-requires : tie.Need-of-class-requires Inv-loop μ-loop
 of-class-requires c κs =
     let G = c .before .before .before .before .before .pre .0 in
-    record {
-      given = record {
-        control = G .given .control;
-        some = G .given .some;
-        regions = G .given .regions;
-        task = G .given .task;
-        class = omega arith;
-      };
-      area = G .area;
-    }
+    given-for G (G .given .task) (omega arith)
 
 same-length : tie.Need-same-length Inv-loop μ-loop
 same-length c =
