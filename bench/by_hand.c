@@ -5,6 +5,7 @@
  */
 #include "by_hand_free.h"
 #include "by_hand_holders.h"
+#include "by_hand_keepers.h"
 #include "by_hand_sheet.h"
 #include "by_hand_strips.h"
 
@@ -228,25 +229,35 @@ uint64_t BY_HAND(step)(uint8_t *control, uint64_t control_length, uint8_t *area,
     return step_at(&request, c->task_place[task]);
 }
 
-FOR_EACH_REPORT uint64_t report(const uint8_t *control, uint64_t control_length, const uint8_t *area,
-                                uint64_t area_length, uint64_t strips_length, struct numbering number, uint8_t *row,
-                                uint64_t row_length)
+/* A report of numbers. */
+FOR_EACH_REPORT uint64_t numbers(const uint8_t *control, uint64_t control_length, const uint8_t *area,
+                                 uint64_t area_length, uint64_t strips_length, struct numbering number, uint8_t *row,
+                                 uint64_t row_length)
 {
     const struct control *c = (const struct control *)control;
     unsigned refused = tests(c, control_length, area_length, strips_length, 0);
-    return refused != 0 ? refused : report_write(c, area, number, row, row_length);
+    return refused != 0 ? refused : numbers_write(c, area, number, row, row_length);
 }
 
 uint64_t BY_HAND(sheet)(const uint8_t *control, uint64_t control_length, const uint8_t *area, uint64_t area_length,
                         const uint8_t *strips, uint64_t strips_length, uint8_t *sheet, uint64_t sheet_length)
 {
     (void)strips;
-    return report(control, control_length, area, area_length, strips_length, SHEET_NUMBERING, sheet, sheet_length);
+    return numbers(control, control_length, area, area_length, strips_length, SHEET_NUMBERING, sheet, sheet_length);
 }
 
 uint64_t BY_HAND(holders)(const uint8_t *control, uint64_t control_length, const uint8_t *area, uint64_t area_length,
                           const uint8_t *strips, uint64_t strips_length, uint8_t *form, uint64_t form_length)
 {
     (void)strips;
-    return report(control, control_length, area, area_length, strips_length, FORM_NUMBERING, form, form_length);
+    return numbers(control, control_length, area, area_length, strips_length, FORM_NUMBERING, form, form_length);
+}
+
+uint64_t BY_HAND(keepers)(const uint8_t *control, uint64_t control_length, const uint8_t *area, uint64_t area_length,
+                          const uint8_t *strips, uint64_t strips_length, uint8_t *row, uint64_t row_length)
+{
+    const struct control *c = (const struct control *)control;
+    unsigned refused = tests(c, control_length, area_length, strips_length, 0);
+    (void)strips;
+    return refused != 0 ? refused : keepers_write(c, area, row, row_length);
 }

@@ -146,9 +146,9 @@ static int run(uint64_t seed)
     return 1;
 }
 
-static void print_counts(const char *name, const char *more, const uint64_t counts[256])
+static void print_counts(const char *name, const uint64_t counts[256])
 {
-    printf("%s%s, by code:", name, more);
+    printf("%s, by code:", name);
     for (unsigned code = 0; code < 256; code++)
         if (counts[code] != 0)
             printf(" %u: %" PRIu64, code, counts[code]);
@@ -164,10 +164,10 @@ int main(void)
     for (unsigned place = 1; place <= PLACES_MOST; place++)
         places += place_counts[place] != 0;
     printf("%u contenders; steps were made at %u of %d places\n", CONTENDER_COUNT, places, PLACES_MOST);
-    print_counts("answers", "", code_counts);
-    print_counts("answers", " on damaged memories", damaged_counts);
+    print_counts("answers", code_counts);
+    print_counts("answers on damaged memories", damaged_counts);
     for (unsigned which = 0; which < REPORTS; which++)
-        print_counts(NAMED_REPORTS[which].name, "s", report_counts[which]);
+        print_counts(NAMED_REPORTS[which].many, report_counts[which]);
     printf("%u passed, %u failed\n", passed, SEEDS - passed);
     return passed == SEEDS ? 0 : 1;
 }

@@ -2,8 +2,9 @@
 """The code of the reports, in bytes with their constants: what the linker leaves out where no report is called.
 
 A section is kept where a function that is called leads to it, over any number of relocations. Counted are the sections
-to which one report alone leads, those to which both lead, and all of these together; never one that another call needs,
-too. The constants of vectors are one section for all functions, which a start needs.
+to which one report alone leads, those to which several lead, all of these together, and all to which a report leads,
+for a program that calls no other; never one that another call needs, too. The constants of vectors are one section for
+all functions, which a start needs.
 
 A line is workload, contender, measure, value, as of longest_path.py.
 """
@@ -12,7 +13,7 @@ import subprocess
 import sys
 
 LIBRARY = sys.argv[1]
-SHEET, FORM = "pool_sheet", "pool_holders"
+REPORTS = {"sheet": "pool_sheet", "form": "pool_holders", "keepers": "pool_keepers"}
 
 
 def lines(option):
@@ -56,15 +57,25 @@ def kept(function, home, names):
     return found
 
 
+def needed(home, names):
+    """For each report the sections to which it leads and no other call does."""
+    calls = {name for name in home if re.fullmatch(r"pool_\w+", name)}
+    if not set(REPORTS.values()) < calls:
+        sys.exit("a report is not there")
+    others = {section for call in calls - set(REPORTS.values()) for section in kept(call, home, names)}
+    return {name: kept(call, home, names) - others for name, call in REPORTS.items()}
+
+
 def main():
     size, home, names = sizes(), homes(), references()
-    calls = [name for name in home if re.fullmatch(r"pool_\w+", name)]
-    if not {SHEET, FORM} < set(calls):
-        sys.exit("a report is not there")
-    others = {section for call in calls if call not in (SHEET, FORM) for section in kept(call, home, names)}
-    sheet, form = kept(SHEET, home, names) - others, kept(FORM, home, names) - others
-    counted = {"sheet alone": sheet - form, "form alone": form - sheet, "shared by both": sheet & form,
-               "both reports": sheet | form}
+    of_report = needed(home, names)
+    every = set().union(*of_report.values())
+    alone = {name: own - set().union(*(of_report[other] for other in REPORTS if other != name))
+             for name, own in of_report.items()}
+    counted = {f"{name} alone": sections for name, sections in alone.items()}
+    counted["shared by reports"] = every - set().union(*alone.values())
+    counted["all reports"] = every
+    counted.update({f"no report but the {name}": sections for name, sections in of_report.items()})
     for name, sections in counted.items():
         print(f"code, {name}\tlibrary\tbytes\t{sum(size[section] for section in sections)}")
 

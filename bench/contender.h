@@ -4,7 +4,7 @@
 
 #include <stdint.h>
 
-enum { SHEET, FORM, REPORTS };
+enum { SHEET, FORM, KEEPERS, REPORTS };
 
 typedef uint64_t report(const uint8_t *, uint64_t, const uint8_t *, uint64_t, const uint8_t *, uint64_t, uint8_t *row,
                         uint64_t row_length);
@@ -21,9 +21,10 @@ struct contender {
     report *reports[REPORTS];
 };
 
-/* The name of each report, and the bytes that it writes. */
+/* The name of each report, alone and for several, and the most bytes that it writes. */
 struct named_report {
     const char *name;
+    const char *many;
     unsigned bytes;
 };
 

@@ -11,11 +11,11 @@
     uint64_t prefix##_begin_leave(uint8_t *, uint64_t, const uint8_t *, uint64_t, const uint8_t *, uint64_t, \
                                   uint64_t); \
     uint64_t prefix##_step(uint8_t *, uint64_t, uint8_t *, uint64_t, const uint8_t *, uint64_t, uint64_t); \
-    report prefix##_sheet, prefix##_holders;
+    report prefix##_sheet, prefix##_holders, prefix##_keepers;
 
 #define CALLS(prefix) \
     prefix##_start, prefix##_begin_allocate, prefix##_begin_free, prefix##_begin_leave, prefix##_step, \
-        {prefix##_sheet, prefix##_holders}
+        {prefix##_sheet, prefix##_holders, prefix##_keepers}
 
 #ifdef LIBRARY_ALONE
 /* An earlier library may lack these calls; where it has them, its own are linked. */
@@ -39,6 +39,7 @@ __attribute__((weak)) uint64_t pool_begin_leave(uint8_t *control, uint64_t contr
 
 LACKED_REPORT(pool_sheet)
 LACKED_REPORT(pool_holders)
+LACKED_REPORT(pool_keepers)
 #else
 DECLARE(by_hand_gcc)
 #endif
@@ -58,5 +59,8 @@ const struct contender CONTENDERS[] = {
 
 const unsigned CONTENDER_COUNT = sizeof CONTENDERS / sizeof *CONTENDERS;
 
-const struct named_report NAMED_REPORTS[REPORTS] = {[SHEET] = {"sheet", POOL_SHEET_BYTES},
-                                                    [FORM] = {"form", POOL_FORM_BYTES}};
+const struct named_report NAMED_REPORTS[REPORTS] = {
+    [SHEET] = {"sheet", "sheets", POOL_SHEET_BYTES},
+    [FORM] = {"form", "forms", POOL_FORM_BYTES},
+    [KEEPERS] = {"keepers", "keepers", POOL_REGIONS_MOST * POOL_KEEPER_BYTES},
+};

@@ -12,7 +12,7 @@
 #include "schedule.h"
 
 enum { FRESH_ONE, FRESH_ALL, IN_HAND, ONE_CLASS, TWO_CLASSES, ANY, ROWS };
-enum { FIRST_SIZE = 8, SECOND_SIZE = 16, FIRST_N = 512, SECOND_N = 256, HALF = REGIONS / 2 };
+enum { FIRST_SIZE = 8, SECOND_SIZE = 16, FIRST_N = 512, SECOND_N = 256, HALF = REGIONS / 2, LONGEST_CACHES = 0 };
 
 /* Each with %s for the name of the report. */
 static const char *const NAMES[ROWS] = {
@@ -24,8 +24,9 @@ static const char *const NAMES[ROWS] = {
     "largest %s of any memories",
 };
 
-/* Where a request has blocks: a chain, blocks to carve, a block to free, that and a group, that alone. */
-static const uint8_t PLACES_WITH_BLOCKS[] = {25, 27, 28, 32, 33};
+/* Where a request has blocks or a region: a region to release, with a block to free; a chain, a region to open, blocks
+   to carve, a block to free, that and a group, that alone. */
+static const uint8_t PLACES_TRIED[] = {19, 25, 26, 27, 28, 32, 33};
 
 /* What child and parent tell each other: which row is counted, ROWS for none, and what the last call took. */
 struct told {
@@ -40,7 +41,7 @@ static union {
 static uint8_t area[POOL_REGIONS_MOST * POOL_REGION_BYTES];
 static uint8_t row[POOL_SHEET_BYTES];
 static uint64_t area_length;
-static unsigned report_counted; /* SHEET or FORM */
+static unsigned report_counted; /* SHEET, FORM or KEEPERS */
 
 #define MEMORIES pool.bytes, sizeof pool.bytes, area, area_length, untouchable_strips(), POOL_STRIPS_BYTES
 
@@ -143,20 +144,20 @@ static unsigned costly_place(const struct contender *contender, struct told *tol
 {
     unsigned most = 0;
     unsigned found = 0;
-    start(contender, 1);
-    for (unsigned i = 0; i < sizeof PLACES_WITH_BLOCKS; i++) {
+    start(contender, REGIONS);
+    open_regions(class);
+    for (unsigned i = 0; i < sizeof PLACES_TRIED; i++) {
         unsigned took;
-        stand_at(PLACES_WITH_BLOCKS[i], class);
+        stand_at(PLACES_TRIED[i], class);
         took = count(contender, told, ROWS);
-        found = took > most ? PLACES_WITH_BLOCKS[i] : found;
+        found = took > most ? PLACES_TRIED[i] : found;
         most = took > most ? took : most;
     }
     return found;
 }
 
-static void largest(const struct contender *contender, struct told *told)
+static void largest(const struct contender *contender, struct told *told, unsigned class)
 {
-    unsigned class = costly_class(contender, told);
     unsigned place = costly_place(contender, told, class);
     start(contender, REGIONS);
     open_regions(class);
@@ -181,7 +182,8 @@ static void child(const struct contender *contender, struct told *told)
     take_and_free(contender, FIRST_SIZE, HALF * FIRST_N, FIRST_N);
     take_and_free(contender, SECOND_SIZE, HALF * SECOND_N, SECOND_N);
     (void)count(contender, told, TWO_CLASSES);
-    largest(contender, told);
+    largest(contender, told, costly_class(contender, told));
+    largest(contender, told, LONGEST_CACHES);
     _exit(0);
 }
 
@@ -193,7 +195,8 @@ static void follow(const struct contender *contender, unsigned counts[ROWS + 1])
         child(contender, told);
     while (child_stops(pid)) {
         told->count = count_call(pid, (unsigned long long)(uintptr_t)contender->reports[report_counted]);
-        counts[told->row] = told->count;
+        if (told->count > counts[told->row])
+            counts[told->row] = told->count;
         child_runs_on(pid);
     }
 }

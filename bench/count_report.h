@@ -6,13 +6,14 @@
  * tasks have full caches of 8 and of 16 bytes, which are the blocks of all sixteen regions. In memories that no run has
  * left, the caches of all classes may be full: two of them then have the same blocks, which the report does not notice.
  * There the class of the regions and the place of the tasks are tried one by one, with empty caches, and those that
- * take most are put together with full ones.
+ * take most are put together with full ones. So is the class of the longest caches, for a report may follow the caches
+ * of the class in which a region is open once more.
  */
 #ifndef COUNT_REPORT_H
 #define COUNT_REPORT_H
 
-/* Counts this report, SHEET or FORM, of every contender, and prints lines of workload, contender, measure, value. It
-   answers the status of the program. */
+/* Counts this report, SHEET, FORM or KEEPERS, of every contender, and prints lines of workload, contender, measure,
+   value. It answers the status of the program. */
 int count_report(unsigned which);
 
 #endif

@@ -23,6 +23,7 @@ NAMES = {
     "pool_step": "deepest stack, step",
     "pool_sheet": "deepest stack, sheet",
     "pool_holders": "deepest stack, form",
+    "pool_keepers": "deepest stack, keepers",
 }
 
 

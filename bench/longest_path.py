@@ -51,11 +51,11 @@ def read_code():
     for line in lines("-d", "-r"):
         name = re.match(r"[0-9a-f]+ <(.*)>:$", line)
         instruction = re.match(r"\s+([0-9a-f]+):\s+(\S.*)$", line)
-        call = re.match(r"\s+[0-9a-f]+: R_X86_64_PLT32\s+(\S+?)-0x4$", line)
+        call = re.match(r"\s+[0-9a-f]+: R_X86_64_(?:PLT32|PC32)\s+(\S+?)-0x4$", line)
         table = re.match(r"\s+[0-9a-f]+: R_X86_64_PC32\s+\.rodata\.(\S+?)([+-]0x[0-9a-f]+)$", line)
         if name:
             current, function = code.setdefault(name.group(1), []), name.group(1)
-        elif call:
+        elif call and current[-1][1].startswith(("call", "jmp")):
             current[-1][2] = call.group(1).replace(".text.", "")
         elif table and table.group(1) == function:
             current[-1][3] = int(table.group(2), 16) + 4
@@ -105,7 +105,7 @@ def successors(function, code, tables):
     entered = {int(target.group(2), 16) for target in jumps.values() if target}
     entered |= {target for start in starts for target in table_targets(start, starts, tables[function])}
     after = {}
-    for index, (address, text, _, _) in enumerate(body):
+    for index, (address, text, called, _) in enumerate(body):
         if text.startswith("ret") or text.startswith("ud2"):
             after[address] = set()
         elif text.startswith("jmp") and "*" in text:
@@ -117,7 +117,7 @@ def successors(function, code, tables):
                 after[address].add(following[address])
         else:
             after[address] = {following[address]}
-        if text.startswith("jmp") and not after[address]:
+        if text.startswith("jmp") and (called or not after[address]):
             sys.exit(f"{function}: a jump that is not known, at {address:x}")
     return after
 

@@ -90,8 +90,8 @@
  *   1. The three memories do not overlap, and each really has the length that is lent with it. A pointer may be null
  *      where its length is 0.
  *   2. Calls do not overlap in time: mask interrupts or lock around each single call. But for a report, which is a tool
- *      (see pool_sheet and pool_holders), the longest is a step of at most 388 instructions; docs/BENCHMARKS.md says
- *      what this bound rests on. A start, which comes before the others, also fills 8,192 bytes by your memset.
+ *      (see "Reports" below), the longest is a step of at most 388 instructions; docs/BENCHMARKS.md says what this
+ *      bound rests on. A start, which comes before the others, also fills 8,192 bytes by your memset.
  *   3. Each call but a start lends the control memory, the area and the strips' memory of the last accepted start. If
  *      it lends another length, it is refused and does no harm.
  *   4. Users write only inside blocks and strips that they hold. A block or strip is held from the step that finishes
@@ -120,7 +120,7 @@
  * Each open region uses one of 64 descriptors. A region that has emptied leaves its descriptor on the partial list of
  * its class, until an allocation of that class pops it. A running request may have one in hand, too.
  *
- * What you can do:
+ * pool_keepers tells of each region what keeps it. What you can do:
  *
  *   - lend enough regions: docs/POOL.md, "How many regions do I need?";
  *   - let the same task free and allocate blocks of a class: it reuses its cache;
@@ -129,8 +129,9 @@
  *
  * ---- Reports ----
  *
- * A report is a tool: it tells where the blocks are, without changing the pool. There are two, the stock sheet for the
- * fitter and the form by holder for the fleet office. Tasks need neither.
+ * A report is a tool: it tells where the blocks are, without changing the pool. There are three: the stock sheet for
+ * the fitter, the form by holder for the fleet office, and the region's keepers for the fitter who wants to know why a
+ * request ended with POOL_NO_REGION. Tasks need none of them.
  *
  * Each block of an open region has one holder: a user's hands, a task's cache, a task's running request or the region's
  * chain. With a running request are a block being freed, the group or chain that is under way, and blocks that are
@@ -138,7 +139,7 @@
  * 192 and 224, and 12 has 256. Strips are in no report.
  *
  * A report is one call like the others: no other call may run meanwhile. It takes much longer than they do, for it
- * follows the links of all cached blocks: see pool_sheet and pool_holders.
+ * follows the links of all cached blocks: see pool_sheet, pool_holders and pool_keepers.
  *
  * ---- The stock sheet ----
  *
@@ -162,22 +163,38 @@
  *         == POOL_FINISHED)
  *         cached = POOL_FORM_NUMBER(form, class, POOL_HOLDER_CACHE(task));
  *
+ * ---- The region's keepers ----
+ *
+ * For each region of the area the row names what keeps it: the lowest block in a user's hands, else a cached block with
+ * its task, else the task whose request has the region, else the list of spare regions. Call it right after a step
+ * that answered POOL_NO_REGION, before any other call. Then it says why there was no region:
+ *
+ *     static uint8_t keepers[POOL_REGIONS_MOST * POOL_KEEPER_BYTES];
+ *     if (POOL_CODE(answer) == POOL_NO_REGION
+ *         && pool_keepers(control, sizeof control, area, sizeof area, strips, sizeof strips, keepers, sizeof keepers)
+ *                == POOL_FINISHED)
+ *         for (region = 0; region < sizeof area / POOL_REGION_BYTES; region++)
+ *             if (POOL_KEEPER_KIND(keepers, region) == POOL_KEPT_IN_CACHE)
+ *                 should_leave(POOL_KEEPER_TASK(keepers, region));
+ *
  * ---- What the code needs ----
  *
  * The beginnings and the steps for blocks have no loop but one: leaving looks for the next of the task's thirteen
  * caches that is not empty. A step for a strip halves or joins at most seven times, and the start loops over the
  * control memory alone. No call makes a system call, allocates memory or keeps anything outside the memories that it is
  * lent. The library is target/staticlib/libpool.a, made by 'rt staticlib pool'. A start needs memset from the
- * firmware's C library, and SSE2 registers; a report needs memset, memcpy and SSE2 registers. The code is for x86-64.
+ * firmware's C library, and SSE2 registers. The sheet and the form need memset, memcpy and SSE2 registers, the keepers
+ * memcpy and SSE2 registers. The code is for x86-64.
  *
  * Each function has a section of its own, so that the linker can leave out a report that is never called (gcc:
  * -Wl,--gc-sections). What it leaves out are code and constants that no other call uses:
  *
- *   1,810 bytes   of the sheet alone, where the sheet is not called;
- *   1,591 bytes   of the form alone, where the form is not called;
- *   2,367 bytes   that both reports share, where neither is called.
+ *   1,087 bytes   of the sheet alone, where the sheet is not called;
+ *   1,435 bytes   of the form alone, where the form is not called;
+ *   5,131 bytes   of the keepers alone, where the keepers are not called;
+ *   3,050 bytes   that reports share, where none is called.
  *
- * So 5,768 bytes are left out where neither is called, and no memcpy is needed.
+ * So 10,703 bytes are left out where no report is called, and no memcpy is needed.
  *
  * A report keeps values below the stack pointer, in the 128 bytes that the System V ABI calls the red zone; the other
  * calls do not. An interrupt that comes during a report, and uses the same stack, has to leave these bytes as they are.
@@ -207,6 +224,7 @@ extern "C" {
 #define POOL_CLASSES 13         /* sizes of blocks, numbered from 0 for 8 bytes to 12 for 256 */
 #define POOL_SHEET_BYTES 1664   /* of the stock sheet: four numbers of two bytes for each class and region */
 #define POOL_FORM_BYTES 468     /* of the form by holder: 18 numbers of two bytes for each class */
+#define POOL_KEEPER_BYTES 4     /* of the keeper of one region; their row has as many for each region of the area */
 
 /* ---- answers ---- */
 
@@ -252,6 +270,20 @@ enum pool_holder { POOL_HOLDER_HANDS = 0, POOL_HOLDER_CHAINS = 17 };
 #define POOL_HOLDER_CACHE(task) (1 + (size_t)(task))
 #define POOL_HOLDER_REQUEST(task) (9 + (size_t)(task))
 
+/* The kind, the task and the unit of a region's keeper in a row of keepers, and the byte at which the keeper begins. */
+#define POOL_KEEPER_AT(region) (POOL_KEEPER_BYTES * (size_t)(region))
+#define POOL_KEEPER_KIND(row, region) ((unsigned)((const uint8_t *)(row))[POOL_KEEPER_AT(region)])
+#define POOL_KEEPER_TASK(row, region) ((unsigned)((const uint8_t *)(row))[POOL_KEEPER_AT(region) + 1])
+#define POOL_KEEPER_UNIT(row, region) POOL_ROW_NUMBER(row, POOL_KEEPER_AT(region) + 2)
+
+/* The kinds of keepers, in the order in which they are looked for; pool_keepers has the task and the unit of each. */
+enum pool_kept {
+    POOL_KEPT_IN_HAND = 1,    /* a block of the region is in a user's hands */
+    POOL_KEPT_IN_CACHE = 2,   /* one is in a task's cache */
+    POOL_KEPT_BY_REQUEST = 3, /* a request that is not over has blocks of the region, or the region itself */
+    POOL_KEPT_SPARE = 4       /* the region is on the list of spare regions */
+};
+
 /* The codes. POOL_UNDER_WAY and POOL_FINISHED accept a call. POOL_NO_DESCRIPTOR, POOL_NO_REGION and POOL_NO_STRIP end a
    request: the task is idle afterwards and holds nothing new. Every other code refuses the call: it changed no byte. */
 enum pool_code {
@@ -263,7 +295,8 @@ enum pool_code {
     POOL_BAD_AREA = 2,    /* the area's length is 0, no multiple of 4,096 or above 65,536, or not the started one; or
                              the strips' memory is not 65,536 bytes */
     POOL_BAD_TASKS = 3,   /* a start with a number of tasks that is not 1 to 8 */
-    POOL_SHORT_ROW = 23,  /* a sheet of fewer than 1,664 bytes, or a form of fewer than 468 */
+    POOL_SHORT_ROW = 23,  /* a sheet of fewer than 1,664 bytes, a form of fewer than 468, or a row of keepers of fewer
+                             than 4 for each region of the area */
 
     /* Caused by a task's author. */
     POOL_NOT_STARTED = 4,     /* no start was accepted; a control memory of zeros is such a pool */
@@ -276,7 +309,8 @@ enum pool_code {
     POOL_NOT_IN_USE = 11,     /* a free of such a unit that is in nobody's hands, as after a first free; of a strip only
                                  until the step of its free, after which no strip begins there */
 
-    /* The end of an allocation, caused by blocks in hands, in caches and under way: see "What keeps regions" above. */
+    /* The end of an allocation, caused by blocks in hands, in caches and under way: see "What keeps regions" above.
+       Right after POOL_NO_REGION pool_keepers says why. */
     POOL_NO_DESCRIPTOR = 12, /* the list of spare descriptors was empty when read */
     POOL_NO_REGION = 13,     /* the list of spare regions was empty when read; the descriptor is back on its list */
 
@@ -370,9 +404,9 @@ uint64_t pool_step(uint8_t *control, uint64_t control_length, uint8_t *area, uin
  * that is read is out of its range, POOL_SHORT_ROW; else POOL_FINISHED with value 0.
  *
  * It is a tool, and takes what the other calls need not. All its loops are bounded, but it follows the link of every
- * cached block, at 13 instructions each: it takes 13,804 instructions in a fresh pool of one region, and 103,256 where
- * all blocks of sixteen regions are cached. The most that was found for any memories is 163,976. A sheet uses at most
- * 2,097 bytes of stack, of which 1,664 hold the numbers until all are tested; what your memset and memcpy use comes on
+ * cached block, at 13 instructions each: it takes 13,871 instructions in a fresh pool of one region, and 104,760 where
+ * all blocks of sixteen regions are cached. The most that was found for any memories is 168,168. A sheet uses at most
+ * 2,401 bytes of stack, of which 1,664 hold the numbers until all are tested; what your memset and memcpy use comes on
  * top. "What the code needs" above says what its code takes.
  */
 uint64_t pool_sheet(const uint8_t *control, uint64_t control_length, const uint8_t *area, uint64_t area_length,
@@ -397,13 +431,49 @@ uint64_t pool_sheet(const uint8_t *control, uint64_t control_length, const uint8
  * Answers, by the first test that fails: POOL_BAD_CONTROL, POOL_NOT_STARTED, POOL_BAD_AREA, POOL_DAMAGED exactly where
  * pool_sheet has it, POOL_SHORT_ROW; else POOL_FINISHED with value 0.
  *
- * It follows the link of every cached block, at 13 instructions each. It takes 20,432 instructions in a fresh pool of
- * one region, and 108,814 where all blocks of sixteen regions are cached. The most that was found for any memories is
- * 169,534. A form uses at most 865 bytes of stack, of which 468 hold the numbers until all are tested; what your memset
+ * It follows the link of every cached block, at 13 instructions each. It takes 18,402 instructions in a fresh pool of
+ * one region, and 108,448 where all blocks of sixteen regions are cached. The most that was found for any memories is
+ * 171,856. A form uses at most 896 bytes of stack, of which 468 hold the numbers until all are tested; what your memset
  * and memcpy use comes on top. "What the code needs" above says what its code takes.
  */
 uint64_t pool_holders(const uint8_t *control, uint64_t control_length, const uint8_t *area, uint64_t area_length,
                       const uint8_t *strips, uint64_t strips_length, uint8_t *form, uint64_t form_length);
+
+/*
+ * Writes the keeper of each region of the area into the row that it is lent, four bytes for each region, and nothing
+ * else. What pool_sheet says of its row, of the memories and of requests holds here, too. It is meant to be called
+ * right after a step that answered POOL_NO_REGION, and says why; but it may be called after any call.
+ *
+ * The keeper of region r begins at byte 4 * r: one byte of kind, one of task, two of unit. POOL_KEEPER_KIND,
+ * POOL_KEEPER_TASK and POOL_KEEPER_UNIT read them. It is the first that applies of these:
+ *
+ *   POOL_KEPT_IN_HAND     a block of the region is in a user's hands: the lowest unit. The task is 0 and tells nothing.
+ *                         Free the block.
+ *   POOL_KEPT_IN_CACHE    one is in a task's cache: the lowest task that has one, and the lowest unit that it has
+ *                         there. Let the task leave.
+ *   POOL_KEPT_BY_REQUEST  a running request has blocks of the region, or has the region itself, while it is neither
+ *                         open nor on the list of spare regions: the lowest task, and unit 0. Step the task.
+ *   POOL_KEPT_SPARE       the region is on the list of spare regions: task 0, unit 0. Right after POOL_NO_REGION
+ *                         this means that it came back after the request had read the list empty. Ask again.
+ *
+ * A region is often kept in several ways, of which the row names the first: call again after that one is gone.
+ *
+ * Under the premises one of the four always applies, what is named is true of the pool, and the call is not refused by
+ * POOL_DAMAGED. What is read and tested is what pool_sheet reads and tests, the region that a request has itself, and
+ * the list of spare regions.
+ *
+ * Answers, by the first test that fails: POOL_BAD_CONTROL, POOL_NOT_STARTED, POOL_BAD_AREA, POOL_DAMAGED where a value
+ * that is read is out of its range, where the list does not end, or where none of the four applies to a region,
+ * POOL_SHORT_ROW; else POOL_FINISHED with value 0.
+ *
+ * It follows the link of every cached block, at 13 instructions each. For each open region that has no block in hand
+ * it follows those of the region's class once more, at 9 each, task by task up to the first that has a block of the
+ * region. The keepers of a fresh pool of one region take 6,518 instructions, and those of sixteen regions whose blocks
+ * are all cached take 339,605. The most that was found for any memories is 717,982. They use at most 689 bytes of
+ * stack; what your memcpy uses comes on top. "What the code needs" above says what their code takes.
+ */
+uint64_t pool_keepers(const uint8_t *control, uint64_t control_length, const uint8_t *area, uint64_t area_length,
+                      const uint8_t *strips, uint64_t strips_length, uint8_t *row, uint64_t row_length);
 
 #ifdef __cplusplus
 }

@@ -21,6 +21,8 @@ void check_strips(void);
 void check_leaving(void);
 void check_sheet(void);
 void check_holders(void);
+void check_keepers(void);
+void check_no_region(void);
 void check_ends(void);
 void check_regions(void);
 void check_refusals(void);

@@ -61,6 +61,19 @@ unsigned blocks_with_request(const uint8_t *control, uint64_t task)
     return POOL_FORM_NUMBER(form, POOL_CLASSES - 1, POOL_HOLDER_REQUEST(task));
 }
 
+static_assert(POOL_KEEPER_AT(1) == POOL_KEEPER_BYTES, "the keepers of the regions stand one after the other");
+static_assert(POOL_KEPT_SPARE == POOL_KEPT_IN_HAND + 3, "there are four kinds of keepers");
+
+uint8_t keepers[POOL_REGIONS_MOST * POOL_KEEPER_BYTES];
+
+uint64_t kept_in_cache(const uint8_t *control, uint64_t region)
+{
+    pool_keepers(control, POOL_CONTROL_BYTES, area, sizeof area, strips, sizeof strips, keepers, sizeof keepers);
+    return POOL_KEEPER_KIND(keepers, region) == POOL_KEPT_IN_CACHE && POOL_KEEPER_TASK(keepers, region) == 0
+             ? POOL_KEEPER_UNIT(keepers, region)
+             : 0;
+}
+
 uint64_t last_request(uint8_t *control, uint64_t task)
 {
     return pool_begin_leave(control, POOL_CONTROL_BYTES, area, sizeof area, strips, sizeof strips, task);

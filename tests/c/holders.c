@@ -80,8 +80,9 @@ static int one_of_each_class(void)
     return each;
 }
 
-static const struct report FORM = {"form",          pool_holders, POOL_FORM_BYTES, zeros,           one_in_hand,
-                                   one_being_freed, all_cached,   some_in_chain,   one_of_each_class};
+static const struct report FORM = {
+    "form", pool_holders, POOL_FORM_BYTES, 0,
+    zeros, one_in_hand, one_being_freed, all_cached, some_in_chain, one_of_each_class};
 
 /* A column of the sheet for a class, all regions together. */
 static unsigned of_sheet(const uint8_t *sheet, unsigned class, unsigned column)
@@ -96,9 +97,7 @@ static unsigned of_sheet(const uint8_t *sheet, unsigned class, unsigned column)
 static int as_on_sheet(const struct lent *lent)
 {
     static uint8_t sheet[POOL_SHEET_BYTES];
-    int same = pool_sheet(lent->control, lent->control_length, lent->area, lent->area_length, lent->strips,
-                          lent->strips_length, sheet, sizeof sheet)
-            == POOL_FINISHED;
+    int same = pool_sheet(LENT(lent), sheet, sizeof sheet) == POOL_FINISHED;
     for (unsigned class = 0; class < POOL_CLASSES; class++) {
         struct line line = line_of(class);
         unsigned caches = 0;
@@ -134,12 +133,6 @@ static void check_line(const char *name, const struct lent *lent, unsigned class
     check(full, as_on_sheet(lent));
 }
 
-static void steps(const struct lent *lent, unsigned task, unsigned count)
-{
-    for (unsigned i = 0; i < count; i++)
-        (void)step(lent, task);
-}
-
 /* Eight tasks, each with a region that it carves: after nine steps it is open, and each further one carves a block. */
 static void carving(void)
 {
@@ -147,7 +140,7 @@ static void carving(void)
     struct line line = {0};
     for (unsigned task = 0; task < POOL_TASKS_MOST; task++) {
         (void)begin_allocate(&lent, task, 256);
-        steps(&lent, task, 9 + 2 * task);
+        make_steps(&lent, task, 9 + 2 * task);
         line.caches[task] = 2 * task;
         line.requests[task] = 16 - 2 * task;
     }
@@ -204,10 +197,10 @@ static void overflow(void)
     for (unsigned i = 0; i < 16; i++)
         (void)release(&lent, 1, unit[i]);
     (void)begin_free(&lent, 1, unit[16]);
-    steps(&lent, 1, 1);
+    make_steps(&lent, 1, 1);
     check_line("a group that is empty", &lent, LARGEST,
                (struct line){.hands = 15, .caches = {0, 16}, .requests = {0, 1}});
-    steps(&lent, 1, 5);
+    make_steps(&lent, 1, 5);
     check_line("a group and a block being freed", &lent, LARGEST,
                (struct line){.hands = 15, .caches = {0, 11}, .requests = {0, 6}});
 }
@@ -218,11 +211,11 @@ static void group_and_chain(void)
     struct lent lent = started(1, 2);
     (void)allocate(&lent, 0, 256);
     (void)begin_leave(&lent, 0);
-    steps(&lent, 0, 4);
+    make_steps(&lent, 0, 4);
     check_line("a task that leaves", &lent, LARGEST, (struct line){.hands = 1, .caches = {11}, .requests = {4}});
     (void)finish(&lent, 0, NULL);
     (void)begin_allocate(&lent, 1, 256);
-    steps(&lent, 1, 6 + 4);
+    make_steps(&lent, 1, 6 + 4);
     check_line("a chain that was taken", &lent, LARGEST,
                (struct line){.hands = 1, .caches = {0, 4}, .requests = {0, 11}});
 }
@@ -233,9 +226,9 @@ static void emptied(void)
     struct lent lent = started(1, 1);
     (void)release(&lent, 0, POOL_VALUE(allocate(&lent, 0, 256)));
     (void)begin_leave(&lent, 0);
-    steps(&lent, 0, 16 + 1 + 2);
+    make_steps(&lent, 0, 16 + 1 + 2);
     check_line("the group of a whole region", &lent, LARGEST, (struct line){.requests = {16}});
-    steps(&lent, 0, 1);
+    make_steps(&lent, 0, 1);
     check_line("a region that is not open any more", &lent, LARGEST, (struct line){0});
 }
 
@@ -270,7 +263,7 @@ static void in_range(void)
     check_line("marks of a region that is not open", &lent, LARGEST, (struct line){0});
     lent = started(2, 2);
     (void)begin_allocate(&lent, 1, 256);
-    steps(&lent, 1, 9 + 5);
+    make_steps(&lent, 1, 9 + 5);
     check_line("a region that is carved", &lent, LARGEST, (struct line){.caches = {0, 5}, .requests = {0, 11}});
     lent.control[TASK_REGION + 1] = 1;
     check_line("blocks to carve of a region that is not open", &lent, LARGEST, (struct line){.caches = {0, 5}});

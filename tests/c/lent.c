@@ -80,10 +80,6 @@ int strips_as_kept(const struct lent *lent)
     return memcmp(kept_strips, lent->strips, sizeof kept_strips) == 0;
 }
 
-/* The three memories and their lengths, as every call is lent them. */
-#define LENT(lent)                                                                                                     \
-    (lent)->control, (lent)->control_length, (lent)->area, (lent)->area_length, (lent)->strips, (lent)->strips_length
-
 uint64_t start(const struct lent *lent, uint64_t tasks)
 {
     return pool_start(LENT(lent), tasks);
@@ -120,6 +116,12 @@ uint64_t finish(const struct lent *lent, uint64_t task, unsigned *steps)
     if (steps != NULL)
         *steps = made;
     return answer;
+}
+
+void make_steps(const struct lent *lent, uint64_t task, unsigned count)
+{
+    for (unsigned i = 0; i < count; i++)
+        (void)step(lent, task);
 }
 
 uint64_t allocate(const struct lent *lent, uint64_t task, uint64_t size)

@@ -18,6 +18,10 @@ struct lent {
     uint64_t strips_length;
 };
 
+/* The three memories and their lengths, as every call is lent them. */
+#define LENT(lent)                                                                                                     \
+    (lent)->control, (lent)->control_length, (lent)->area, (lent)->area_length, (lent)->strips, (lent)->strips_length
+
 /* Fresh memories: a control memory of zeros that lies `shift` bytes past an address aligned to POOL_ALIGNMENT, and an
    area of so many regions and the strips, filled with patterns, that lie `shift` bytes past others. */
 struct lent lend(unsigned regions, unsigned shift);
@@ -43,6 +47,9 @@ uint64_t step(const struct lent *lent, uint64_t task);
 
 /* Steps a task until the code is not POOL_UNDER_WAY. *steps counts the steps; it may be null. */
 uint64_t finish(const struct lent *lent, uint64_t task, unsigned *steps);
+
+/* Makes so many steps of a task. */
+void make_steps(const struct lent *lent, uint64_t task, unsigned count);
 
 /* A whole request: begin, then steps. A refused beginning is answered as it is. */
 uint64_t allocate(const struct lent *lent, uint64_t task, uint64_t size);

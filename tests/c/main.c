@@ -10,6 +10,8 @@ int main(void)
     check_leaving();
     check_sheet();
     check_holders();
+    check_keepers();
+    check_no_region();
     check_ends();
     check_regions();
     check_refusals();

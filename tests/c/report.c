@@ -14,12 +14,16 @@ enum { FRONT = 17, FURTHER = 16, BEFORE = 0x5C };
 static uint8_t memory[FRONT + POOL_SHEET_BYTES + FURTHER];
 uint8_t *const row = memory + FRONT;
 
+unsigned bytes_of(const struct report *report, const struct lent *lent)
+{
+    return report->bytes + report->region_bytes * (unsigned)(lent->area_length / POOL_REGION_BYTES);
+}
+
 uint64_t make_report(const struct report *report, const struct lent *lent, uint64_t length)
 {
     memset(memory, BEFORE, sizeof memory);
     keep();
-    return report->call(lent->control, lent->control_length, lent->area, lent->area_length, lent->strips,
-                        lent->strips_length, row, length);
+    return report->call(LENT(lent), row, length);
 }
 
 int row_as_before(size_t from)
@@ -34,11 +38,11 @@ void check_written(const struct report *report, const char *name, const struct l
 {
     char full[160];
     snprintf(full, sizeof full, "%s: %s", report->name, name);
-    check_answer(full, make_report(report, lent, report->bytes + FURTHER), POOL_FINISHED, 0);
+    check_answer(full, make_report(report, lent, bytes_of(report, lent) + FURTHER), POOL_FINISHED, 0);
     snprintf(full, sizeof full, "%s: %s: no byte of the memories changes", report->name, name);
     check(full, as_kept() && guards_whole(lent));
     snprintf(full, sizeof full, "%s: %s: the row's further bytes stay", report->name, name);
-    check(full, row_as_before(report->bytes));
+    check(full, row_as_before(bytes_of(report, lent)));
     snprintf(full, sizeof full, "%s: %s: the numbers", report->name, name);
     check(full, numbers());
 }
@@ -57,7 +61,7 @@ void check_unwritten(const struct report *report, const char *name, const struct
 static void one_block(const struct report *report)
 {
     struct lent lent = started(2, 2);
-    check_written(report, "a fresh pool", &lent, report->zeros);
+    check_written(report, "a fresh pool", &lent, report->none_open);
     uint64_t unit = POOL_VALUE(allocate(&lent, 0, 256));
     check_written(report, "a block in hand", &lent, report->one_in_hand);
     (void)begin_free(&lent, 1, unit);
@@ -67,10 +71,10 @@ static void one_block(const struct report *report)
     (void)leave(&lent, 0);
     check_written(report, "a task that has left", &lent, report->some_in_chain);
     (void)leave(&lent, 1);
-    check_written(report, "all tasks have left", &lent, report->zeros);
+    check_written(report, "all tasks have left", &lent, report->none_open);
 }
 
-static void set_mark(const struct lent *lent, unsigned unit)
+void set_mark(const struct lent *lent, unsigned unit)
 {
     lent->control[MARKS + unit / 8] |= (uint8_t)(1 << unit % 8);
 }

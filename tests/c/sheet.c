@@ -58,8 +58,9 @@ static int one_of_each_class(void)
     return each && sum() == all;
 }
 
-static const struct report SHEET = {"sheet",         pool_sheet, POOL_SHEET_BYTES, zeros,           one_in_hand,
-                                    one_being_freed, all_cached, some_in_chain,    one_of_each_class};
+static const struct report SHEET = {
+    "sheet", pool_sheet, POOL_SHEET_BYTES, 0,
+    zeros, one_in_hand, one_being_freed, all_cached, some_in_chain, one_of_each_class};
 
 void check_sheet(void)
 {

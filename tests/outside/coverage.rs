@@ -2,6 +2,7 @@
 
 use crate::checks::Checks;
 use crate::classes::CLASSES;
+use crate::keepers_coverage::KeepersCoverage;
 use crate::leave_coverage::LeaveCoverage;
 use crate::pool::{Answer, Event, Place, Request, State, PLACES, REGIONS, TASKS};
 use crate::report_coverage::{FormCoverage, SheetCoverage};
@@ -74,6 +75,7 @@ pub struct Coverage {
     pub leaving: LeaveCoverage,
     pub sheet: SheetCoverage,
     pub form: FormCoverage,
+    pub keepers: KeepersCoverage,
 }
 
 impl Coverage {
@@ -162,6 +164,7 @@ impl Coverage {
         self.leaving.report(checks);
         self.sheet.report(checks);
         self.form.report(checks);
+        self.keepers.report(checks);
     }
 
     fn report_codes(&self, checks: &mut Checks) {
@@ -191,6 +194,7 @@ impl Coverage {
         self.leaving.print();
         self.sheet.print();
         self.form.print();
+        self.keepers.print();
         for (kind, name) in KINDS.iter().enumerate() {
             let codes: Vec<String> = self
                 .codes

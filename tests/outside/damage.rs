@@ -6,6 +6,7 @@ use crate::coverage::Coverage;
 use crate::driver::Driver;
 use crate::faults::Fault;
 use crate::layout::*;
+use crate::lists::SPARE_REGIONS;
 use crate::pieces::LAST;
 use crate::pool::{self, Place};
 use crate::random::Random;
@@ -55,6 +56,11 @@ const STYLES: [&str; 11] = [
 const END: u64 = (SLOT_BYTES.first + SLOT_BYTES.fields) as u64;
 
 impl Bytes {
+    /// How many regions the area has.
+    pub fn regions(&self) -> usize {
+        self.area.len() / 4096
+    }
+
     /// The bytes of a run as they are now.
     pub fn of(driver: &Driver) -> Bytes {
         let lent = &driver.lent;
@@ -205,6 +211,17 @@ fn damage_link(bytes: &mut Bytes, random: &mut Random) {
 pub fn set_link(bytes: &mut Bytes, unit: u64, link: u64) {
     let first = unit as usize * 8;
     bytes.area[first..first + 4].copy_from_slice(&(link as u32).to_le_bytes());
+}
+
+/// Makes the list of the spare regions of these, the first on top, with the tag that it has.
+pub fn link_regions(bytes: &mut Bytes, regions: &[usize]) {
+    let mut below = 0;
+    for &region in regions.iter().rev() {
+        set(&mut bytes.control, REGION_NEXT, region, below);
+        below = region as u64 + 1;
+    }
+    let tag = get(&bytes.control, HEAD, SPARE_REGIONS) >> 32;
+    set(&mut bytes.control, HEAD, SPARE_REGIONS, tag << 32 | below);
 }
 
 /// Makes a cache of these blocks, the last on top.

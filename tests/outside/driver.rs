@@ -70,7 +70,7 @@ impl<'a> Driver<'a> {
             area_before: area.bytes().to_vec(),
             strips_before: strips.bytes().to_vec(),
             lent: Lent { control, area, strips },
-            rows: REPORTS.map(|report| Memory::new(report.bytes() + FURTHER, Side::EndsAtGuard)),
+            rows: REPORTS.map(|report| Memory::new(report.most_bytes() + FURTHER, Side::EndsAtGuard)),
             asked: [None; TASKS],
             freeing: [None; TASKS],
             held: Vec::new(),
@@ -110,6 +110,9 @@ impl<'a> Driver<'a> {
         self.coverage.leaving.count(&call, place, &self.pool, expected);
         self.count_more(call, place, busy, expected);
         self.follow(call.request, place, expected);
+        if expected.0 == 13 {
+            self.compare_keepers_after_13()?;
+        }
         Ok(expected)
     }
 

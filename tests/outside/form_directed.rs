@@ -7,13 +7,12 @@ use crate::driver::Driver;
 use crate::form::{row_of, Line};
 use crate::pool::{Request, TASKS};
 use crate::report::{cache, request, Report, CHAINS, HANDS, HOLDERS};
-use crate::report_checks::written;
 use crate::sheet_directed::{allocate_all, step, steps};
 
 /// The form shows these numbers, each for a class and a holder, and else zeros.
 fn shows(driver: &mut Driver, name: &str, numbers: &[(usize, usize, u64)]) -> Result<(), Parted> {
     driver.compare_reports()?;
-    let same = written(&driver.rows, Report::Form) == row_of(numbers);
+    let same = driver.written(Report::Form) == row_of(numbers);
     driver.checks.hold(&Report::Form.check(name), same, || format!("{numbers:?} are due"))
 }
 

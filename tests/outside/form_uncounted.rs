@@ -1,13 +1,15 @@
-//! Memories that no run has left: a block counts in no number of the form where its region is not open in the class.
-//! The numbers are written down.
+//! Memories that no run has left: a block counts in no number of the form, and keeps no region, where its region is not
+//! open in the class. The numbers and the keepers are written down.
 
 use crate::checks::{Checks, Parted};
-use crate::classes::{units, UNITS_PER_REGION};
+use crate::classes::UNITS_PER_REGION;
 use crate::damage::{link_cache, Bytes};
 use crate::form::row_of;
+use crate::keepers::{self, in_hand, spare, Keeper};
 use crate::layout::*;
+use crate::made::{begin_carving, begin_free, begin_group, describe, descriptor, mark, mark_all, unit};
 use crate::random::Random;
-use crate::report::{cache, request, Report, CHAINS, HANDS, WHOLE};
+use crate::report::{cache, request, Report, CHAINS, HANDS};
 use crate::report_refusals::fresh;
 use crate::report_trial;
 
@@ -30,6 +32,9 @@ const COUNTED: [(usize, usize, u64); 8] = [
     (OTHER, CHAINS, 2),
 ];
 
+/// All regions stand on the list of the spare ones, too.
+const KEPT_BY: [Keeper; 6] = [in_hand(32), in_hand(512), in_hand(1024), spare(), spare(), spare()];
+
 type Change = fn(&mut Bytes);
 const UNCOUNTED: [(&str, Change); 11] = [
     ("a cached block of a region that is open in another class", |bytes| cached_too(bytes, 1)),
@@ -49,11 +54,14 @@ const UNCOUNTED: [(&str, Change); 11] = [
 
 pub fn round(seed: u64, checks: &mut Checks) {
     let mut random = Random::new(seed ^ 0x0F0A_11ED);
-    let _ = shows("regions that are open in the class are added up", &made(), &COUNTED, &mut random, checks);
+    let mut shows = |name: &str, bytes: &Bytes, numbers: &[_], kept_by: &[Keeper]| {
+        let _ = shows(name, bytes, numbers, kept_by, &mut random, checks);
+    };
+    shows("regions that are open in the class are added up", &made(), &COUNTED, &KEPT_BY);
     for (name, change) in UNCOUNTED {
         let mut bytes = made();
         change(&mut bytes);
-        let _ = shows(&format!("counted nowhere: {name}"), &bytes, &COUNTED, &mut random, checks);
+        shows(&format!("counted nowhere: {name}"), &bytes, &COUNTED, &KEPT_BY);
     }
     let mut bytes = made();
     mark_all(&mut bytes, EMPTIED);
@@ -62,19 +70,24 @@ pub fn round(seed: u64, checks: &mut Checks) {
     describe(&mut bytes, EMPTIED, LARGE, 1, 7);
     let opened = [(LARGE, HANDS, 22), (LARGE, cache(5), 4), (LARGE, request(6), 10), (LARGE, CHAINS, 15)];
     let numbers = [&COUNTED[..], &opened].concat();
-    let _ = shows("blocks of the same region are counted where it is open", &bytes, &numbers, &mut random, checks);
+    let mut kept_by = KEPT_BY;
+    kept_by[EMPTIED as usize] = in_hand(EMPTIED * UNITS_PER_REGION);
+    shows("blocks of the same region are counted where it is open", &bytes, &numbers, &kept_by);
 }
 
-/// The form has these numbers, of two for a class and holder the last, and else zeros.
+/// The form has these numbers, of two for a class and holder the last, and else zeros; and these keep the regions.
 fn shows(
     name: &str,
     bytes: &Bytes,
     numbers: &[(usize, usize, u64)],
+    kept_by: &[Keeper],
     random: &mut Random,
     checks: &mut Checks,
 ) -> Result<(), Parted> {
-    let [_, (_, form)] = report_trial::both(bytes, WHOLE, random, checks)?;
-    checks.hold(&Report::Form.check(name), form == row_of(numbers), || format!("{numbers:?} are due"))
+    let [_, (_, form), (_, keepers)] = report_trial::all_whole(bytes, random, checks)?;
+    checks.hold(&Report::Form.check(name), form == row_of(numbers), || format!("{numbers:?} are due"))?;
+    let same = keepers == keepers::row_of(kept_by);
+    checks.hold(&Report::Keepers.check(name), same, || format!("{kept_by:?} are due"))
 }
 
 fn made() -> Bytes {
@@ -94,15 +107,8 @@ fn made() -> Bytes {
     link_cache(&mut bytes, (4, OTHER), &[unit(OTHER, 1, 3)]);
     begin_free(&mut bytes, 3, OTHER, unit(OTHER, 1, 4));
     // Task 7 returns four blocks of region 2 and frees one of region 0.
-    begin_free(&mut bytes, 7, LARGE, unit(LARGE, 0, 8));
-    for (column, value) in [(TASK_PLACE, 30), (GROUP_COUNT, 4), (TASK_REGION, 2)] {
-        set(&mut bytes.control, column, 7, value);
-    }
+    begin_group(&mut bytes, 7, (LARGE, 2, 4), unit(LARGE, 0, 8));
     bytes
-}
-
-fn unit(class: usize, region: u64, block: u64) -> u64 {
-    region * UNITS_PER_REGION + block * units(class)
 }
 
 /// The cache of task 5 in the large class: blocks of two open regions.
@@ -115,37 +121,7 @@ fn cached_too(bytes: &mut Bytes, region: u64) {
     link_cache(bytes, (5, LARGE), &[&[unit(LARGE, region, 1)][..], &cached()].concat());
 }
 
-fn descriptor(region: u64) -> usize {
-    60 - region as usize
-}
-
-/// Gives the region a descriptor that names it back, with a chain of so many blocks.
-fn describe(bytes: &mut Bytes, region: u64, class: usize, state: u64, chain: u64) {
-    let (control, index) = (&mut bytes.control, descriptor(region));
-    set(control, MAP, region as usize, index as u64 + 1);
-    set(control, DESCRIPTOR_REGION, index, region);
-    set(control, DESCRIPTOR_CLASS, index, class as u64);
-    set(control, ANCHOR, index, anchor(state, 0, chain));
-}
-
-fn mark(bytes: &mut Bytes, unit: u64) {
-    let word = get(&bytes.control, MARKS, unit as usize / 64) | 1 << (unit % 64);
-    set(&mut bytes.control, MARKS, unit as usize / 64, word);
-}
-
-fn mark_all(bytes: &mut Bytes, region: u64) {
-    (0..UNITS_PER_REGION).for_each(|unit| mark(bytes, region * UNITS_PER_REGION + unit));
-}
-
 /// Lets task 6 have ten blocks of the region to carve.
 fn carve(bytes: &mut Bytes, region: u64) {
-    for (column, value) in [(TASK_PLACE, 27), (TASK_CLASS, LARGE as u64), (TASK_INDEX, 6), (TASK_REGION, region)] {
-        set(&mut bytes.control, column, 6, value);
-    }
-}
-
-fn begin_free(bytes: &mut Bytes, task: usize, class: usize, unit: u64) {
-    for (column, value) in [(TASK_PLACE, 28), (TASK_CLASS, class as u64), (TASK_UNIT, unit)] {
-        set(&mut bytes.control, column, task, value);
-    }
+    begin_carving(bytes, 6, (LARGE, region, 10));
 }

@@ -1,6 +1,6 @@
-//! The seven functions of the library, called with numbers and the three memories as the firmware in C calls them.
+//! The eight functions of the library, called with numbers and the three memories as the firmware in C calls them.
 
-use crate::memory::{Memory, Side};
+use crate::memory::{within_time, Memory, Side};
 use crate::pool::{Answer, Request};
 use crate::report::Report;
 use crate::tamper;
@@ -54,27 +54,27 @@ unsafe extern "C" {
         strips_length: u64,
         task: u64,
     ) -> u64;
-    fn pool_sheet(
-        control: *const u8,
-        control_length: u64,
-        area: *const u8,
-        area_length: u64,
-        strips: *const u8,
-        strips_length: u64,
-        sheet: *mut u8,
-        sheet_length: u64,
-    ) -> u64;
-    fn pool_holders(
-        control: *const u8,
-        control_length: u64,
-        area: *const u8,
-        area_length: u64,
-        strips: *const u8,
-        strips_length: u64,
-        form: *mut u8,
-        form_length: u64,
-    ) -> u64;
 }
+
+/// The reports are called alike.
+macro_rules! reports {
+    ($($name:ident)*) => {
+        unsafe extern "C" {
+            $(fn $name(
+                control: *const u8,
+                control_length: u64,
+                area: *const u8,
+                area_length: u64,
+                strips: *const u8,
+                strips_length: u64,
+                row: *mut u8,
+                row_length: u64,
+            ) -> u64;)*
+        }
+    };
+}
+
+reports! { pool_sheet pool_holders pool_keepers }
 
 /// The three memories that a call is lent.
 pub struct Lent {
@@ -130,8 +130,10 @@ pub fn true_report(report: Report, lent: &Lent, row: &mut Memory) -> Answer {
     let called = match report {
         Report::Sheet => pool_sheet,
         Report::Form => pool_holders,
+        Report::Keepers => pool_keepers,
     };
+    let (r, r_length) = (row.pointer(), row.len() as u64);
     // SAFETY: the three memories and the row are lent for the call with their true lengths.
-    let answer = unsafe { called(c, c_length, a, a_length, s, s_length, row.pointer(), row.len() as u64) };
+    let answer = within_time(|| unsafe { called(c, c_length, a, a_length, s, s_length, r, r_length) });
     (answer % 256, answer / 256)
 }

@@ -20,6 +20,11 @@ mod fourteen_leaving;
 mod fourteen_strips;
 mod frames;
 mod holders;
+mod keepers;
+mod keepers_coverage;
+mod keepers_directed;
+mod keepers_made;
+mod keepers_ranges;
 mod layout;
 mod leave_coverage;
 mod leave_directed;
@@ -27,6 +32,7 @@ mod leave_steps;
 mod leaving;
 mod library;
 mod lists;
+mod made;
 mod memory;
 mod odd_calls;
 mod pieces;
@@ -42,6 +48,7 @@ mod report_cases;
 mod report_checks;
 mod report_coverage;
 mod report_fourteen;
+mod report_keepers_cases;
 mod report_refusals;
 mod report_shared_cases;
 mod report_sums;
@@ -63,17 +70,20 @@ mod structure;
 mod styles;
 mod table;
 mod tamper;
+mod tamper_keepers;
 mod tamper_report;
 mod unread;
 mod users;
+mod written;
 
-use checks::{Checks, Parted};
+use checks::Checks;
 use coverage::Coverage;
 use driver::Driver;
 use faults::Fault;
 use schedules::Schedule;
 use std::time::{Duration, Instant};
 use styles::STYLES;
+use written::WRITTEN;
 
 /// What the arguments ask for. Without `--seconds` the amount of work is fixed.
 struct Options {
@@ -89,44 +99,6 @@ struct Options {
 const FIXED_ROUNDS: u64 = 16;
 /// One in this many rounds tries what the reports refuse, which is mostly the same each time.
 const REFUSALS_EVERY: u64 = 8;
-type Directed = fn(&mut Driver) -> Result<(), Parted>;
-const DIRECTED: [Directed; 35] = [
-    directed::first_allocations,
-    directed::bench_refusals,
-    directed::every_size,
-    directed::each_class,
-    directed::no_descriptor,
-    directed::transfers_in_turn,
-    directed::tags_that_wrap,
-    directed::same_item_again,
-    collisions::same_region_again,
-    collisions::descriptor_moves_on,
-    collisions::same_first_block_again,
-    strips_directed::first_strips,
-    strips_directed::every_order,
-    strips_directed::all_slots,
-    strips_directed::units_of_strips,
-    strips_directed::lengths,
-    leave_directed::steps_of_leaving,
-    leave_directed::classes_in_order,
-    leave_directed::two_at_once,
-    leave_directed::all_at_once,
-    leave_directed::after_a_strip,
-    leave_directed::refusals_of_leaving,
-    leave_directed::no_descriptor_by_leaving,
-    sheet_directed::first_block,
-    sheet_directed::carving,
-    sheet_directed::chain_on_the_way,
-    sheet_directed::group_and_block,
-    sheet_directed::leaving_half_way,
-    sheet_directed::strips_are_on_no_sheet,
-    sheet_directed::sixteen_regions,
-    form_directed::first_block,
-    form_directed::two_regions,
-    form_directed::each_task,
-    form_directed::several_classes,
-    form_directed::large_numbers,
-];
 
 fn usage() -> ! {
     eprintln!("usage: outside [--seed N] [--seconds N] [--stand PROGRAM] [--stored FOLDER]");
@@ -171,19 +143,19 @@ fn options() -> Options {
 
 /// How many schedules a round has: every written one, then every style.
 fn schedules_of_a_round() -> usize {
-    DIRECTED.len() + STYLES.len()
+    WRITTEN.len() + STYLES.len()
 }
 
 /// One schedule on a fresh driver. A schedule ends at its first failure, which the checks keep.
 fn schedule(options: &Options, round: u64, index: usize, checks: &mut Checks, coverage: &mut Coverage) {
     let seed = options.seed.wrapping_mul(1_000_003).wrapping_add(round * 64 + index as u64);
-    let style = index.checked_sub(DIRECTED.len()).map(|index| &STYLES[index]);
+    let style = index.checked_sub(WRITTEN.len()).map(|index| &STYLES[index]);
     checks.context =
         format!("round {round}, {}", style.map_or(format!("written schedule {index}"), |style| style.name.into()));
     let mut driver = Driver::new(1 + seed % pool::REGIONS as u64, seed, options.fault, checks, coverage);
     let _ = match style {
         Some(style) => Schedule::new(&mut driver, style).run(),
-        None => DIRECTED[index](&mut driver),
+        None => WRITTEN[index](&mut driver),
     };
 }
 
@@ -217,6 +189,7 @@ fn memories(options: &Options, round: u64, checks: &mut Checks, reached: &mut Re
     if round % REFUSALS_EVERY == 0 {
         report_refusals::round(seed, checks);
         form_uncounted::round(seed, checks);
+        keepers_made::round(seed, checks);
     }
     report_arbitrary::round(seed, checks, &mut reached.reports);
 }

@@ -1,19 +1,23 @@
 //! Memories lent to the library. Each lies between two pages that may be neither read nor written, so that an access
 //! outside it ends the program at once.
 
-use std::ffi::{c_int, c_void};
+use std::ffi::{c_int, c_uint, c_void};
 
 const PAGE: usize = 4096;
 const READ: c_int = 1;
 const WRITE: c_int = 2;
 const PRIVATE_ANONYMOUS: c_int = 0x22;
 const SLACK: u8 = 0xA5;
+const ALARM: c_int = 14;
+/// A report takes some microseconds.
+const LONGEST: c_uint = 60;
 
 unsafe extern "C" {
     fn mmap(at: *mut c_void, length: usize, protection: c_int, flags: c_int, file: c_int, offset: i64) -> *mut c_void;
     fn mprotect(at: *mut c_void, length: usize, protection: c_int) -> c_int;
     fn munmap(at: *mut c_void, length: usize) -> c_int;
     fn signal(number: c_int, handler: usize) -> usize;
+    fn alarm(seconds: c_uint) -> c_uint;
     fn write(file: c_int, bytes: *const c_void, length: usize) -> isize;
     fn _exit(status: c_int) -> !;
 }
@@ -134,9 +138,12 @@ impl Drop for Memory {
     }
 }
 
-/// Ends the program with a line of counts where the library touches memory that was not lent.
-extern "C" fn on_fault(_number: c_int) {
-    let line = b"\nFAILED: a call of the library faulted\n0 passed, 1 failed\n";
+/// Ends the program with a line of counts where the library touches memory that was not lent, or does not end.
+extern "C" fn on_fault(number: c_int) {
+    let line: &[u8] = match number {
+        ALARM => b"\nFAILED: a call of the library does not end\n0 passed, 1 failed\n",
+        _ => b"\nFAILED: a call of the library faulted\n0 passed, 1 failed\n",
+    };
     // SAFETY: both functions may be called from a handler.
     unsafe {
         write(1, line.as_ptr() as *const c_void, line.len());
@@ -144,9 +151,20 @@ extern "C" fn on_fault(_number: c_int) {
     }
 }
 
-/// Sets the handler for illegal instructions, aborts, bus errors, arithmetic faults and accesses outside memory.
+/// Makes a call that has to end long before the alarm.
+pub fn within_time<T>(call: impl FnOnce() -> T) -> T {
+    // SAFETY: an alarm changes no memory; its handler only writes a line and ends the program.
+    unsafe { alarm(LONGEST) };
+    let answer = call();
+    // SAFETY: the same.
+    unsafe { alarm(0) };
+    answer
+}
+
+/// Sets the handler for illegal instructions, aborts, bus errors, arithmetic faults, accesses outside memory and calls
+/// that do not end.
 pub fn catch_faults() {
-    for number in [4, 6, 7, 8, 11] {
+    for number in [4, 6, 7, 8, 11, ALARM] {
         // SAFETY: the handler only writes a line and ends the program.
         unsafe { signal(number, on_fault as *const () as usize) };
     }

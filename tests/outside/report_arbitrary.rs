@@ -4,12 +4,12 @@
 use crate::arbitrary::odd_lengths;
 use crate::checks::Checks;
 use crate::classes::{per_region, units, CLASSES, UNITS_PER_REGION};
-use crate::damage::{self, link_cache, Bytes};
+use crate::damage::{self, link_cache, link_regions, Bytes};
 use crate::fitting;
 use crate::layout::*;
 use crate::pool::{self, ALL_UNITS};
 use crate::random::Random;
-use crate::report::REPORTS;
+use crate::report::{whole, REPORTS};
 use crate::report_trial;
 
 const TRIALS: u64 = 800;
@@ -30,7 +30,7 @@ impl Counts {
             for (name, codes) in SOURCES.iter().zip(sources) {
                 let told: Vec<String> =
                     (0..24).filter(|&code| codes[code] > 0).map(|code| format!("{code} x {}", codes[code])).collect();
-                println!("{}s of {name}, by code: {}", report.name(), told.join(", "));
+                println!("{}, of {name}, by code: {}", report.name(), told.join(", "));
             }
         }
     }
@@ -39,7 +39,7 @@ impl Counts {
         for (report, sources) in REPORTS.iter().zip(&self.codes) {
             for (source, codes) in CODES.iter().enumerate() {
                 let all = codes.iter().all(|&code| sources[source][code] > 0);
-                let name = format!("covered: each code of a {} of {}", report.name(), SOURCES[source]);
+                let name = format!("covered: {}, each code for {}", report.name(), SOURCES[source]);
                 let _ = checks.hold(&name, all, || "see the counts".to_string());
             }
         }
@@ -63,9 +63,9 @@ pub fn round(seed: u64, checks: &mut Checks, counts: &mut Counts) {
             damage::damage(&mut bytes, &mut random);
         }
         odd_lengths(&mut bytes, &mut random);
-        let lengths = REPORTS.map(|report| any_length(report.bytes(), &mut random));
-        let Ok(both) = report_trial::both(&bytes, lengths, &mut random, checks) else { continue };
-        for (sources, (code, _)) in counts.codes.iter_mut().zip(both) {
+        let lengths = whole(bytes.regions()).map(|whole| any_length(whole, &mut random));
+        let Ok(all) = report_trial::all(&bytes, lengths, &mut random, checks) else { continue };
+        for (sources, (code, _)) in counts.codes.iter_mut().zip(all) {
             sources[source][code as usize] += 1;
         }
     }
@@ -73,11 +73,12 @@ pub fn round(seed: u64, checks: &mut Checks, counts: &mut Counts) {
 
 /// The length of a row of which the report takes so many bytes.
 fn any_length(whole: usize, random: &mut Random) -> usize {
-    random.pick(&[0, 1, 7, 8, whole - 8, whole - 1, whole, whole, whole, whole + 1, 4096, 8192])
+    let less = |bytes| whole.saturating_sub(bytes);
+    random.pick(&[0, 1, 7, 8, less(8), less(1), whole, whole, whole, whole + 1, 4096, 8192])
 }
 
 /// Memories that no run has left and whose reports are mostly given: every field that is read has a value that fits it,
-/// and the caches are rows of blocks, each block in one of them.
+/// the caches are rows of blocks, each block in one of them, and the list of the spare regions ends.
 fn fitting(random: &mut Random) -> Bytes {
     let mut bytes = fitting::fitting(random);
     let regions = get(&bytes.control, REGIONS, 0);
@@ -100,7 +101,20 @@ fn fitting(random: &mut Random) -> Bytes {
         let word = anchor(random.below(3), random.below(513), random.from_to(0, per_region(class)));
         set(&mut bytes.control, ANCHOR, descriptor, word);
     }
+    link_any_regions(&mut bytes, random);
     bytes
+}
+
+/// Puts the regions on the list of the spare ones in any order, all of them or some.
+fn link_any_regions(bytes: &mut Bytes, random: &mut Random) {
+    let mut regions: Vec<usize> = (0..bytes.regions()).collect();
+    for last in (1..regions.len()).rev() {
+        regions.swap(last, random.below(last as u64 + 1) as usize);
+    }
+    if random.one_in(2) {
+        regions.truncate(random.below(regions.len() as u64 + 1) as usize);
+    }
+    link_regions(bytes, &regions);
 }
 
 /// Gives the task a block of its class to free, or lets it leave.

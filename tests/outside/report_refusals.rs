@@ -52,7 +52,7 @@ impl Trial<'_> {
 
     /// The same for a row that just suffices.
     fn expect_whole(&mut self, name: &str, bytes: &Bytes, due: u64) -> Result<(), Parted> {
-        self.expect(name, bytes, self.report.bytes(), due)
+        self.expect(name, bytes, self.report.bytes(bytes.regions()), due)
     }
 
     /// Every choice of defects. Each is a value to set and the code that it brings, in the order of the tests.
@@ -63,6 +63,7 @@ impl Trial<'_> {
             let bit = |number: u64| choice / 9 >> number & 1 == 1;
             let (tasks, regions) = (TASKS_STORED[choice as usize % 3], REGIONS_STORED[choice as usize / 3 % 3]);
             let mut bytes = fresh(2);
+            let length = self.report.bytes(2) - usize::from(bit(4));
             set(&mut bytes.control, TASKS, 0, tasks.0);
             set(&mut bytes.control, REGIONS, 0, regions.0);
             if bit(3) {
@@ -77,7 +78,6 @@ impl Trial<'_> {
             if bit(2) {
                 bytes.strips -= 1;
             }
-            let length = self.report.bytes() - usize::from(bit(4));
             let of = |bit: bool, code: u64| if bit { code } else { 0 };
             let told =
                 [of(bit(0), 1), tasks.1, regions.1, of(bit(1), 2), of(bit(2), 2), of(bit(3), 14), of(bit(4), 23)];
@@ -87,14 +87,18 @@ impl Trial<'_> {
         Ok(())
     }
 
-    /// Lengths around the row's and others, on one side of a guard page or the other.
+    /// Every length up to the row's and some more, on one side of a guard page or the other, of a state in the middle
+    /// of a run and of a fresh pool for each number of regions.
     fn lengths_of_row(&mut self) -> Result<(), Parted> {
-        let (bytes, whole) = (damage::valid(&mut self.random), self.report.bytes());
-        let mut lengths = vec![0, 1, 2, 8, whole - 2, whole - 1, whole, whole + 1, whole + 2, 2 * whole, 65_536];
-        lengths.extend((0..8).map(|_| self.random.below(2 * whole as u64) as usize));
+        let valid = damage::valid(&mut self.random);
+        let most = if self.report == Report::Keepers { pool::REGIONS as u64 } else { 0 };
+        let fresh = (1..=most).map(fresh);
         let name = format!("a row of {} bytes or more is taken, a shorter one is 23", self.report.bytes_told());
-        for length in lengths {
-            self.expect(&name, &bytes, length, if length < whole { 23 } else { 20 })?;
+        for bytes in std::iter::once(valid).chain(fresh) {
+            let whole = self.report.bytes(bytes.regions());
+            for length in (0..whole + 10).chain([2 * whole, 65_536]) {
+                self.expect(&name, &bytes, length, if length < whole { 23 } else { 20 })?;
+            }
         }
         Ok(())
     }

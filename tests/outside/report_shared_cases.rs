@@ -5,10 +5,7 @@ use crate::damage::Bytes;
 use crate::fourteen_cases::put;
 use crate::layout::*;
 use crate::pool;
-use crate::report_cases::{bad, good, ReportCase};
-
-/// These are tried where a task is idle, started or not.
-const IDLE: &[usize] = &[0];
+use crate::report_cases::{bad, good, moved, ReportCase, IDLE};
 
 pub const SHARED_CASES: &[ReportCase] = &[
     bad("an empty cache with a top", IDLE, |bytes, task, _| empty_top(bytes, task, 0)),
@@ -35,8 +32,8 @@ pub const SHARED_CASES: &[ReportCase] = &[
     }),
     bad("a map entry past the descriptors", IDLE, |bytes, _, _| put(bytes, MAP, 0, 65)),
     bad("a map entry of 255", IDLE, |bytes, _, _| put(bytes, MAP, 0, 255)),
-    good("a map entry of the last descriptor", IDLE, |bytes, _, _| put(bytes, MAP, 0, 64)),
-    good("no map entry", IDLE, |bytes, _, _| put(bytes, MAP, 0, 0)),
+    moved("a map entry of the last descriptor", IDLE, |bytes, _, _| put(bytes, MAP, 0, 64)),
+    moved("no map entry", IDLE, |bytes, _, _| put(bytes, MAP, 0, 0)),
     good("any map entry past the area", IDLE, |bytes, _, _| {
         let regions = get(&bytes.control, REGIONS, 0) as usize;
         regions < pool::REGIONS && put(bytes, MAP, regions, 255)
@@ -45,7 +42,7 @@ pub const SHARED_CASES: &[ReportCase] = &[
         let regions = get(&bytes.control, REGIONS, 0);
         named(bytes).is_some_and(|descriptor| put(bytes, DESCRIPTOR_REGION, descriptor, regions))
     }),
-    good("a descriptor that names another region, with any anchor and class", IDLE, |bytes, _, _| {
+    moved("a descriptor that names another region, with any anchor and class", IDLE, |bytes, _, _| {
         let elsewhere = if get(&bytes.control, REGIONS, 0) > 1 { named_first(bytes) } else { None };
         elsewhere.is_some_and(|descriptor| {
             put(bytes, DESCRIPTOR_REGION, descriptor, 1)
@@ -54,7 +51,7 @@ pub const SHARED_CASES: &[ReportCase] = &[
                 && put(bytes, DESCRIPTOR_CLASS, descriptor, 255)
         })
     }),
-    good("any class of an EMPTY descriptor", IDLE, |bytes, _, _| {
+    moved("any class of an EMPTY descriptor", IDLE, |bytes, _, _| {
         with_anchor(bytes, 0, 512, 512) && of_named(bytes, DESCRIPTOR_CLASS, 255)
     }),
     bad("an EMPTY anchor with an avail of 513", IDLE, |bytes, _, _| with_anchor(bytes, 0, 513, 0)),
@@ -70,7 +67,7 @@ pub const SHARED_CASES: &[ReportCase] = &[
     bad("class 255 of an open region", IDLE, |bytes, _, _| {
         opened(bytes).is_some() && of_named(bytes, DESCRIPTOR_CLASS, 255)
     }),
-    good("the last class of an open region", IDLE, |bytes, _, _| {
+    moved("the last class of an open region", IDLE, |bytes, _, _| {
         with_anchor(bytes, 1, 0, 16) && of_named(bytes, DESCRIPTOR_CLASS, CLASSES as u64 - 1)
     }),
     bad("the last class of an open region with a chain of 17", IDLE, |bytes, _, _| {

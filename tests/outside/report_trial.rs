@@ -1,5 +1,5 @@
 //! Calls of a report on memories of its own, beside guard pages: they may only be read, the strips' memory not even
-//! that. The answer and every byte of the row are checked, and both reports of the same memories against each other.
+//! that. The answer and every byte of the row are checked, and the reports of the same memories against each other.
 
 use crate::checks::{Checks, Parted};
 use crate::damage::Bytes;
@@ -7,7 +7,7 @@ use crate::library::{self, Lent};
 use crate::memory::{Memory, Side};
 use crate::pool::Answer;
 use crate::random::Random;
-use crate::report::{Report, REPORTS};
+use crate::report::{whole, Report, REPORTS};
 use crate::report_bytes;
 use crate::report_sums;
 use crate::tamper_report;
@@ -18,6 +18,8 @@ const REFUSED: &str = "a refused call changes no byte of the row";
 const KEPT: &str = "no byte of the three memories changes, and none beside them";
 const TOGETHER: &str = "form of any memories: it is refused as the sheet is, but for the length of the row";
 const COLUMNS: &str = "form of any memories: its numbers add up to the columns of the sheet";
+const REFUSED_TOO: &str = "keepers of any memories: where the sheet is refused by 1, 2, 4 or 14 they are, too";
+const KINDS: &str = "keepers of any memories: each kind goes with the four numbers of the region on the sheet";
 
 /// What a call left.
 struct Made {
@@ -43,17 +45,33 @@ pub fn call(
     make(report, bytes, length, random).compared(bytes, checks)
 }
 
-/// Both reports of the same memories, the sheet first, with rows of these lengths. They are held against each other
+/// All reports of the same memories, in their order, with rows of these lengths. They are held against each other
 /// before each is held against what is due.
-pub fn both(bytes: &Bytes, lengths: [usize; 2], random: &mut Random, checks: &mut Checks) -> Result<[Told; 2], Parted> {
-    let [sheet, form] = [0, 1].map(|index| make(REPORTS[index], bytes, lengths[index], random));
+pub fn all(
+    bytes: &Bytes,
+    lengths: [usize; REPORTS.len()],
+    random: &mut Random,
+    checks: &mut Checks,
+) -> Result<[Told; REPORTS.len()], Parted> {
+    let [sheet, form, keepers] = REPORTS.map(|report| make(report, bytes, lengths[report as usize], random));
     let codes = (sheet.answer.0, form.answer.0);
     let together = codes.0 == codes.1 || matches!(codes, (20 | 23, 20 | 23));
     checks.hold(TOGETHER, together, || format!("{codes:?}"))?;
-    if sheet.is_given() && form.is_given() {
+    let codes = (sheet.answer.0, keepers.answer.0);
+    let refused_too = codes.0 == codes.1 || matches!(codes, (20 | 23, 14 | 20 | 23));
+    checks.hold(REFUSED_TOO, refused_too, || format!("{codes:?}"))?;
+    if sheet.is_given(bytes) && form.is_given(bytes) {
         checks.agree(COLUMNS, report_sums::same_columns(&sheet.row, &form.row))?;
     }
-    Ok([sheet.compared(bytes, checks)?, form.compared(bytes, checks)?])
+    if sheet.is_given(bytes) && keepers.is_given(bytes) {
+        checks.agree(KINDS, report_sums::same_kinds(&sheet.row, keepers.given(bytes)))?;
+    }
+    Ok([sheet.compared(bytes, checks)?, form.compared(bytes, checks)?, keepers.compared(bytes, checks)?])
+}
+
+/// The same with rows that just suffice.
+pub fn all_whole(bytes: &Bytes, random: &mut Random, checks: &mut Checks) -> Result<[Told; REPORTS.len()], Parted> {
+    all(bytes, whole(bytes.regions()), random, checks)
 }
 
 fn make(report: Report, bytes: &Bytes, length: usize, random: &mut Random) -> Made {
@@ -79,8 +97,13 @@ fn read_only(report: Report, lent: &mut Lent, row: &mut Memory) -> Answer {
 }
 
 impl Made {
-    fn is_given(&self) -> bool {
-        self.answer.0 == 20 && self.row.len() >= self.report.bytes()
+    fn is_given(&self, bytes: &Bytes) -> bool {
+        self.answer.0 == 20 && self.row.len() >= self.report.bytes(bytes.regions())
+    }
+
+    /// The bytes of the row that are the report's.
+    fn given(&self, bytes: &Bytes) -> &[u8] {
+        &self.row[..self.report.bytes(bytes.regions())]
     }
 
     /// Holds it against what is due.

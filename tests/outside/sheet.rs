@@ -48,6 +48,14 @@ pub fn row(open: &[OpenRegion]) -> Vec<u8> {
 
 /// The four numbers of a class, added up over its regions.
 pub fn columns(row: &[u8], class: usize) -> Four {
-    let fours = (0..REGIONS).map(|region| four(row, class, region));
+    added_up((0..REGIONS).map(|region| four(row, class, region)))
+}
+
+/// The four numbers of a region in the class in which it is open.
+pub fn of_region(row: &[u8], region: usize) -> Four {
+    added_up((0..CLASSES).map(|class| four(row, class, region)))
+}
+
+fn added_up(fours: impl Iterator<Item = Four>) -> Four {
     fours.fold([0; 4], |sums, four| std::array::from_fn(|column| sums[column] + four[column]))
 }

@@ -6,14 +6,13 @@ use crate::directed::{allocate, free, start, steps_to_the_end};
 use crate::driver::Driver;
 use crate::pool::{Request, REGIONS, TASKS};
 use crate::report::Report;
-use crate::report_checks::written;
 use crate::sheet::{row_of, Four};
 use crate::strips::FIRST_UNIT;
 
 /// The sheet shows these numbers and else zeros.
 fn shows(driver: &mut Driver, name: &str, numbers: &[(usize, usize, Four)]) -> Result<(), Parted> {
     driver.compare_reports()?;
-    let same = written(&driver.rows, Report::Sheet) == row_of(numbers);
+    let same = driver.written(Report::Sheet) == row_of(numbers);
     driver.checks.hold(&Report::Sheet.check(name), same, || format!("{numbers:?} are due"))
 }
 

@@ -1,7 +1,7 @@
 //! The stored schedules of the stand, NAME.hex in hexadecimal with comments and NAME.in as bytes, and their tables
-//! NAME.out: the plain pool has to print them, too. A file NAME.sheet is the stock sheet after the last record, and
-//! NAME.holders the form by holder. All were worked out from the paper or come from another model, so that this holds
-//! the plain pool against both.
+//! NAME.out: the plain pool has to print them, too. A file NAME.sheet is the stock sheet after the last record,
+//! NAME.holders the form by holder, and NAME.keepers the regions' keepers. All were worked out from the paper or come
+//! from another model, so that this holds the plain pool against both.
 
 use crate::checks::Checks;
 use crate::holders;
@@ -47,9 +47,11 @@ fn compare_report(report: Report, path: &Path, schedule: &[u8], checks: &mut Che
     let kind = match report {
         Report::Sheet => "sheet",
         Report::Form => "holders",
+        Report::Keepers => "keepers",
     };
     let Ok(due) = std::fs::read_to_string(path.with_extension(kind)) else { return false };
-    let same = hexadecimal(&holders::row(report, &stand::pool_after(schedule))) == due;
+    let row = holders::row(report, &stand::pool_after(schedule));
+    let same = row.is_some_and(|row| hexadecimal(&row) == due);
     let name = format!("stand: the plain pool has the stored {} after the schedule", report.name());
     let _ = checks.hold(&name, same, || format!("{}", path.display()));
     true

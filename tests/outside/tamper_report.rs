@@ -4,16 +4,19 @@
 use crate::classes::{CLASSES, UNITS_PER_REGION};
 use crate::faults::Fault;
 use crate::form;
+use crate::keepers;
 use crate::layout::{View, DESCRIPTOR_CLASS, MAP};
 use crate::library::Lent;
 use crate::memory::Memory;
 use crate::pool::{Answer, REGIONS, TASKS};
-use crate::report::{cache, number, put_numbers, Report, HANDS, HOLDERS};
+use crate::report::{cache, number, put_numbers, Report, HANDS, HOLDERS, REPORTS};
 use crate::report_bytes::in_hand;
 use crate::sheet;
 use crate::tamper::{flip, TAMPERING};
+use crate::tamper_keepers::{each_unit, high_first};
 
-/// What a broken library does alike to either report.
+/// What a broken library does alike to each report.
+#[derive(Clone, Copy)]
 enum Deed {
     Marks,
     WritesControl,
@@ -27,25 +30,27 @@ enum Deed {
     HighFirst,
 }
 
+/// The deeds, with the fault of each report.
+const DEEDS: [(Deed, [Fault; REPORTS.len()]); 10] = [
+    (Deed::Marks, [Fault::SheetMarks, Fault::FormMarks, Fault::KeepersMarks]),
+    (Deed::WritesControl, [Fault::SheetWritesControl, Fault::FormWritesControl, Fault::KeepersWritesControl]),
+    (Deed::WritesArea, [Fault::SheetWritesArea, Fault::FormWritesArea, Fault::KeepersWritesArea]),
+    (Deed::RefusedRow, [Fault::SheetRefusedRow, Fault::FormRefusedRow, Fault::KeepersRefusedRow]),
+    (Deed::Further, [Fault::SheetFurther, Fault::FormFurther, Fault::KeepersFurther]),
+    (Deed::ShortPassed, [Fault::SheetShortPassed, Fault::FormShortPassed, Fault::KeepersShortPassed]),
+    (Deed::LongRefused, [Fault::SheetLongRefused, Fault::FormLongRefused, Fault::KeepersLongRefused]),
+    (Deed::DamagePassed, [Fault::SheetDamagePassed, Fault::FormDamagePassed, Fault::KeepersDamagePassed]),
+    (Deed::ShortFirst, [Fault::SheetShortFirst, Fault::FormShortFirst, Fault::KeepersShortFirst]),
+    (Deed::HighFirst, [Fault::SheetHighFirst, Fault::FormHighFirst, Fault::KeepersHighFirst]),
+];
+
 fn deed(report: Report, fault: Fault) -> Option<Deed> {
-    Some(match (report, fault) {
-        (Report::Sheet, Fault::SheetMarks) | (Report::Form, Fault::FormMarks) => Deed::Marks,
-        (Report::Sheet, Fault::SheetWritesControl) | (Report::Form, Fault::FormWritesControl) => Deed::WritesControl,
-        (Report::Sheet, Fault::SheetWritesArea) | (Report::Form, Fault::FormWritesArea) => Deed::WritesArea,
-        (Report::Sheet, Fault::SheetRefusedRow) | (Report::Form, Fault::FormRefusedRow) => Deed::RefusedRow,
-        (Report::Sheet, Fault::SheetFurther) | (Report::Form, Fault::FormFurther) => Deed::Further,
-        (Report::Sheet, Fault::SheetShortPassed) | (Report::Form, Fault::FormShortPassed) => Deed::ShortPassed,
-        (Report::Sheet, Fault::SheetLongRefused) | (Report::Form, Fault::FormLongRefused) => Deed::LongRefused,
-        (Report::Sheet, Fault::SheetDamagePassed) | (Report::Form, Fault::FormDamagePassed) => Deed::DamagePassed,
-        (Report::Sheet, Fault::SheetShortFirst) | (Report::Form, Fault::FormShortFirst) => Deed::ShortFirst,
-        (Report::Sheet, Fault::SheetHighFirst) | (Report::Form, Fault::FormHighFirst) => Deed::HighFirst,
-        _ => return None,
-    })
+    DEEDS.iter().find(|(_, faults)| faults[report as usize] == fault).map(|(deed, _)| *deed)
 }
 
 pub fn after(report: Report, lent: &mut Lent, row: &mut Memory, answer: Answer) -> Answer {
     let Some(&fault) = TAMPERING.get() else { return answer };
-    let (done, whole) = (answer.0 == 20, report.bytes());
+    let (done, whole) = (answer.0 == 20, report.bytes(lent.area.len() / 4096));
     if done {
         change_row(report, fault, lent, row);
     }
@@ -59,6 +64,7 @@ pub fn after(report: Report, lent: &mut Lent, row: &mut Memory, answer: Answer) 
         Some(Deed::LongRefused) if done && row.len() > whole => return (23, 0),
         Some(Deed::DamagePassed) if answer.0 == 14 && row.len() >= whole => return (20, 0),
         Some(Deed::ShortFirst) if answer.0 == 14 && row.len() < whole => return (23, 0),
+        Some(Deed::HighFirst) if done && report == Report::Keepers => each_unit(row, whole, high_first),
         Some(Deed::HighFirst) if done => each_number(row, whole, |number| number.swap(0, 1)),
         _ => (),
     }
@@ -67,7 +73,7 @@ pub fn after(report: Report, lent: &mut Lent, row: &mut Memory, answer: Answer) 
 
 /// The faults of the numbers of one report alone.
 fn change_row(report: Report, fault: Fault, lent: &Lent, row: &mut Memory) {
-    let whole = report.bytes();
+    let whole = report.bytes(lent.area.len() / 4096);
     match (report, fault) {
         (Report::Sheet, Fault::SheetByRegion) => by_region(row),
         (Report::Form, Fault::FormByHolder) => by_holder(row),
@@ -75,6 +81,7 @@ fn change_row(report: Report, fault: Fault, lent: &Lent, row: &mut Memory) {
         (Report::Form, Fault::FormHighByte) => each_number(row, whole, |number| number[0] = 0),
         (Report::Form, Fault::FormClosedMarks) => count_closed_marks(lent, row),
         (Report::Form, Fault::FormAllCached) => count_all_cached(lent, row),
+        (Report::Keepers, Fault::KeepersOfRegion) => each_unit(row, whole, |unit| unit % UNITS_PER_REGION),
         _ => (),
     }
 }
@@ -103,27 +110,31 @@ fn add(row: &mut Memory, first: usize, more: u64) {
     put_numbers(row.bytes_mut(), first, &[sum]);
 }
 
-/// The byte at which the blocks in hand of a class and region are counted.
-fn hands_of(report: Report, class: usize, region: usize) -> usize {
-    match report {
-        Report::Sheet => sheet::place(class, region),
-        Report::Form => form::place(class) + 2 * HANDS,
-    }
+/// How many blocks of the class and region are in hand.
+fn held(lent: &Lent, class: usize, region: usize) -> u64 {
+    in_hand(&view(lent), class, region).len() as u64
 }
 
-/// Counts every mark of an open region, also those outside the first units of its blocks.
+/// Takes every mark of an open region for a block in hand, also those outside the first units of its blocks.
 fn count_all_marks(report: Report, lent: &Lent, row: &mut Memory) {
     for (region, class, _) in classes(lent).filter(|&(_, _, open)| open) {
-        let first = region * UNITS_PER_REGION as usize;
-        let marks = (first..first + UNITS_PER_REGION as usize).filter(|&unit| view(lent).mark(unit)).count() as u64;
-        add(row, hands_of(report, class, region), marks - in_hand(&view(lent), class, region));
+        let first = region as u64 * UNITS_PER_REGION;
+        let marked: Vec<u64> =
+            (first..first + UNITS_PER_REGION).filter(|&unit| view(lent).mark(unit as usize)).collect();
+        let more = marked.len() as u64 - held(lent, class, region);
+        match (report, marked.first()) {
+            (Report::Sheet, _) => add(row, sheet::place(class, region), more),
+            (Report::Form, _) => add(row, form::place(class) + 2 * HANDS, more),
+            (Report::Keepers, Some(&unit)) => keepers::put(row.bytes_mut(), region, keepers::in_hand(unit)),
+            _ => (),
+        }
     }
 }
 
 /// Counts the marks of regions that are not open, too, in the class of their descriptor.
 fn count_closed_marks(lent: &Lent, row: &mut Memory) {
     for (region, class, _) in classes(lent).filter(|&(_, _, open)| !open) {
-        add(row, hands_of(Report::Form, class, region), in_hand(&view(lent), class, region));
+        add(row, form::place(class) + 2 * HANDS, held(lent, class, region));
     }
 }
 

@@ -19,6 +19,7 @@ CHECKS = [
     ("the README's schedules give its tables", examples.on_the_stand),
     ("the README's sheets are those of its examples", examples.sheets),
     ("the README's forms by holder are those of its examples", examples.forms),
+    ("the README's keepers are those of its examples", examples.keepers),
     ('definitions and statements are quoted as they stand', examples.quoted),
     ('links lead to files and headings', references.links),
     ('paths in backticks exist', references.paths),

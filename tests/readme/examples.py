@@ -78,6 +78,10 @@ def forms():
     return reported('holders')
 
 
+def keepers():
+    return reported('keepers')
+
+
 def quoted():
     """A block ```antt is parts of the sources as they stand there, with empty lines between."""
     sources = [read(path) for path in glob.glob('crates/*/*/*.antt')]

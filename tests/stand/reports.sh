@@ -1,18 +1,35 @@
-# Sourced by tests/stand/run, behind text.sh and files.sh: the programs of the reports, and ./stand with the option of
-# each. The same is tried for each report; as_NAME sets what differs: the words for it, its vectors, the example that
-# the help shows, how many numbers a line has and how many lines a class, and how the table looks, with the lines of the
-# vector leaving-half-way.
+# Sourced by tests/stand/run, behind text.sh and files.sh: the reports and their programs. The same is tried for each
+# report, here, in report_tables.sh and in report_trees.sh. as_NAME sets what differs: the words for it; the bytes of
+# its row, and the number of codes before it; its vectors, of these one whose last record is a run, and the row before
+# that record; the example that the help shows; and how the table looks, with the lines of one vector, and the schedule
+# of that vector as text.
+reports=(sheet holders keepers)
+
+# The vector leaving-half-way as text.
+leaving=('start 1 3' 'allocate 0 256' 'run 0 65535' 'allocate 0 128' 'run 0 65535' 'allocate 0 64' 'run 0 65535'
+    'leave 0 # half way' 'run 0 80')
+
+# For the sheet and the form: a line has so many numbers, and each of 13 classes so many lines.
+lines_of_numbers() {
+    columns=$1
+    lines_of_class=$2
+    row_bytes=$((2 * 13 * columns * lines_of_class))
+    codes=1
+    last_run=first-block
+    before_run=/dev/null
+    filled=numbered
+}
 
 as_sheet() {
-    report=sheet
     title='the sheet'
+    lines_of_numbers 4 16
     vectors=tests/stand/W-202
     example=examples/leak
-    columns=4
-    lines_of_class=16
     layout='%5d %6d %8d %10d %14d %9d %7d\n'
     heading=('block region  in hand  in caches  with requests  in chain  blocks')
-    half_way=(
+    shown_vector=leaving-half-way
+    shown_text=("${leaving[@]}")
+    shown_lines=(
         '   64      2        1          0              0        63      64'
         '  128      1        1         21             10         0      32'
         '  256      0        1         15              0         0      16'
@@ -20,218 +37,126 @@ as_sheet() {
 }
 
 as_holders() {
-    report=holders
     title='the form by holder'
+    lines_of_numbers 18 1
     vectors=tests/stand/W-206
     example=examples/fleet
-    columns=18
-    lines_of_class=1
     layout='%5d %8d  %3d %3d %3d %3d %3d %3d %3d %3d   %3d %3d %3d %3d %3d %3d %3d %3d %10d %7d\n'
     heading=(
         '                in caches, by task                with requests, by task'
         'block  in hand    0   1   2   3   4   5   6   7     0   1   2   3   4   5   6   7  in chains  blocks'
     )
-    half_way=(
+    shown_vector=leaving-half-way
+    shown_text=("${leaving[@]}")
+    shown_lines=(
         '   64        1    0   0   0   0   0   0   0   0     0   0   0   0   0   0   0   0         63      64'
         '  128        1   21   0   0   0   0   0   0   0    10   0   0   0   0   0   0   0          0      32'
         '  256        1   15   0   0   0   0   0   0   0     0   0   0   0   0   0   0   0          0      16'
     )
 }
 
-# The bytes of the report's row, for 13 classes.
-row_bytes() {
-    echo $((2 * 13 * columns * lines_of_class))
+as_keepers() {
+    title='the table of keepers'
+    row_bytes=16
+    codes=2
+    vectors=tests/stand/W-205
+    last_run=block-in-hand
+    before_run=$vectors/$last_run.keepers
+    filled=kept
+    example=examples/greedy
+    heading=('region  kept by')
+    shown_vector=four-regions-four-reasons
+    shown_text=('start 5 4' 'allocate 1 256' 'run 1 65535' 'allocate 2 224' 'run 2 65535' 'free 2 988' 'run 2 65535'
+        'allocate 3 192' 'run 3 9' 'allocate 4 160' 'run 4 65535' 'free 4 2016' 'run 4 65535' 'leave 4' 'run 4 32'
+        'allocate 0 8' 'run 0 6 # the list is empty' 'run 4 65535' 'run 0 65535')
+    shown_lines=(
+        '     0  a user: the block at unit 480 is in hand'
+        '     1  task 2: the block at unit 512 is in its cache'
+        '     2  task 3: its running request has blocks of the region, or the region itself'
+        '     3  the list of spare regions: the region came back after the request had read the list empty'
+    )
 }
 
-# ---- the program ----
-
-# Bytes in hexadecimal, 32 a line.
-hexadecimal() {
-    od -An -v -tx1 -w32 | tr -d ' '
-}
-
-# What the program writes for standard input: the code, and the row in hexadecimal.
+# What the program writes for standard input: the codes, and the row in hexadecimal, 32 bytes a line.
 row() {
     "target/bin/stand_$report" >"$out/row"
-    od -An -v -tu1 -N 1 "$out/row" | tr -d ' '
-    tail -c +2 "$out/row" | hexadecimal
+    echo $(od -An -v -tu1 -N "$codes" "$out/row")
+    tail -c +$((codes + 1)) "$out/row" | od -An -v -tx1 -w32 | tr -d ' '
 }
 
-# The same where the code is given, and all is zero.
-zero_row() {
-    echo "$1"
-    head -c "$(row_bytes)" /dev/zero | hexadecimal
+# What it is to write: the code of the last record, which not every program writes, that of the report's answer, and the
+# row in a file, with zeros behind it up to the bytes of the row.
+due_row() {
+    if [ "$codes" -eq 2 ]; then echo "$1 $2"; else echo "$2"; fi
+    { tr -d '\n' <"$3" && head -c $((2 * row_bytes)) /dev/zero | tr '\0' 0; } | head -c $((2 * row_bytes)) | fold -w 64
+    echo
 }
 
+# The vectors of the keepers end with 13.
 rows_of_vectors() {
     local schedule
     for schedule in "$vectors"/*.in; do
         row <"$schedule" >"$out/wrote"
-        { echo 20 && cat "${schedule%.in}.$report"; } >"$out/due"
+        due_row 13 20 "${schedule%.in}.$report" >"$out/due"
         compare "$schedule"
     done
 }
 
 program_without_start() {
-    zero_row 4 >"$out/due"
     row </dev/null >"$out/wrote"
+    due_row 0 4 /dev/null >"$out/due"
     compare "$title of an empty input"
     printf '\x04\x00\x01\x01' | row >"$out/wrote"
+    due_row 15 4 /dev/null >"$out/due"
     compare "$title where the only start is cut"
     printf '\x01\x01\x05\x01\x00\x01\x01\x09\x01' | row >"$out/wrote"
+    due_row 3 4 /dev/null >"$out/due"
     compare "$title where every start is refused"
 }
 
 # A bad record ends the schedule: the report is that of the records before it.
 program_on_bad_records() {
-    local first=$vectors/first-block
-    { echo 20 && cat "$first.$report"; } >"$out/due"
-    { cat "$first.in" && printf '\x03\x00\xe0'; } | row >"$out/wrote"
+    local vector=$vectors/$last_run
+    { cat "$vector.in" && printf '\x03\x00\xe0'; } | row >"$out/wrote"
+    due_row 15 20 "$vector.$report" >"$out/due"
     compare "$title where the last record is cut"
-    { cat "$first.in" && printf '\x07\x01\x01\x01'; } | row >"$out/wrote"
+    { cat "$vector.in" && printf '\x07\x01\x01\x01'; } | row >"$out/wrote"
     compare "$title where a start stands behind an unknown kind"
-    { cat "$first.in" && printf '\x01\x09\x01'; } | row >"$out/wrote"
+    { cat "$vector.in" && printf '\x01\x09\x01'; } | row >"$out/wrote"
+    due_row 3 20 "$vector.$report" >"$out/due"
     compare "$title behind a refused start"
-    { head -c 5 "$first.in" && sleep 0.2 && tail -c +6 "$first.in"; } | row >"$out/wrote"
+    { head -c 5 "$vector.in" && sleep 0.2 && tail -c +6 "$vector.in"; } | row >"$out/wrote"
+    due_row 13 20 "$vector.$report" >"$out/due"
     compare "$title of an input in two pieces"
 }
 
-# The row of a schedule that opens its region by its last record, behind steps of so many bytes.
+# The row of a schedule whose last record is the vector's last run, behind steps that make it so many bytes longer than
+# 65,536.
 long_row() {
-    local first=$vectors/first-block.in
-    { printf '\x01\x01\x01'; head -c 3 "$first"; steps "$1"; tail -c +4 "$first"; } | row
+    local schedule=$vectors/$last_run.in
+    local others=$((3 + $(wc -c <"$schedule")))
+    { printf '\x01\x01\x01'; head -c 3 "$schedule"; steps $((65536 - others + $1)); tail -c +4 "$schedule"; } | row
 }
 
-# Of 65,536 bytes the last record is played. One that reaches past them is not: then the region is not opened yet.
+# Of 65,536 bytes the last record is played. One that reaches past them is not.
 program_on_long_input() {
-    { echo 20 && cat "$vectors/first-block.$report"; } >"$out/due"
-    long_row 65522 >"$out/wrote"
+    due_row 13 20 "$vectors/$last_run.$report" >"$out/due"
+    long_row 0 >"$out/wrote"
     compare "$title of 65,536 bytes"
-    zero_row 20 >"$out/due"
-    long_row 65524 >"$out/wrote"
+    due_row 15 20 "$before_run" >"$out/due"
+    long_row 2 >"$out/wrote"
     compare "$title of 65,536 bytes whose last record reaches past them"
 }
 
-# ---- ./stand with the report's option ----
-
-examples() {
-    local path
-    for path in examples/*."$report"; do
-        ./stand "--$report" "${path%.*}.txt" >"$out/wrote" 2>&1
-        cp "$path" "$out/due"
-        compare "$path"
-    done
-    sed -n "\|$example.txt, read|,/^\$/p" tools/stand/help.txt | sed -e '/^$/d' -e 's/^  //' >"$out/wrote"
-    cp "$example.$report" "$out/due"
-    compare "the help's example of $title"
-}
-
-tables_of_bytes() {
-    cp "$vectors/leaving-half-way.in" "$out/leaving"
-    printf '%s\n' "${heading[@]}" "${half_way[@]}" 'status 0' >"$out/due"
-    tried ./stand "--$report" "$out/leaving"
-    compare "$title of a file of records"
-    tried ./stand "$out/leaving" "--$report"
-    compare "$title, the option behind the file"
-    tried ./stand "--$report" "--$report" "$out/leaving"
-    compare "$title, the option given twice"
-    tried ./stand "--$report" <"$out/leaving"
-    compare "$title of records on standard input"
-    tried ./stand "--$report" - <"$out/leaving"
-    compare "$title, the same by the name -"
-    tried ./stand "--$report" <(cat "$out/leaving")
-    compare "$title of records through a pipe with a name"
-    tried ./stand "--$report" -- "$out/leaving"
-    compare "$title of a file of records behind --"
-    tried ./stand "--$report" tests/stand/W-202/fresh-pool.in
-    answers "$title without a line" "${heading[@]}" 'no region is open' 'status 0'
-}
-
-# The schedule of tables_of_bytes as text.
-tables_of_text() {
-    printf '%s\n' 'start 1 3' 'allocate 0 256' 'run 0 65535' 'allocate 0 128' 'run 0 65535' 'allocate 0 64' \
-        'run 0 65535' 'leave 0 # half way' 'run 0 80' >"$out/leaving.txt"
-    local table=("${heading[@]}" "${half_way[@]}" 'status 0')
-    tried ./stand "--$report" "$out/leaving.txt"
-    answers "$title of a file of text" "$out/leaving.txt, read as text" "${table[@]}"
-    tried ./stand --text "--$report" "$out/leaving.txt"
-    compare "$title, the same with --text"
-    tried ./stand "--$report" --text <"$out/leaving.txt"
-    answers "$title of text on standard input" 'standard input, read as text' "${table[@]}"
-}
-
-# Input that is refused, as for the table of answers.
-refused_input() {
-    tried ./stand "--$report" "$out/no such file"
-    answers "$title of a missing file" "stand: there is no file $out/no such file" 'status 2'
-    tried ./stand "--$report" "$out"
-    answers "$title of a directory" "stand: $out is a directory" 'status 2'
-    tried ./stand "--$report" "$out/leaving" "$out/leaving"
-    answers "$title of two files" "stand: one FILE at most, not 2; $hint" 'status 2'
-    tried ./stand "--${report}s" "$out/leaving"
-    answers "an option that begins like the one for $title" "stand: no option --${report}s; $hint" 'status 2'
-    tried ./stand "--$report" --text < <(printf 'start 1 1\nstep\n')
-    answers "$title of wrong text" 'stand: line 2: expected step TASK, a task 0 to 255; found step' 'status 2'
-    tried ./stand "--$report" --text "$out/leaving"
-    answers "$title of records forced to be text" 'stand: line 1: not text; found the byte 1' 'status 2'
-    tried ./stand "--$report" "$out/fuller"
-    answers "$title of a file of more than 65,536 bytes" \
-        "stand: $out/fuller has 65556 bytes; those behind the first 65,536 are not read" \
-        "${heading[@]}" 'no region is open' 'status 0'
-}
-
-# Without an accepted start there is no pool.
-no_pool() {
-    local said='has no accepted start, so there is no pool to show'
-    local as_bytes='; it was played as bytes, for text give --text'
-    printf 'start 1 5\nstep 0\n' >"$out/no-pool.txt"
-    tried ./stand "--$report" "$out/no-pool.txt"
-    answers "$title of text without an accepted start" "stand: $out/no-pool.txt $said" 'status 2'
-    printf '\x01\x01\x05' >"$out/no-pool"
-    tried ./stand "--$report" "$out/no-pool"
-    answers "$title of records without an accepted start" "stand: $out/no-pool $said" 'status 2'
-    : >"$out/nothing"
-    tried ./stand "--$report" "$out/nothing"
-    answers "$title of an empty file" "stand: $out/nothing $said" 'status 2'
-    tried timeout 10 ./stand "--$report" <&-
-    answers "$title of a closed standard input" "stand: standard input $said$as_bytes" 'status 2'
-    tried ./stand "--$report" <"$out/leaving.txt"
-    answers "$title of text on standard input without --text" "stand: standard input $said$as_bytes" 'status 2'
-}
-
-# Every awk that is there shows the same table. The folder and the words for them are those of text.sh.
-same_with_every_awk() {
-    local awk
-    : >"$out/wrote" && : >"$out/due"
-    for awk in mawk gawk 'busybox awk' original-awk; do
-        command -v "${awk% *}" >/dev/null || continue
-        printf '#!/bin/sh\nexec %s "$@"\n' "$awk" >"$out/awk/awk"
-        PATH=$PWD/$out/awk:$PATH ./stand "--$report" "$example.txt" >>"$out/wrote" 2>&1
-        cat "$example.$report" >>"$out/due"
-    done
-    compare "$title is the same with${awks:- no awk}"
-}
-
-for each in as_sheet as_holders; do
-    "$each"
+for report in "${reports[@]}"; do
+    "as_$report"
     rows_of_vectors
     program_without_start
     program_on_bad_records
     program_on_long_input
-    examples
-    tables_of_bytes
-    tables_of_text
-    refused_input
-    no_pool
-    same_with_every_awk
 done
 
-# ---- both reports ----
-
-tried ./stand --sheet --holders "$out/leaving"
-answers 'the sheet and the form at once' "stand: one report at most, --sheet or --holders; $hint" 'status 2'
-tried ./stand --holders --text --sheet <"$out/leaving.txt"
-answers 'the form and the sheet at once' "stand: one report at most, --holders or --sheet; $hint" 'status 2'
+# ---- what the reports say together ----
 
 # The code of a report, and four sums for each class: in hand, in caches, with requests, in chains. A class has 64
 # numbers on the sheet, four for each region, and 18 on the form.
@@ -246,10 +171,36 @@ sums() {
         END { for (i = 0; i < 52; i++) printf " %d", sum[int(i / 4), i % 4]; print "" }'
 }
 
-: >"$out/wrote" && : >"$out/due"
+# A line for each region whose keeper is not of the kind that the sheet tells: 1 where it counts blocks in hand, else 2
+# where it counts blocks in caches, else 3 where it counts some with requests. Of other regions it tells no kind: they
+# are not open, or not in the area.
+other_kinds() {
+    {
+        target/bin/stand_sheet <"$out/schedule" | tail -c +2
+        target/bin/stand_keepers <"$out/schedule" | tail -c +3
+    } | od -An -v -tu1 -w1 | awk -v schedule="$1" '
+        NR <= 1664 { i = int((NR - 1) / 2); blocks[int(i / 4) % 16, i % 4] += $1; next }
+        NR % 4 == 1 { kind[int((NR - 1665) / 4)] = $1 }
+        END {
+            for (region = 0; region < 4; region++) {
+                due = "0, 3 or 4"
+                for (column = 2; column >= 0; column--)
+                    if (blocks[region, column] > 0)
+                        due = column + 1
+                if (index(due, kind[region] + 0) == 0)
+                    print schedule, "region " region ": the kind is " kind[region] ", by the sheet " due
+            }
+        }'
+}
+
+: >"$out/sums of the form" && : >"$out/sums of the sheet" && : >"$out/other kinds"
 for schedule in tests/stand/*.hex tests/stand/W-*/*.in; do
     bytes "$schedule" >"$out/schedule"
-    echo "$schedule $(sums holders 18)" >>"$out/wrote"
-    echo "$schedule $(sums sheet 64)" >>"$out/due"
+    echo "$schedule $(sums holders 18)" >>"$out/sums of the form"
+    echo "$schedule $(sums sheet 64)" >>"$out/sums of the sheet"
+    other_kinds "$schedule" >>"$out/other kinds"
 done
+cp "$out/sums of the form" "$out/wrote" && cp "$out/sums of the sheet" "$out/due"
 compare 'the form adds up the sheet, after every schedule here'
+cp "$out/other kinds" "$out/wrote" && : >"$out/due"
+compare 'the keepers are of the kinds that the sheet tells, after every schedule here'

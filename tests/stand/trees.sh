@@ -146,11 +146,11 @@ make_fake 'cat >/dev/null; echo record kind code value
 yes 'step 0' 2>/dev/null | head -n 22 >"$tree/codes.txt"
 there "$tree/codes.txt" 2>&1 |
     sed -n 's/^ *[0-9]* *4 *\([0-9]*\) *0  \(.*[^ ]\)  *[0-9]*  step 0$/\1 \2/p' >"$out/wrote"
-answers 'the meaning of every code' '0 under way' '1 control not 8,192 bytes' '2 regions not 1 to 4' \
-    '3 tasks not 1 to 8' '4 not started' '5 no such task' '6 request in hand' '7 no request in hand' '8 size 0' \
-    '9 size above 65,536' '10 no block or strip there' "11 not in a user's hands" '12 no descriptor' '13 no region' \
-    '14 damaged memory' '15 unknown kind or cut record' '16 no strip' '17 unknown code' '18 unknown code' \
-    '19 unknown code' '20 finished' '21 unknown code'
+meanings=('1 control not 8,192 bytes' '2 regions not 1 to 4' '3 tasks not 1 to 8' '4 not started' '5 no such task'
+    '6 request in hand' '7 no request in hand' '8 size 0' '9 size above 65,536' '10 no block or strip there'
+    "11 not in a user's hands" '12 no descriptor' '13 no region' '14 damaged memory' '15 unknown kind or cut record'
+    '16 no strip' '17 unknown code' '18 unknown code' '19 unknown code' '20 finished' '21 unknown code')
+answers 'the meaning of every code' '0 under way' "${meanings[@]}"
 
 # ---- a table that is not taken, or cannot be written ----
 

@@ -53,7 +53,7 @@ list-read {nx} (suc n) (links {u = u} {r = r} e l) h =
     ap (listFrom nx (suc n)) e ∙ ap (λ (z : List ℕ). u ∷ z) (list-read n l (omega arith))
 
 -- a row of different numbers below n has no more than n
-short : (n : ℕ) (q : List ℕ) → ((v : ℕ) → count v q ≤ below v n) → length q ≤ n
+pub short : (n : ℕ) (q : List ℕ) → ((v : ℕ) → count v q ≤ below v n) → length q ≤ n
 short n q h = omega (arith, pigeonhole q (rising n 0) (λ v. omega (arith, h v, rising-count n v)), length-rising n 0)
 
 more : {l n : ℕ} → l ≤ n → l ≤ suc n

@@ -11,3 +11,4 @@ pub mod Demands
 pub mod TaskLeaves
 pub mod StockSheet
 pub mod SheetByHolder
+pub mod RegionKeepers

@@ -19,7 +19,7 @@ use Rattle.report_requests.specs.UnderWay.{requestBlocks, inRequest, requestsIn
 use Rattle.report_requests.proofs.RequestBounds.{request-bounded, request-max}
 use Rattle.report_regions.specs.Opened.{regionsInRange}
 use Rattle.report_regions.specs.OpenClasses.{openClass, openChain}
-use Rattle.report_regions.proofs.ChainBound.{chain-most}
+use Rattle.report_regions.proofs.OpenBounds.{chain-most}
 use Rattle.sheet.specs.Sheet.{sheetInRange}
 use Rattle.holders.specs.Form.{FIRST-CACHE, FIRST-REQUEST, CHAINS, HOLDERS, classLine, formNumber}
 use Rattle.holders.proofs.Bounds.{hand-most}

@@ -82,20 +82,20 @@ module _ (lent : Lengths) (v : View) (inRange : Bool) (numbers row : List ℕ) (
 
 -- ---- on memories
 
-module _ (inRange : View → (ℕ → ℕ) → ℕ → Bool) (n : ℕ) (number : View → (ℕ → ℕ) → ℕ → ℕ → ℕ) (s : Memories)
+module _ (inRange : View → (ℕ → ℕ) → ℕ → Bool) (number : View → (ℕ → ℕ) → ℕ → ℕ → ℕ) (s : Memories)
     (row : List ℕ) (r : ℕ) (T : TestsAre (lengths (lending s)) (seen (s .control)) 0 r) where
   -- the tests refuse the report
-  pub on-refused : r ≢ 0 → Answers (reportOn inRange n number s row) row r
+  pub on-refused : (n : ℕ) → r ≢ 0 → Answers (reportOn inRange n number s row) row r
   unfolding reportOn
-  on-refused d = report-refused _ _ _ _ row r T d
+  on-refused n d = report-refused _ _ _ _ row r T d
 
-  -- the tests pass, and the report is that of the started regions
-  pub on-answers : (regions : ℕ) → r ≡ 0 → regions ≡ seen (s .control) Regions → {k : ℕ} {row′ : List ℕ}
+  -- the tests pass, and the report is that of the started regions, which may tell how many numbers it has
+  pub on-answers : (n : ℕ → ℕ) (regions : ℕ) → r ≡ 0 → regions ≡ seen (s .control) Regions → {k : ℕ} {row′ : List ℕ}
       → Answers (answered (inRange (seen (s .control)) (link (s .area)) regions)
-      (numbersTo n (number (seen (s .control)) (link (s .area)) regions)) row) row′ k
-      → Answers (reportOn inRange n number s row) row′ k
+      (numbersTo (n regions) (number (seen (s .control)) (link (s .area)) regions)) row) row′ k
+      → Answers (reportOn inRange (n (seen (s .control) Regions)) number s row) row′ k
   unfolding reportOn
-  on-answers regions e f A = report-answers _ _ _ _ row r T e (rw f at A)
+  on-answers n regions e f A = report-answers _ _ _ _ row r T e (rw f at A)
 
 -- where the tests pass, its work is given the control memory, the started regions and their area
 pub given-report : (c a : List ℕ) (strips r : ℕ)

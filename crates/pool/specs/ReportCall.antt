@@ -5,6 +5,7 @@ use Prim.Native.Nat.{ℕ}
 use Rattle.reports.specs.Reports.{Answers}
 use Rattle.sheet.specs.Sheet.{sheetOf}
 use Rattle.holders.specs.Form.{formOf}
+use Rattle.keepers.specs.Keepers.{keepersOf}
 
 -- What pool_sheet ensures: lent the bytes `control`, `area` and `strips`, and the row `sheet`, it answers r and leaves
 -- `sheet′`, as the definition of the sheet says. The three memories are lent to be read, so that it cannot change them.
@@ -17,3 +18,9 @@ SheetEnsures control area strips sheet sheet′ r =
 abbrev pub HoldersEnsures : (control area strips form form′ : List ℕ) → ℕ → Type 0
 HoldersEnsures control area strips form form′ r =
     Answers (formOf (record { control = control; area = area; strips = strips }) form) form′ r
+
+-- What pool_keepers ensures, lent the same and the row `keepers`: it answers r and leaves `keepers′`, as the definition
+-- of the region's keepers says.
+abbrev pub KeepersEnsures : (control area strips keepers keepers′ : List ℕ) → ℕ → Type 0
+KeepersEnsures control area strips keepers keepers′ r =
+    Answers (keepersOf (record { control = control; area = area; strips = strips }) keepers) keepers′ r

@@ -14,7 +14,7 @@ ghost use Rattle.plain.specs.Calls.{step as stepped};
 ghost use Rattle.control.specs.Layout.{seen};
 ghost use Rattle.begins.specs.TestNumber.{TestsAre};
 ghost use Rattle.pool.specs.Call.{Ensures};
-ghost use Rattle.pool.specs.ReportCall.{SheetEnsures, HoldersEnsures};
+ghost use Rattle.pool.specs.ReportCall.{SheetEnsures, HoldersEnsures, KeepersEnsures};
 
 // Begins a new run with so many tasks, on any bytes: it fills the control memory, and leaves the others as they are.
 #[no_mangle]
@@ -158,4 +158,23 @@ pub extern "C" fn pool_holders(control: &[u8], area: &[u8], strips: &[u8], form:
     }
     let regions = started::regions(control) as usize;
     holders::write(control, area, regions, form)
+}
+
+// The region's keepers: who keeps each region of the area, in the lent row. It changes nothing else.
+#[no_mangle]
+pub extern "C" fn pool_keepers(
+    control: &[u8],
+    area: &[u8],
+    strips: &[u8],
+    keepers: &mut [u8],
+) -> u64
+    ensures { λ r. ⌜ KeepersEnsures (now (control .entry)) (now (area .entry)) (now (strips .entry))
+        (now (keepers .entry)) (now (keepers .exit)) r ⌝ }
+{
+    let refused = report_tests(control, area, strips);
+    if refused != 0 {
+        return refused as u64;
+    }
+    let regions = started::regions(control) as usize;
+    keepers::write(control, area, regions, keepers)
 }

@@ -22,13 +22,17 @@ bit-set zero l = refl
 bit-set (suc zero) l = refl
 bit-set (suc (suc x)) l = absurd (omega arith)
 
--- the marks of a region of the area tell which of its blocks are in users' hands, whether the region is open or not
-pub hands-told : {regions : ℕ} {m : Mem} (v : View) (area : List ℕ) → regions ≤ REGIONS
-    → Related regions (contentsOf v area) m → (r c : ℕ) → r < regions
-    → blocksInHand v r c ≡ blocksThere (timesInHand m) r c
-unfolding blocksInHand
-hands-told {m = m} v area small R r c l =
-    passing-same (perRegion c) (λ i. isMarked v (unitOf r c i)) (λ i. leb 1 (m .hands (unitOf r c i))) (λ i k.
-    let u = unitOf r c i in
-    bit-set (markOf v u) (omega arith)
-    ∙ ap (leb 1) (R .core .entries .marks u (unit-below (block-at r c i k) (omega arith))))
+module _ {regions : ℕ} {m : Mem} (v : View) (area : List ℕ) (small : regions ≤ REGIONS)
+    (R : Related regions (contentsOf v area) m) (r c : ℕ) (inside : r < regions) where
+  -- the mark of a block tells whether it is in a user's hands, whether its region is open or not
+  pub mark-told : (i : ℕ) → i < perRegion c → isMarked v (unitOf r c i) ≡ leb 1 (timesInHand m (unitOf r c i))
+  mark-told i k =
+      let u = unitOf r c i in
+      bit-set (markOf v u) (omega arith)
+      ∙ ap (leb 1) (R .core .entries .marks u (unit-below (block-at r c i k) (omega arith)))
+
+  -- so the marks of a region tell how many of its blocks are
+  pub hands-told : blocksInHand v r c ≡ blocksThere (timesInHand m) r c
+  unfolding blocksInHand
+  hands-told =
+      passing-same (perRegion c) (λ i. isMarked v (unitOf r c i)) (λ i. leb 1 (timesInHand m (unitOf r c i))) mark-told

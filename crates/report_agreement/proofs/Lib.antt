@@ -15,3 +15,12 @@ pub mod NoneLeftOut
 pub mod FormNumbers
 pub mod FormOfRuns
 pub mod FormAddsUp
+pub mod KeptBlocks
+pub mod HandsKept
+pub mod CachesKept
+pub mod RequestsKept
+pub mod RegionsHeld
+pub mod SparesKept
+pub mod SomeKeeper
+pub mod KeepersNamed
+pub mod KeepersOfRuns

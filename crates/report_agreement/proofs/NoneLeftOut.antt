@@ -28,13 +28,13 @@ use Rattle.report_agreement.proofs.SheetAddsUp.{has-home, under-home}
 
 module _ {regions : ℕ} {m : Mem} (I : Invariant regions m) where
   -- the region of a block that has a home is one of the area's,
-  region-inside : {c v : ℕ} → Home m c v → regionOf v < regions
+  pub region-inside : {c v : ℕ} → Home m c v → regionOf v < regions
   region-inside {v = v} H =
       rw (← (H .region))
       (region-below I {v = v} (record { d = H .d; fits = H .fits; counts = H .counts; block = H .block }))
 
   -- and is open in the block's class
-  region-open : {c v : ℕ} → Home m c v → plainClass m (regionOf v) ≡ suc c
+  pub region-open : {c v : ℕ} → Home m c v → plainClass m (regionOf v) ≡ suc c
   region-open {v = v} H =
       let D = m .descriptor (H .d) in
       ap (λ (z : ℕ). plainClassBy z (regionOf v) m) (H .named)

@@ -53,7 +53,7 @@ module _ {regions : ℕ} {m : Mem} (I : Invariant regions m) where
 
 module _ {regions : ℕ} {m : Mem} (I : Invariant regions m) (r c : ℕ) (opened : plainClass m r ≡ suc c) where
   -- in this region the class is the region's
-  one-class : (e v : ℕ) → regionOf v ≡ r → Home m e v → e ≡ c
+  pub one-class : (e v : ℕ) → regionOf v ≡ r → Home m e v → e ≡ c
   one-class e v i H =
       let d = H .d in
       let n : m .map r ≡ suc d = subst (λ (x : ℕ). m .map x ≡ suc d) i (H .named) in
@@ -61,14 +61,14 @@ module _ {regions : ℕ} {m : Mem} (I : Invariant regions m) (r c : ℕ) (opened
       ∙ if-class (opens? (m .descriptor d) r) (m .descriptor d .class) c
       (ap (λ (z : ℕ). plainClassBy z r m) (sym n) ∙ opened)
 
-  home-block : (v : ℕ) → regionOf v ≡ r → Home m c v → BlockOf r c v
+  pub home-block : (v : ℕ) → regionOf v ≡ r → Home m c v → BlockOf r c v
   home-block v i H =
       subst (λ (x : ℕ). BlockOf x c v) (H .region ∙ i)
       (subst (λ (x : ℕ). BlockOf (m .descriptor (H .d) .region) x v) (H .class) (H .block))
 
   module _ (t : ℕ) (l : t < TASKS) where
     -- the caches of other classes do not have a block of this region
-    cache-only : (v : ℕ) → regionOf v ≡ r → c < CLASSES
+    pub cache-only : (v : ℕ) → regionOf v ≡ r → c < CLASSES
         → total CLASSES (rowWeight v) (m .task t .cache) ≡ count v (m .task t .cache c)
     cache-only v i k = total-only CLASSES (rowWeight v) (m .task t .cache) c k (λ e j d.
         elim (order? 0 (count v (m .task t .cache e))) [

@@ -3,3 +3,4 @@ pub mod Sums
 pub mod Whereabouts
 pub mod SheetTells
 pub mod FormTells
+pub mod KeepersTell

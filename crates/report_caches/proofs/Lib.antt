@@ -1,2 +1,3 @@
 -- Laws of caches that are walked and counted.
 pub mod Walking
+pub mod LowestBlocks

@@ -1,10 +1,11 @@
-// The blocks of the tasks' caches, counted by region. Each count, top and link is tested by its range.
-// Nothing here writes memory.
+// The blocks of the tasks' caches, counted by region; each count, top and link is tested by its range. And the lowest
+// block of a region in a cache that has passed these tests. Nothing here writes memory.
 use classes::geometry;
 use classes::table;
 use control::caches;
 use reports::counts::RegionCounts;
 ghost use mathlib.Core.Path.{_≡_};
+ghost use mathlib.Core.Bool.{true};
 ghost use Prim.Native.Nat.{_+_, _*_, _≤_, _<_};
 ghost use lib.ListN.{length, getD};
 ghost use Rattle.limits.specs.Limits.{REGIONS, REGION-BYTES, CLASSES};
@@ -14,7 +15,7 @@ ghost use Rattle.control.specs.Layout.{seen};
 ghost use Rattle.stepped.specs.Done.{GivenArea};
 ghost use Rattle.reports.specs.ByRegion.{inRegion, Counted, CanGrow};
 ghost use Rattle.report_caches.specs.CacheRows.{isCacheRow, rowFrom, cacheRow, isCache, cachesInRange};
-ghost use Rattle.report_caches.specs.CacheRows.{blocksInCaches};
+ghost use Rattle.report_caches.specs.CacheRows.{blocksInCaches, lowerOf, lowestCached};
 
 // The blocks of a cache of `count` blocks from its top down, each counted in its region. Caller: `cache`, which has
 // found the count at most n.
@@ -99,4 +100,43 @@ pub fn of_class(control: &[u8], area: &[u8], regions: usize, class: usize) -> Re
         fits: true,
         counts: counts,
     }
+}
+
+// The block at `unit`, where it lies in the region and below `low`; else `low`. Caller: `lowest`.
+fn lower(unit: usize, region: usize, low: usize) -> usize
+    ensures { λ r. ⌜ r ≡ lowerOf region unit low ⌝ }
+{
+    if geometry::region_of(unit) != region {
+        return low;
+    }
+    if unit < low {
+        return unit;
+    }
+    low
+}
+
+// The lowest block of a region in a task's cache of a class, by its unit; 8,192 where it has none there. Callers have
+// found the cache in its range: the keepers.
+pub fn lowest(
+    control: &[u8],
+    area: &[u8],
+    regions: usize,
+    task: usize,
+    class: usize,
+    region: usize,
+) -> u16
+    requires { ⌜ GivenArea (now control) (now area) regions task class
+        × (isCache (seen (now control)) (link (now area)) regions task class ≡ true) ⌝ }
+    ensures { λ r. ⌜ r
+        ≡ lowestCached (seen (now (control .entry))) (link (now (area .entry))) task class region ⌝ }
+{
+    let mut unit = caches::cache_top(control, task, class) as usize;
+    let mut left = caches::cache_count(control, task, class);
+    let mut low = limits::UNITS;
+    while 0 < left {
+        low = lower(unit, region, low);
+        unit = links::read(area, unit) as usize;
+        left -= 1;
+    }
+    low as u16
 }

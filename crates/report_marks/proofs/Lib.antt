@@ -2,3 +2,4 @@
 pub mod MaskedWords
 pub mod EveryMask
 pub mod RegionBlocks
+pub mod LowestHeld

@@ -49,7 +49,7 @@ both-set (suc zero) (suc (suc q)) h l = absurd (omega arith)
 both-set (suc (suc p)) q h l = absurd (omega arith)
 
 -- a bit of the `and` is set where it is set in both
-and-set : (w m j : ℕ) → isSet (bitAnd w m) j ≡ (isSet w j && isSet m j)
+pub and-set : (w m j : ℕ) → isSet (bitAnd w m) j ≡ (isSet w j && isSet m j)
 and-set w m j =
     ap (λ (x : ℕ). eqb (x % 2) 1) (and-shr w m j)
     ∙ ap (λ (x : ℕ). eqb x 1) (and-mod (w / 2 ^ j) (m / 2 ^ j) 1)

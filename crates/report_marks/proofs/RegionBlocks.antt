@@ -33,7 +33,7 @@ heldIn v r c d = passing d (firstMarked v r c)
 -- ---- a word more
 
 -- the marks of the region's word k are those of its 64 units from 64 × k on
-word-marked : (v : View) (r k j : ℕ) → j < WORD-MARKS
+pub word-marked : (v : View) (r k j : ℕ) → j < WORD-MARKS
     → isSet (v (Marks (REGION-WORDS * r + k))) j ≡ isMarked v (REGION-UNITS * r + (WORD-MARKS * k + j))
 word-marked v r k j l =
     let u = REGION-UNITS * r + (WORD-MARKS * k + j) in
@@ -57,13 +57,13 @@ word-more v r c k w m e mask =
 
 module _ (c : ℕ) where
   -- a block begins at every multiple of its units below n
-  at-block : (i : ℕ) → i < perRegion c → isFirst c (units c * i) ≡ true
+  pub at-block : (i : ℕ) → i < perRegion c → isFirst c (units c * i) ≡ true
   at-block i h =
       let e : unitOf 0 c i ≡ units c * i = omega arith in
       subst (λ (o : ℕ). isFirst c o ≡ true) e (block-first (block-at 0 c i h))
 
   -- a first unit is such a multiple
-  multiple : (o : ℕ) → isFirst c o ≡ true → o < REGION-UNITS → (i : ℕ) × (i < perRegion c) × (o ≡ units c * i)
+  pub multiple : (o : ℕ) → isFirst c o ≡ true → o < REGION-UNITS → (i : ℕ) × (i < perRegion c) × (o ≡ units c * i)
   multiple o e l = let b = first-block c o e in (b .at, b .below, omega (arith, b .is))
 
   -- no block begins inside another

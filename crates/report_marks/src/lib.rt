@@ -1,5 +1,6 @@
 // "Blocks in hand are counted from the marks": the ones of a region's eight mark words, each masked to the first units
-// of the class's blocks. Nothing here writes memory.
+// of the class's blocks. The lowest of these blocks is at the lowest set bit of the first such word that is not 0.
+// Nothing here writes memory.
 use classes::table;
 use control::regions;
 ghost use mathlib.Core.Path.{_≡_};
@@ -8,7 +9,7 @@ ghost use Rattle.limits.specs.Limits.{REGIONS, CLASSES, WORD-MARKS};
 ghost use Rattle.classes.specs.Classes.{units};
 ghost use Rattle.control.specs.Layout.{Control, seen};
 ghost use Rattle.report_marks.specs.Masks.{REGION-WORDS, everyBit, MaskOf};
-ghost use Rattle.report_marks.specs.InHand.{blocksInHand};
+ghost use Rattle.report_marks.specs.InHand.{blocksInHand, lowestInHand};
 
 const REGION_WORDS: usize = limits::REGION_UNITS / limits::WORD_MARKS;
 
@@ -37,7 +38,8 @@ fn pattern(class: usize) -> u64
 }
 
 // The first units of the class's blocks in one of a region's words: the pattern, from the first block that begins in
-// the word on, and in the last word without what is left over behind the last block. Caller: `in_hand`.
+// the word on, and in the last word without what is left over behind the last block. Callers: `in_hand` and
+// `lowest_in_hand`.
 fn mask(class: usize, word: usize) -> u64
     requires { ⌜ (class < CLASSES) × (word < REGION-WORDS) ⌝ }
     ensures { λ r. ⌜ MaskOf class word r ⌝ }
@@ -66,4 +68,23 @@ pub fn in_hand(control: &[u8], region: usize, class: usize) -> u16
         word += 1;
     }
     held
+}
+
+// The lowest unit of a block of the class in the region that is in users' hands; 8,192 where none is. Callers have a
+// region of the area and one of the classes: the keepers.
+pub fn lowest_in_hand(control: &[u8], region: usize, class: usize) -> u16
+    requires { ⌜ Control (now control) × (region < REGIONS) × (class < CLASSES) ⌝ }
+    ensures { λ r. ⌜ r ≡ lowestInHand (seen (now (control .entry))) region class ⌝ }
+{
+    let mut word: usize = 0;
+    while word < REGION_WORDS {
+        let marks = regions::marks(control, REGION_WORDS * region + word);
+        let held = marks & mask(class, word);
+        if held != 0 {
+            let bit = u64::trailing_zeros(held) as usize;
+            return (limits::REGION_UNITS * region + limits::WORD_MARKS * word + bit) as u16;
+        }
+        word += 1;
+    }
+    limits::UNITS as u16
 }

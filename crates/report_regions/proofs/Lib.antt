@@ -1,4 +1,5 @@
 -- Laws of what is read of a region.
 pub mod OpenWays
 pub mod ReadRegions
-pub mod ChainBound
+pub mod SpareWalks
+pub mod OpenBounds

@@ -3,3 +3,4 @@ pub mod PlaceTests
 pub mod RequestTests
 pub mod RequestBounds
 pub mod RequestsCounted
+pub mod OneRegionTests

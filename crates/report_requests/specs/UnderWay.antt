@@ -92,10 +92,13 @@ module _ (v : View) (regions t : ℕ) where
       let c = v (TaskClass t) in
       cond (isWithout p) noBlocks (cond (ltb p PLACES && ltb c CLASSES) (requestBlocksAt c p) outside)
 
+-- 1 if the block being freed, of the unit u, lies in the region r; 0 where it does not, or none is freed
+abbrev pub ownIn : ℕ → ℕ → ℕ
+ownIn r u = cond (eqb u UNITS) 0 (one r (regionOf u))
+
 -- how many of a request's blocks are of the class c and lie in the region r
 unfoldable pub inRequest : ℕ → ℕ → RequestBlocks → ℕ
-inRequest c r q =
-    when c (q .class) (when r (q .region) (q .blocks) + cond (eqb (q .own) UNITS) 0 (one r (regionOf (q .own))))
+inRequest c r q = when c (q .class) (when r (q .region) (q .blocks) + ownIn r (q .own))
 
 -- whether the requests of all eight tasks are in range, also of those that are not started, as the comparison reads
 -- them

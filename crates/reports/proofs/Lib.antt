@@ -1,5 +1,6 @@
 -- Laws of what the reports share.
 pub mod Passing
+pub mod FirstPassing
 pub mod ByRegion
 pub mod TasksCounted
 pub mod GivenFor

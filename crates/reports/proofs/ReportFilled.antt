@@ -2,10 +2,10 @@
 use mathlib.Core.Path.{_≡_, refl, sym, ap, _∙_}
 use mathlib.Core.Bool.{Bool, true, false, cond, _&&_}
 use mathlib.Core.List.{List}
-use Prim.Native.Nat.{ℕ, _+_, _*_, _≤_, _<_}
+use Prim.Native.Nat.{ℕ, _+_, _*_, _%_, _≤_, _<_}
 use native.Mathlib.Omega.{arith}
 use lib.Dec.{leb, eqb}
-use lib.ListN.{length}
+use lib.ListN.{length, getD}
 use borrow.Author.Tests.{le-leb, lt-leb, leb-true, eqb-true}
 use Rattle.limits.specs.Limits.{CONTROL-BYTES, TASKS, REGIONS}
 use Rattle.fields.specs.Little.{getLE}
@@ -18,7 +18,7 @@ use Rattle.stepped.specs.Ranges.{oneTo}
 use Rattle.stepped.specs.Calls.{isStartedLengths, lengths, lending}
 use Rattle.reports.specs.Rows.{BYTES-OF-NUMBER, withNumbers, numbersTo}
 use Rattle.reports.specs.Reports.{reportRefusal, answered, reportOf, reportOn}
-use Rattle.reports.proofs.Rows.{numbers-length, number-is, number-written}
+use Rattle.reports.proofs.Rows.{numbers-length, number-is, number-written, low-byte}
 
 -- ---- the tests 1, 4, 2
 
@@ -128,6 +128,18 @@ module _ (inRange : View → (ℕ → ℕ) → ℕ → Bool) (n : ℕ) (number :
             ap (λ (x : ℕ × List ℕ). getLE (x .1) (BYTES-OF-NUMBER * i) BYTES-OF-NUMBER) given
             ∙ ap (λ (at : ℕ). getLE (withNumbers 0 ns row) at BYTES-OF-NUMBER) from
             ∙ number-written 0 ns row i (omega (arith, long)) (omega (arith, count)) (omega (arith, is)) ∙ is
+
+        -- and the low byte of each is the first there
+        pub low-stands : (i : ℕ) → i < n
+            → getD (reportOn inRange n number s row .1) (BYTES-OF-NUMBER * i) 0 ≡ numbersOn i % 256
+        low-stands i below =
+            let ns = numbersTo n numbersOn in
+            let count = numbers-length n numbersOn in
+            let from : BYTES-OF-NUMBER * i ≡ 0 + BYTES-OF-NUMBER * i = omega arith in
+            ap (λ (x : ℕ × List ℕ). getD (x .1) (BYTES-OF-NUMBER * i) 0) given
+            ∙ ap (λ (at : ℕ). getD (withNumbers 0 ns row) at 0) from
+            ∙ low-byte 0 ns row i (omega (arith, long)) (omega (arith, count))
+            ∙ ap (λ (x : ℕ). x % 256) (number-is n numbersOn i below)
 
 -- ---- two reports that read the same
 

@@ -1,11 +1,12 @@
 -- The row that a report fills: the numbers that stand in it, and what is left of it.
 use mathlib.Core.Path.{_≡_, refl, ap, _∙_}
 use mathlib.Core.List.{List, [], _∷_, _++_}
-use Prim.Native.Nat.{ℕ, zero, suc, _+_, _*_, _≤_, _<_}
+use Prim.Native.Nat.{ℕ, zero, suc, _+_, _*_, _/_, _%_, _≤_, _<_}
 use native.Mathlib.Omega.{arith}
-use lib.ListN.{length, getD, drop}
+use lib.ListN.{length, getD, set, drop}
+use lib.Seq.{getD-set-same}
 use Rattle.fields.specs.Little.{getLE, setLE}
-use Rattle.fields.proofs.Little.{length-setLE, getLE-same}
+use Rattle.fields.proofs.Little.{length-setLE, getLE-same, getD-before}
 use Rattle.fields.proofs.Elsewhere.{getD-other, getLE-other}
 use Rattle.reports.specs.Rows.{BYTES-OF-NUMBER, withNumbers, numbersTo}
 
@@ -85,6 +86,31 @@ number-written at (n ∷ ns) row (suc i) h l small =
     rw e
     (number-written (at + BYTES-OF-NUMBER) ns (setLE row at BYTES-OF-NUMBER n) i
     (omega (arith, length-setLE row at BYTES-OF-NUMBER n)) (omega arith) small)
+
+-- the bytes in front of the first that is written are kept
+byte-before : (at : ℕ) (ns row : List ℕ) (i : ℕ) → i < at → getD (withNumbers at ns row) i 0 ≡ getD row i 0
+unfolding withNumbers
+byte-before at [] row i l = refl
+byte-before at (n ∷ ns) row i l =
+    byte-before (at + BYTES-OF-NUMBER) ns (setLE row at BYTES-OF-NUMBER n) i (omega arith)
+    ∙ getD-before row at BYTES-OF-NUMBER n i l
+
+-- the first byte of the number i is its low one
+pub low-byte : (at : ℕ) (ns row : List ℕ) (i : ℕ) → at + BYTES-OF-NUMBER * length ns ≤ length row → i < length ns
+    → getD (withNumbers at ns row) (at + BYTES-OF-NUMBER * i) 0 ≡ getD ns i 0 % 256
+unfolding withNumbers setLE
+low-byte at [] row i h l = absurd (omega arith)
+low-byte at (n ∷ ns) row zero h l =
+    let e : at + BYTES-OF-NUMBER * 0 ≡ at = omega arith in
+    rw e
+    (byte-before (at + BYTES-OF-NUMBER) ns (setLE row at BYTES-OF-NUMBER n) at (omega arith)
+    ∙ getD-before (set row at (n % 256)) (suc at) 1 (n / 256) at (omega arith)
+    ∙ getD-set-same row at (n % 256) 0 (omega arith))
+low-byte at (n ∷ ns) row (suc i) h l =
+    let e : at + BYTES-OF-NUMBER * suc i ≡ at + BYTES-OF-NUMBER + BYTES-OF-NUMBER * i = omega arith in
+    rw e
+    (low-byte (at + BYTES-OF-NUMBER) ns (setLE row at BYTES-OF-NUMBER n) i
+    (omega (arith, length-setLE row at BYTES-OF-NUMBER n)) (omega arith))
 
 -- ---- the numbers f 0 to f (n − 1)
 

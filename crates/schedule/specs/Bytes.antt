@@ -15,7 +15,7 @@ use Rattle.control.specs.Answers.{numberOf}
 use Rattle.stepped.specs.Outcome.{Memories}
 use Rattle.stepped.specs.Calls.{effectOf}
 use Rattle.schedule.specs.Stand.{STAND-REGIONS, STAND-AREA}
-use Rattle.schedule.specs.Stand.{Lends, named, as-started, played}
+use Rattle.schedule.specs.Stand.{Lends, named, as-started, played, lastAnswer}
 
 -- "The stand keeps an area of 16,384 bytes and control memory of 8,192, zero at first", and so the strips' memory: "A
 -- second lent area of 65,536 bytes holds them" (the request for strips)
@@ -61,6 +61,10 @@ startedPart s = part (REGION-BYTES * lentRegions (seen (s .control))) s
 abbrev pub afterAll : (input : List ℕ) → Memories
 afterAll input = played onBytes (length input) input 0 zeros
 
+-- the answer of the last of them: the code, and CODES times the value; 0 where there is no record
+abbrev pub lastOf : (input : List ℕ) → ℕ
+lastOf input = lastAnswer onBytes (length input) input 0 0 zeros
+
 -- three memories as bytes, together
 abbrev pub together : (control area strips : List ℕ) → Memories
 together control area strips = record { control = control; area = area; strips = strips }
@@ -74,8 +78,9 @@ pub record Does {A : Type 0} (f : Memories → Memories × A) (control area stri
   pub answer : r ≡ f (together control area strips) .1
 
 -- What a function ensures that plays a whole schedule: its three memories are those that the records leave, and are the
--- stand's.
-pub record PlaysAll (input : List ℕ) (control area strips control′ area′ strips′ : List ℕ) : Type 0 where
+-- stand's; and it answers as the last record, 0 where there is none.
+pub record PlaysAll (input : List ℕ) (control area strips control′ area′ strips′ : List ℕ) (r : ℕ) : Type 0 where
   pub memories-are : together control′ area′ strips′
       ≡ played onBytes (length input) input 0 (together control area strips)
+  pub answer : r ≡ lastAnswer onBytes (length input) input 0 0 (together control area strips)
   pub kept : StandMemories control′ area′ strips′

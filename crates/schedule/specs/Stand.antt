@@ -73,3 +73,11 @@ module _ {S : Type 0} (call : Call → Lends → S → S × ℕ) where
   played (suc f) input at s =
       let body = recordAt input at in
       cond (ltb at (length input)) (played f input (endOf body at (length input)) (treated body s .0)) s
+
+  -- the answer of the last record from the byte `at` on, no more than f records; where there is none, a
+  unfoldable pub lastAnswer : ℕ → List ℕ → ℕ → ℕ → S → ℕ
+  lastAnswer zero input at a s = a
+  lastAnswer (suc f) input at a s =
+      let body = recordAt input at in
+      let x = treated body s in
+      cond (ltb at (length input)) (lastAnswer f input (endOf body at (length input)) (x .1) (x .0)) a

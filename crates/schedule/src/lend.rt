@@ -11,7 +11,7 @@ ghost use Rattle.schedule.specs.Stand.{STAND-AREA, named, as-started};
 ghost use Rattle.schedule.specs.Bytes.{lentRegions, onBytes, Does, StandMemories};
 
 // "The stand keeps an area of 16,384 bytes": four regions.
-const STAND_REGIONS: usize = 4;
+pub const STAND_REGIONS: usize = 4;
 
 pub const STAND_AREA: usize = STAND_REGIONS * limits::REGION_BYTES;
 

@@ -1,6 +1,6 @@
 -- What a schedule leaves of the stand's memories is beside the plain pool fed the same records, and a report is lent
--- that.
-use mathlib.Core.Path.{_≡_, ap, _∙_}
+-- that. The last record answers the same.
+use mathlib.Core.Path.{_≡_, refl, ap, _∙_}
 use mathlib.Core.Bool.{Bool}
 use mathlib.Core.List.{List}
 use Prim.Native.Nat.{ℕ, zero, suc, _+_, _*_, _≤_, _<_}
@@ -11,49 +11,67 @@ use lib.ListN.{length}
 use Rattle.limits.specs.Limits.{CONTROL-BYTES}
 use Rattle.fields.specs.Little.{Bytes}
 use Rattle.fields.specs.Columns.{View}
-use Rattle.plain.specs.Calls.{Pool, unstarted}
+use Rattle.plain.specs.Calls.{Pool, Call, unstarted}
 use Rattle.control.specs.Layout.{seen, Tasks}
 use Rattle.stepped.specs.Outcome.{Memories}
 use Rattle.stepped.specs.Calls.{lengths, lending}
 use Rattle.reports.specs.Reports.{reportRefusal, reportOf, reportOn, Answers}
 use Rattle.schedule.specs.Records.{INPUT-BYTES, MOST-CALLS, recordAt, endOf}
-use Rattle.schedule.specs.Stand.{treated, played}
-use Rattle.schedule.specs.Bytes.{zeros, onBytes, startedPart, afterAll}
+use Rattle.schedule.specs.Stand.{Lends, treated, played, lastAnswer}
+use Rattle.schedule.specs.Bytes.{zeros, onBytes, startedPart, afterAll, lastOf}
 use Rattle.schedule.specs.Plain.{regionsFed, onPlain}
-use Rattle.stand_agreement.proofs.Beside.{Beside, partOf, tied, lent-same}
+use Rattle.stand_agreement.proofs.Beside.{Beside, SameAnswer, partOf, tied, lent-same}
 use Rattle.stand_agreement.proofs.Table.{record-fits, same-treated, zeros-beside}
 
 -- the plain pool after all records of a schedule
 abbrev pub plainAfterAll : List ℕ → Pool
 plainAfterAll input = played onPlain (length input) input 0 unstarted
 
+-- its answer to the last of them: the code, and CODES times the value; 0 where there is no record
+abbrev pub plainLastOf : List ℕ → ℕ
+plainLastOf input = lastAnswer onPlain (length input) input 0 0 unstarted
+
 module _ (input : List ℕ) (bytes : Bytes input) (long : length input ≤ INPUT-BYTES) where
-  -- the records from the byte `at` on leave the memories beside the plain pool
-  same-played : (f at k : ℕ) (s : Memories) (p : Pool) → at ≤ length input → k ≤ MOST-CALLS * at → Beside k s p
-      → (n : ℕ) × Beside n (played onBytes f input at s) (played onPlain f input at p)
-  unfolding played
-  same-played zero at k s p h l B = (k, B)
-  same-played (suc f) at k s p h l B =
-      by (λ at′ s′ p′ h′ l′ B′. same-played f at′ (k + MOST-CALLS) s′ p′ h′ l′ B′) (decLt at (length input))
+  -- a state and the last answer so far, after the records from the byte `at` on: no more than f records
+  abbrev ahead : {S : Type 0} → (Call → Lends → S → S × ℕ) → (f at : ℕ) → S × ℕ → S × ℕ
+  ahead call f at x = (played call f input at (x .0), lastAnswer call f input at (x .1) (x .0))
+
+  -- the records from the byte `at` on leave the memories beside the plain pool, and the last answers the same
+  same-played : (f at k : ℕ) (x : Memories × ℕ) (y : Pool × ℕ) → at ≤ length input → k ≤ MOST-CALLS * at
+      → SameAnswer k x y
+      → (n : ℕ) × SameAnswer n (ahead onBytes f at x) (ahead onPlain f at y)
+  unfolding played lastAnswer
+  same-played zero at k x y h l S = (k, S)
+  same-played (suc f) at k x y h l S =
+      by (λ at′ x′ y′ h′ l′ S′. same-played f at′ (k + MOST-CALLS) x′ y′ h′ l′ S′) (decLt at (length input))
     where
-      by : ((at′ : ℕ) (s′ : Memories) (p′ : Pool) → at′ ≤ length input → k + MOST-CALLS ≤ MOST-CALLS * at′
-          → Beside (k + MOST-CALLS) s′ p′
-          → (n : ℕ) × Beside n (played onBytes f input at′ s′) (played onPlain f input at′ p′))
+      by : ((at′ : ℕ) (x′ : Memories × ℕ) (y′ : Pool × ℕ) → at′ ≤ length input → k + MOST-CALLS ≤ MOST-CALLS * at′
+          → SameAnswer (k + MOST-CALLS) x′ y′
+          → (n : ℕ) × SameAnswer n (ahead onBytes f at′ x′) (ahead onPlain f at′ y′))
           → Dec (at < length input)
-          → (n : ℕ) × Beside n (played onBytes (suc f) input at s) (played onPlain (suc f) input at p)
-      by rest (no g) = rw (le-ltb at (length input) (omega arith)) (k, B)
+          → (n : ℕ) × SameAnswer n (ahead onBytes (suc f) at x) (ahead onPlain (suc f) at y)
+      by rest (no g) = rw (le-ltb at (length input) (omega arith)) (k, S)
       by rest (yes g) =
           let r = recordAt input at in
           let F = record-fits input at bytes g in
-          let S = same-treated r (F .most) B (omega (arith, l, g, long)) in
           rw (lt-ltb at (length input) g)
-          (rest (endOf r at (length input)) (treated onBytes r s .0) (treated onPlain r p .0) (F .to)
-          (omega (arith, l, F .from)) (S .beside))
+          (rest (endOf r at (length input)) (treated onBytes r (x .0)) (treated onPlain r (y .0)) (F .to)
+          (omega (arith, l, F .from)) (same-treated r (F .most) (S .beside) (omega (arith, l, g, long))))
 
   -- all records do
+  same-after-all : (n : ℕ) × SameAnswer n (afterAll input, lastOf input) (plainAfterAll input, plainLastOf input)
+  same-after-all =
+      same-played (length input) 0 0 (zeros, 0) (unstarted, 0) (omega arith) (omega arith)
+      (record { number = refl; beside = zeros-beside })
+
+  -- the memories are beside the plain pool
   pub after-all : (n : ℕ) × Beside n (afterAll input) (plainAfterAll input)
-  after-all =
-      same-played (length input) 0 0 zeros unstarted (omega arith) (omega arith) zeros-beside
+  after-all = (same-after-all .0, same-after-all .1 .beside)
+
+  -- The last record's answer is the plain pool's: for every input of bytes, at most 65,536, and there is no other
+  -- premise.
+  pub last-is-plain : lastOf input ≡ plainLastOf input
+  last-is-plain = same-after-all .1 .number
 
   -- the part of the area that the stand lends is the one that the run has reached
   pub lent-is : startedPart (afterAll input) ≡ partOf (regionsFed (plainAfterAll input)) (afterAll input)

@@ -16,7 +16,8 @@ use Rattle.strip_tree.specs.declared.tree.Tree.{Tree}
 use Rattle.strip_tree.specs.Trees.{treeWord, isFreeNode}
 use Rattle.strip_tree.specs.LowBits.{lowBit, upper}
 use Rattle.strip_tree.specs.TreeMoves.{lowest, lowestOfOrder}
-use Rattle.strip_tree.proofs.LowBits.{bit-past, upper-bit, zeros-set, zeros-low}
+use Rattle.words.proofs.LowestBit.{zeros-set, zeros-low}
+use Rattle.strip_tree.proofs.LowBits.{bit-past, upper-bit}
 use Rattle.strip_tree.proofs.Powers.{low-word}
 
 unset : (x y : ℕ) → bitAt x y ≡ 0 → isSet x y ≡ false

@@ -2,3 +2,4 @@ pub mod Heads
 pub mod Anchors
 pub mod Bits
 pub mod Marks
+pub mod LowestBit

@@ -2,7 +2,7 @@
 use mathlib.Core.Path.{_∙_}
 use native.Mathlib.Omega.{arith}
 use borrow.Author.Needs.{needs}
-use Rattle.report_regions.proofs.ChainBound.{chain-most}
+use Rattle.report_regions.proofs.OpenBounds.{chain-most}
 use Rattle.control.specs.Layout.{seen}
 use Rattle.holders.proofs.AddingUp.{added-alike}
 use Rattle.holders.proofs.FormColumns.{as-read, number-read, marks-number, cache-number, request-number}

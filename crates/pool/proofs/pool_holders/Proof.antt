@@ -1,5 +1,6 @@
 -- The tests, then the form.
 use native.Mathlib.Omega.{arith}
+use Rattle.holders.specs.Form.{FORM-NUMBERS}
 use Rattle.pool.proofs.Calling.{control-is}
 use Rattle.pool.proofs.Reporting.{on-refused, on-answers, given-report}
 use borrow.Author.Needs.{needs}
@@ -7,7 +8,7 @@ use Rattle.pool.proofs.pool_holders.Statement.{statement}
 use Rattle.pool.proofs.pool_holders.Tie as tie
 
 returns : tie.Need-returns
-returns c = on-refused _ _ _ _ _ _ (c .before .report-tests .ensures) (λ e. omega arith)
+returns c = on-refused _ _ _ _ _ (c .before .report-tests .ensures) _ (λ e. omega arith)
 
 regions-requires : tie.Need-regions-requires
 regions-requires c κs = control-is _ _ _ _ (c .before .report-tests .ensures) (omega arith)
@@ -21,8 +22,8 @@ returns-2 : tie.Need-returns-2
 returns-2 c =
     let written = c .before .before in
     let read = written .before .before in
-    on-answers _ _ _ _ _ _ (read .before .before .report-tests .ensures) _ (omega arith) (read .regions .ensures)
-    (written .write .ensures)
+    on-answers _ _ _ _ _ (read .before .before .report-tests .ensures) (λ k. FORM-NUMBERS) _ (omega arith)
+    (read .regions .ensures) (written .write .ensures)
 
 pub pool-holders-spec : {M : Type 1} → statement M
 pool-holders-spec =

@@ -1,12 +1,11 @@
 -- The three memories are zero at first, and what the schedule leaves of them is lent to the form.
-use mathlib.Core.Path.{sym, ap, _∙_}
+use mathlib.Core.Path.{sym}
 use native.Mathlib.Omega.{arith}
 use lib.Seq.{length-take-le}
 use borrow.Author.Needs.{needs}
-use Rattle.stepped.specs.Outcome.{Memories}
 use Rattle.holders.specs.Form.{formOf}
 use Rattle.schedule.specs.Bytes.{afterAll}
-use Rattle.schedule.proofs.Playing.{lent-part}
+use Rattle.schedule.proofs.Playing.{reports-on}
 use Rattle.stand_holders.proofs.form_after.Statement.{statement}
 use Rattle.stand_holders.proofs.form_after.Tie as tie
 
@@ -57,13 +56,8 @@ returns c =
     let lent = form .before .before .before .before .before in
     let played = lent .before .before .before .before in
     let args = played .before .before .before .before .before .before .args in
-    let all = afterAll (args .input .now) in
-    let is = lent-part {s = all} (played .play .ensures .memories-are) (lent .lent .ensures .0) in
-    let answers = form .pool-holders .ensures in
-    record {
-      number = answers .number ∙ ap (λ (s : Memories). formOf s (args .row .now) .0) is;
-      row-is = answers .row-is ∙ ap (λ (s : Memories). formOf s (args .row .now) .1) is;
-    }
+    reports-on formOf (afterAll (args .input .now)) (played .play .ensures .memories-are) (lent .lent .ensures .0)
+    (args .row .now) (form .pool-holders .ensures)
 
 pub form-after-spec : {M : Type 1} → statement M
 form-after-spec =

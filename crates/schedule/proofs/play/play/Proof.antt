@@ -1,4 +1,4 @@
--- At the head of the loop, what the schedule leaves is what the records ahead leave.
+-- At the head of the loop, what the schedule leaves is what the records ahead leave, and so with the last answer.
 use Prim.Native.Nat.{_-_}
 use mathlib.Core.Path.{_≡_, refl, _∙_}
 use native.Mathlib.Omega.{arith}
@@ -10,12 +10,12 @@ use Rattle.schedule.proofs.play.play.Statement.{statement}
 use Rattle.schedule.proofs.play.play.Tie as tie
 
 abbrev Inv-loop : tie.InvT-loop
-Inv-loop control₀ area₀ strips input at₀ control area at =
-    PlayAhead input (together control₀ area₀ strips) at (together control area strips)
+Inv-loop control₀ area₀ strips input at₀ answer₀ control area at answer =
+    PlayAhead input (together control₀ area₀ strips) at answer (together control area strips)
     × (length control ≡ length control₀) × (length area ≡ length area₀)
 
 abbrev μ-loop : tie.MeasureT-loop
-μ-loop control₀ area₀ strips input at₀ control area at = length input - at
+μ-loop control₀ area₀ strips input at₀ answer₀ control area at answer = length input - at
 
 loop-holds : tie.Need-loop-holds Inv-loop μ-loop
 loop-holds c = (begins _ _, refl, refl)
@@ -68,8 +68,10 @@ returns c =
     let at-loop = c .before in
     let start = at-loop .before .before .before .before .before in
     let K = start .pre .0 in
+    let ended = ends (start .args .input .now) (at-loop .loop .inv .0) (omega arith) in
     record {
-      memories-are = ends (start .args .input .now) (at-loop .loop .inv .0) (omega arith);
+      memories-are = ended .0;
+      answer = ended .1;
       kept = record {
         control-is = at-loop .loop .inv .1 ∙ K .control-is;
         area-is = at-loop .loop .inv .2 ∙ K .area-is;

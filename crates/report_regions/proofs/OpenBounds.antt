@@ -1,10 +1,10 @@
--- A chain that is told has at most as many blocks as a region.
-use mathlib.Core.Path.{_≡_, refl}
+-- What is told of a region: its class is one of the classes, and its chain has at most as many blocks as a region.
+use mathlib.Core.Path.{_≡_, refl, subst}
 use mathlib.Core.Bool.{Bool, true, false, cond}
-use Prim.Native.Nat.{ℕ, _-_, _≤_}
+use Prim.Native.Nat.{ℕ, _-_, _≤_, _<_}
 use native.Mathlib.Omega.{arith}
 use lib.Dec.{ltb, leb, eqb}
-use borrow.Author.Tests.{leb-true}
+use borrow.Author.Tests.{ltb-true, leb-true}
 use Rattle.limits.specs.Limits.{CLASSES, DESCRIPTORS, MOST-BLOCKS}
 use Rattle.words.specs.Anchor.{EMPTY, anchorOf}
 use Rattle.fields.specs.Columns.{View}
@@ -13,12 +13,19 @@ use Rattle.classes.proofs.Tables.{perRegion-high}
 use Rattle.control.specs.Layout.{Anchor, DescriptorRegion, DescriptorClass, Map}
 use Rattle.stepped.specs.Ranges.{isAnchor}
 use Rattle.report_regions.specs.declared.Opened.{Opened}
-use Rattle.report_regions.specs.declared.Opened.the-variants.{Closed, Outside}
+use Rattle.report_regions.specs.declared.Opened.the-variants.{Closed, Open, Outside}
 use Rattle.report_regions.specs.Opened.{openAs, openBy, openedOf}
 use Rattle.report_regions.specs.OpenClasses.{chainIn, openChain}
 
--- what is told has a chain of at most so many blocks
+-- the class that is told is one of the classes
+abbrev InClasses : Opened → Type 0
+InClasses Closed = Unit {0}
+InClasses (Open c k) = c < CLASSES
+InClasses Outside = Unit {0}
+
+-- what is told has such a class, and a chain of at most so many blocks
 record Short (o : Opened) : Type 0 where
+  class : InClasses o
   most : chainIn o ≤ MOST-BLOCKS
 
 -- what is chosen by a test is such where each of the two is
@@ -27,10 +34,10 @@ by-test true f g = f refl
 by-test false f g = g
 
 none : Short Closed
-none = record { most = omega arith }
+none = record { class = tt; most = omega arith }
 
 out : Short Outside
-out = record { most = omega arith }
+out = record { class = tt; most = omega arith }
 
 module _ (v : View) (regions r : ℕ) where
   as-short : (d k : ℕ) → Short (openAs v d k)
@@ -39,6 +46,7 @@ module _ (v : View) (regions r : ℕ) where
       let c = v (DescriptorClass d) in
       by-test (ltb c CLASSES)
       (λ l. by-test (leb k (perRegion c)) (λ h. record {
+        class = ltb-true c CLASSES l;
         most = omega (arith, leb-true k (perRegion c) h, perRegion-high c);
       }) out) out
 
@@ -61,3 +69,6 @@ module _ (v : View) (regions r : ℕ) where
   pub chain-most : openChain v regions r ≤ MOST-BLOCKS
   unfolding openChain
   chain-most = of-short .most
+
+  pub class-below : (c k : ℕ) → openedOf v regions r ≡ Open c k → c < CLASSES
+  class-below c k e = subst InClasses e (of-short .class)

@@ -1,0 +1,3 @@
+-- The region's keepers.
+pub mod Keepers
+pub mod Filling
