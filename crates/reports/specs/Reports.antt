@@ -27,9 +27,9 @@ reportRefusal lent v =
     1
 
 -- The answer of a report that has passed these tests, and the row that it leaves. `inRange` tells whether all that it
--- reads is in its range, and `numbers` are those that it writes. "Memory that is out of range is answered with 14" (the
--- request for the stock sheet); then comes 23, where the row is too short for the numbers; else 20, with the numbers at
--- the row's start. A refused report leaves the row.
+-- reads is in its range, and of the keepers also whether each region has one; `numbers` are those that it writes.
+-- "Memory that is out of range is answered with 14" (the request for the stock sheet); then comes 23, where the row is
+-- too short for the numbers; else 20, with the numbers at the row's start. A refused report leaves the row.
 unfoldable pub answered : (inRange : Bool) (numbers row : List ℕ) → ℕ × List ℕ
 answered inRange numbers row =
     cond inRange
@@ -41,9 +41,9 @@ unfoldable pub reportOf : Lengths → View → (inRange : Bool) (numbers row : L
 reportOf lent v inRange numbers row =
     cond (eqb (reportRefusal lent v) 0) (answered inRange numbers row) (reportRefusal lent v, row)
 
--- A report of n numbers, lent the memories s and a row: its answer, and the row that it leaves. Whether all that it
--- reads is in its range, and the number i, go by what stands in the fields, by each block's link, and by the started
--- number of regions. Nothing else is written.
+-- A report of n numbers, lent the memories s and a row: its answer, and the row that it leaves. Whether it is refused
+-- by 14, and the number i, go by what stands in the fields, by each block's link, and by the started number of regions.
+-- Nothing else is written.
 unfoldable pub reportOn : (inRange : View → (ℕ → ℕ) → ℕ → Bool) (n : ℕ) (number : View → (ℕ → ℕ) → ℕ → ℕ → ℕ)
     → Memories → List ℕ → ℕ × List ℕ
 reportOn inRange n number s row =

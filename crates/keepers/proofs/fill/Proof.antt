@@ -6,6 +6,7 @@ use borrow.Author.Needs.{needs}
 use lib.ListN.{length, length-set}
 use Rattle.links.specs.Link.{link}
 use Rattle.control.specs.Layout.{seen}
+use Rattle.keepers.specs.Keepers.{KEEPER-NUMBERS, TASK-WEIGHT}
 use Rattle.keepers.proofs.KeepersFound.{KeepersTo, keepers-begin, keepers-fail, keepers-next, keepers-end}
 use Rattle.keepers.proofs.fill.Statement.{statement}
 use Rattle.keepers.proofs.fill.Tie as tie
@@ -38,7 +39,7 @@ returns c =
 -- a number of the keeper has its place
 place-below : (c : tie.After-struct-known3 Inv-loop μ-loop)
     → let at-loop = c .before .before .before .before .before .before in
-    2 * at-loop .loop .region + 2 ≤ length (at-loop .loop .numbers)
+    KEEPER-NUMBERS * at-loop .loop .region + KEEPER-NUMBERS ≤ length (at-loop .loop .numbers)
 place-below c =
     let at-loop = c .before .before .before .before .before .before in
     let R = at-loop .before .before .before .before .pre .0 in
@@ -51,7 +52,8 @@ slice-write-numbers-2 c =
     omega (
       arith,
       place-below c,
-      length-set (at-loop .loop .numbers) (2 * at-loop .loop .region) (found .kind + found .task * 256),
+      length-set (at-loop .loop .numbers) (KEEPER-NUMBERS * at-loop .loop .region)
+          (found .kind + found .task * TASK-WEIGHT),
     )
 
 loop-again : tie.Need-loop-again Inv-loop μ-loop

@@ -8,6 +8,7 @@ use borrow.Author.Needs.{needs}
 use lib.Seq.{length-take-le}
 use Rattle.ranges.proofs.Passed.{failed, passed}
 use Rattle.reports.proofs.ReportAnswers.{not-gathered, answers-14, answers-23, answers-20}
+use Rattle.keepers.specs.Keepers.{KEEPER-NUMBERS}
 use Rattle.keepers.proofs.KeepersFound.{keepers-gathered, read-refused}
 use Rattle.keepers.proofs.write.Statement.{statement}
 use Rattle.keepers.proofs.write.Tie as tie
@@ -53,11 +54,11 @@ returns-3 c =
 part-length : (c : tie.After-numbers3)
     → let filled = c .before .before .before .before .before in
     let regions = filled .before .before .before .before .before .before .before .args .regions in
-    length (take (2 * regions) (filled .fill .last .1 .1 .1 .0)) ≡ 2 * regions
+    length (take (KEEPER-NUMBERS * regions) (filled .fill .last .1 .1 .1 .0)) ≡ KEEPER-NUMBERS * regions
 part-length c =
     let filled = c .before .before .before .before .before in
     let start = filled .before .before .before .before .before .before .before in
-    length-take-le (2 * start .args .regions) (filled .fill .last .1 .1 .1 .0)
+    length-take-le (KEEPER-NUMBERS * start .args .regions) (filled .fill .last .1 .1 .1 .0)
     (omega (arith, filled .fill .ensures .long, start .pre .given .regions))
 
 slice-aggregate-write : tie.Need-slice-aggregate-write
