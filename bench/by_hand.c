@@ -76,6 +76,7 @@ uint64_t BY_HAND(begin_allocate)(uint8_t *control, uint64_t control_length, cons
         return size > STRIPS ? 9 : strip_begin_take(c, task, size);
     c->task_place[task] = 1;
     c->task_class[task] = CLASS_OF_UNITS[(size + 7) / 8];
+    c->task_lost[task] = 0;
     return 0;
 }
 
@@ -127,6 +128,7 @@ uint64_t BY_HAND(begin_free)(uint8_t *control, uint64_t control_length, const ui
     c->task_place[task] = 28;
     c->task_class[task] = (uint8_t)class;
     c->task_unit[task] = (uint16_t)unit;
+    c->task_lost[task] = 0;
     c->marks[unit / 64] &= ~((uint64_t)1 << unit % 64);
     return 0;
 }
@@ -152,10 +154,9 @@ static inline uint64_t spare_exchange(const struct request *r, unsigned place, u
     struct list list = descriptors(r, place, SPARE_DESCRIPTORS);
     int test = push_test(r, list, descriptor);
     if (test != 0)
-        return test == DAMAGED ? DAMAGED : go_to(r, list.place);
+        return test == DAMAGED ? DAMAGED : lose(r, list.place);
     push_store(r, list, descriptor);
-    go_to(r, when_won);
-    return when_won == 0 ? 13 : 0;
+    return when_won == 0 ? end(r, 13) : go_to(r, when_won);
 }
 
 /* The list moves, by the places of docs/LAYOUT.md. */

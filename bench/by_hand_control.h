@@ -31,7 +31,7 @@ struct __attribute__((packed, may_alias)) control {
     uint16_t group_first[TASKS];
     uint16_t group_last[TASKS];
     uint16_t group_count[TASKS];
-    uint8_t unused_5600[32];
+    uint32_t task_lost[TASKS];
     uint8_t task_place[TASKS];
     uint8_t task_class[TASKS];
     uint8_t task_next[TASKS];

@@ -23,8 +23,7 @@ static inline uint64_t put_freed(const struct request *r)
     if (!is_block(r->regions, r->class, unit) || !is_top(r->regions, r->class, count, c->top[r->task][r->class]))
         return DAMAGED;
     put_on_cache(r, unit);
-    go_to(r, 0);
-    return FINISHED;
+    return end(r, FINISHED);
 }
 
 /* Takes the cache's top, a block of `count`, out of the cache. */
@@ -158,7 +157,7 @@ static inline uint64_t return_exchange(const struct request *r)
         || !is_anchor(c->anchor[descriptor]))
         return DAMAGED;
     if (c->anchor[descriptor] != noted)
-        return go_to(r, 30);
+        return lose(r, 30);
     way = count == n ? way_to(r, 33) : state_of(noted) == FULL ? way_to(r, 20) : after_return(r);
     if (way.place == 0)
         return DAMAGED;
@@ -184,7 +183,7 @@ static inline uint64_t release_exchange(const struct request *r)
     int test = push_test(r, list, region);
     struct way way;
     if (test != 0)
-        return test == DAMAGED ? DAMAGED : go_to(r, list.place);
+        return test == DAMAGED ? DAMAGED : lose(r, list.place);
     way = state > FULL ? way_to(r, 0) : state == FULL ? way_to(r, 20) : after_return(r);
     if (way.place == 0)
         return DAMAGED;
@@ -199,7 +198,7 @@ static inline uint64_t offer_exchange(const struct request *r)
     int test = push_test(r, list, descriptor);
     struct way way;
     if (test != 0)
-        return test == DAMAGED ? DAMAGED : go_to(r, list.place);
+        return test == DAMAGED ? DAMAGED : lose(r, list.place);
     way = after_return(r);
     if (way.place == 0)
         return DAMAGED;

@@ -46,13 +46,13 @@ static inline uint64_t leave_begin(struct control *c, uint64_t task)
     if (way.place == 0)
         return DAMAGED;
     c->task_unit[task] = LEAVING;
+    c->task_lost[task] = 0;
     return go_way(c, task, way);
 }
 
 static inline uint64_t leave_end(const struct request *r)
 {
-    go_to(r, 0);
-    return FINISHED;
+    return end(r, FINISHED);
 }
 
 #endif

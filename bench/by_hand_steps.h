@@ -1,6 +1,7 @@
 /*
  * The step list written by hand, from the paper. Each function is one step and answers the code, with 256 times the
- * value. Every value is tested as it is read, before any write; the failure is 14.
+ * value, and where the request is over with the lost exchanges above that. Every value is tested as it is read, before
+ * any write; the failure is 14.
  */
 #ifndef BY_HAND_STEPS_H
 #define BY_HAND_STEPS_H
@@ -42,16 +43,29 @@ static inline uint64_t go_to(const struct request *r, unsigned place)
     return 0;
 }
 
+/* A lost exchange leads back, and is counted as far as the number goes. */
+static inline uint64_t lose(const struct request *r, unsigned place)
+{
+    uint32_t lost = r->control->task_lost[r->task];
+    r->control->task_lost[r->task] = lost + (lost != UINT32_MAX);
+    return go_to(r, place);
+}
+
+/* The request is over: what it answers, with its lost exchanges. */
+static inline uint64_t end(const struct request *r, uint64_t answer)
+{
+    go_to(r, 0);
+    return answer | (uint64_t)r->control->task_lost[r->task] << 32;
+}
+
 /* ---- pops and pushes ---- */
 
 /* The first step of a pop. An empty list leads to another place; 0 as that place ends the request with 12. */
 static inline uint64_t pop_read(const struct request *r, struct list list, unsigned when_empty)
 {
     uint64_t head = r->control->head[list.head];
-    if (item_of(head) == 0) {
-        go_to(r, when_empty);
-        return when_empty == 0 ? 12 : 0;
-    }
+    if (item_of(head) == 0)
+        return when_empty == 0 ? end(r, 12) : go_to(r, when_empty);
     if (item_of(head) > list.items)
         return DAMAGED;
     r->control->task_head[r->task] = head;
@@ -76,7 +90,7 @@ static inline uint64_t pop_exchange(const struct request *r, struct list list, u
     if (item_of(noted) - 1 >= list.items || next > list.items || item_of(now) > list.items)
         return DAMAGED;
     if (now != noted)
-        return go_to(r, list.place);
+        return lose(r, list.place);
     hand[r->task] = (uint8_t)(item_of(noted) - 1);
     r->control->head[list.head] = advanced(noted, next);
     return go_to(r, when_won);
@@ -133,8 +147,7 @@ static inline uint64_t take_from_cache(const struct request *r)
     c->top[r->task][r->class] = (uint16_t)below;
     c->count[r->task][r->class] = (uint16_t)(count - 1);
     c->marks[unit / 64] |= (uint64_t)1 << unit % 64;
-    go_to(r, 0);
-    return FINISHED + 256 * (uint64_t)unit;
+    return end(r, FINISHED + 256 * (uint64_t)unit);
 }
 
 static inline uint64_t chain_read(const struct request *r)
@@ -163,7 +176,7 @@ static inline uint64_t chain_exchange(const struct request *r)
     if (descriptor >= DESCRIPTORS || !has_chain(n, noted) || !is_anchor(c->anchor[descriptor]))
         return DAMAGED;
     if (c->anchor[descriptor] != noted)
-        return go_to(r, 23);
+        return lose(r, 23);
     if (c->descriptor_region[descriptor] >= r->regions)
         return DAMAGED;
     c->anchor[descriptor] = anchor_of(FULL, n, 0);

@@ -37,6 +37,7 @@ static inline uint64_t strip_begin_take(struct control *c, uint64_t task, uint64
 {
     c->task_place[task] = TAKE;
     c->task_class[task] = (uint8_t)(size <= 512 ? 0 : highest_bit((size - 1) / 512) + 1);
+    c->task_lost[task] = 0;
     return 0;
 }
 
@@ -56,6 +57,7 @@ static inline uint64_t strip_begin_give(struct control *c, uint64_t task, uint64
     c->slot[slot] = (uint8_t)(byte + ORDERS);
     c->task_place[task] = GIVE;
     c->task_unit[task] = (uint16_t)unit;
+    c->task_lost[task] = 0;
     return 0;
 }
 
@@ -103,9 +105,8 @@ static uint64_t strip_take(const struct request *r)
     if (r->class >= ORDERS)
         return DAMAGED;
     node = find_free(c, r->class);
-    go_to(r, 0);
     if (node == 0)
-        return NO_STRIP;
+        return end(r, NO_STRIP);
     clear_free(c, node);
     while (node < (unsigned)SLOTS >> r->class) {
         node = 2 * node; /* the lower half */
@@ -113,7 +114,7 @@ static uint64_t strip_take(const struct request *r)
     }
     slot = (node << r->class) - SLOTS;
     c->slot[slot] = (uint8_t)(IN_HAND + r->class);
-    return FINISHED + 256 * (uint64_t)(FIRST_STRIP + SLOT_UNITS * slot);
+    return end(r, FINISHED + 256 * (uint64_t)(FIRST_STRIP + SLOT_UNITS * slot));
 }
 
 static uint64_t strip_give(const struct request *r)
@@ -127,7 +128,6 @@ static uint64_t strip_give(const struct request *r)
     order = (unsigned)c->slot[slot] - BEGUN;
     if (order >= ORDERS || !can_begin(slot, order))
         return DAMAGED;
-    go_to(r, 0);
     c->slot[slot] = 0;
     node = (SLOTS + slot) >> order;
     while (node > WHOLE && is_free(c, node ^ 1)) {
@@ -135,7 +135,7 @@ static uint64_t strip_give(const struct request *r)
         node /= 2;
     }
     set_free(c, node);
-    return FINISHED;
+    return end(r, FINISHED);
 }
 
 #endif

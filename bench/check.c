@@ -23,6 +23,7 @@ static uint64_t code_counts[256];
 static uint64_t damaged_counts[256];
 static uint64_t place_counts[256];
 static uint64_t report_counts[REPORTS][256];
+static uint64_t told_counts[2]; /* answers that tell lost exchanges, and how many they tell */
 
 /* Whether this report of all contenders is the same, with what stands behind it in the row, and changes nothing. */
 static int agree_report(unsigned which, size_t area_length)
@@ -126,6 +127,8 @@ static int one_call(struct schedule *schedule, size_t area_length, int damaged)
     if (!agree(call, area_length, &answer))
         return 0;
     code_counts[POOL_CODE(answer)] += 1;
+    told_counts[0] += POOL_LOST(answer) != 0;
+    told_counts[1] += POOL_LOST(answer);
     schedule_answered(schedule, call, answer);
     return 1;
 }
@@ -165,6 +168,7 @@ int main(void)
         places += place_counts[place] != 0;
     printf("%u contenders; steps were made at %u of %d places\n", CONTENDER_COUNT, places, PLACES_MOST);
     print_counts("answers", code_counts);
+    printf("%" PRIu64 " of them tell lost exchanges, %" PRIu64 " in all\n", told_counts[0], told_counts[1]);
     print_counts("answers on damaged memories", damaged_counts);
     for (unsigned which = 0; which < REPORTS; which++)
         print_counts(NAMED_REPORTS[which].many, report_counts[which]);

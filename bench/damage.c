@@ -6,7 +6,7 @@
 
 /* The columns of docs/LAYOUT.md, with what picks the number in a column. */
 enum index { LIST, DESCRIPTOR, WORD, TASK, CACHE, REGION, ONE, NODES, SLOT };
-enum { HEAD = 0, ANCHOR = 1, TASK_HEAD = 3, TASK_ANCHOR = 4, FREE_NODES = 26, MOVING_A_CHAIN = 25 };
+enum { HEAD = 0, ANCHOR = 1, TASK_HEAD = 3, TASK_ANCHOR = 4, TASK_LOST = 13, FREE_NODES = 27, MOVING_A_CHAIN = 25 };
 
 static const struct {
     uint16_t start;
@@ -15,10 +15,10 @@ static const struct {
 } COLUMNS[] = {
     {0, 8, LIST},        {256, 8, DESCRIPTOR}, {768, 8, WORD},       {4864, 8, TASK},       {4928, 8, TASK},
     {4992, 2, CACHE},    {5248, 2, CACHE},     {5504, 2, TASK},      {5520, 2, TASK},       {5536, 2, TASK},
-    {5552, 2, TASK},     {5568, 2, TASK},      {5584, 2, TASK},      {5632, 1, TASK},       {5640, 1, TASK},
-    {5648, 1, TASK},     {5656, 1, TASK},      {5664, 1, TASK},      {5672, 1, TASK},       {5696, 1, DESCRIPTOR},
-    {5760, 1, REGION},   {5776, 1, DESCRIPTOR}, {5840, 1, DESCRIPTOR}, {5904, 1, REGION},   {5944, 1, ONE},
-    {5945, 1, ONE},      {6016, 8, NODES},     {6048, 1, SLOT},
+    {5552, 2, TASK},     {5568, 2, TASK},      {5584, 2, TASK},      {5600, 4, TASK},       {5632, 1, TASK},
+    {5640, 1, TASK},     {5648, 1, TASK},      {5656, 1, TASK},      {5664, 1, TASK},       {5672, 1, TASK},
+    {5696, 1, DESCRIPTOR}, {5760, 1, REGION},  {5776, 1, DESCRIPTOR}, {5840, 1, DESCRIPTOR}, {5904, 1, REGION},
+    {5944, 1, ONE},      {5945, 1, ONE},       {6016, 8, NODES},     {6048, 1, SLOT},
 };
 
 static unsigned class_in_hand(const struct control *c, unsigned task)
@@ -84,6 +84,8 @@ static struct damage one_field(struct schedule *schedule, const struct control *
     if (column == ANCHOR || column == TASK_ANCHOR)
         damage.value = anchor_of((unsigned)schedule_random(schedule, 4), near_a_bound(schedule, c, task) % 1024,
                                  near_a_bound(schedule, c, task) % 1024);
+    if (column == TASK_LOST)
+        damage.value = UINT32_MAX - schedule_random(schedule, 3);
     if (column == FREE_NODES)
         damage.value = some_bits(schedule);
     return damage;

@@ -5,11 +5,11 @@
  * schedule meets; strips.c counts them all, and leave.c those in which leaving goes from cache to cache.
  *
  * One instruction at a time is slow, so not every call is counted: of each place, and of each beginning, the first 120,
- * and every 97th call besides.
+ * with --each of each place and what came of it, and every 97th call besides.
  *
  * A line is workload, contender, measure, value; with --places also one line for each place. With --each a line is
- * one counted call of the library: its kind, the place before it, and its instructions. Only the schedules without
- * leaving are made then (bench/against).
+ * one counted call of the library: its kind, the place before it, its instructions, and what came of it. Only the
+ * schedules without leaving are made then (bench/against).
  */
 #define _GNU_SOURCE
 #include <stdio.h>
@@ -43,10 +43,16 @@ static const struct {
     int leaves;
 } SCHEDULES[] = {{2, 2, 5, 0}, {21, 4, 5, 0}, {2, 8, 5, 0}, {2, 2, 5, 1}, {21, 8, 5, 1}};
 
+/* What comes of a call: a step may lose an exchange or end its request. */
+enum { GOES_ON, LOSES, ENDS, OUTCOMES };
+
+static const char *const CAME[OUTCOMES] = {[LOSES] = "an exchange lost", [ENDS] = "the request over", [GOES_ON] = ""};
+
 /* What the child tells the parent. */
 struct told {
     unsigned row;
     unsigned place;
+    unsigned outcome;
 };
 
 static int each_call;
@@ -54,9 +60,34 @@ static int each_call;
 static uint8_t control[POOL_CONTROL_BYTES];
 static uint8_t area[5 * POOL_REGION_BYTES];
 
+/* Whether a step led back from an exchange to where its word is noted, by the places of docs/LAYOUT.md: of a list from
+   its third place to its first, of an anchor from 24 to 23 and from 32 to 30. */
+static int leads_back(unsigned from, unsigned to)
+{
+    return (from <= 22 && to + 2 == from) || (from == 24 && to == 23) || (from == 32 && to == 30);
+}
+
+/* What comes of a call; the memories stay as they are. */
+static unsigned outcome(const struct contender *contender, struct call call, uint64_t area_length)
+{
+    static uint8_t control_before[sizeof control];
+    static uint8_t area_before[sizeof area];
+    unsigned from = control[TASK_PLACE + call.task];
+    unsigned code, to;
+    memcpy(control_before, control, sizeof control);
+    memcpy(area_before, area, sizeof area);
+    code = POOL_CODE(make_call(contender, call, control, area, area_length));
+    to = control[TASK_PLACE + call.task];
+    memcpy(control, control_before, sizeof control);
+    memcpy(area, area_before, sizeof area);
+    if (call.kind != STEP)
+        return GOES_ON;
+    return code != POOL_UNDER_WAY ? ENDS : leads_back(from, to) ? LOSES : GOES_ON;
+}
+
 static void run(const struct contender *contender, unsigned which, struct told *told)
 {
-    static unsigned counted[ROWS][PLACES];
+    static unsigned counted[ROWS][PLACES][OUTCOMES];
     uint64_t area_length = SCHEDULES[which].regions * (uint64_t)POOL_REGION_BYTES;
     struct schedule schedule = schedule_of(SCHEDULES[which].seed, SCHEDULES[which].tasks, 0, SCHEDULES[which].leaves);
     (void)contender->start(control, sizeof control, area, area_length, untouchable_strips(), POOL_STRIPS_BYTES,
@@ -67,7 +98,8 @@ static void run(const struct contender *contender, unsigned which, struct told *
         uint64_t answer;
         told->row = leaving ? LEAVING_STEP : call.kind;
         told->place = control[TASK_PLACE + call.task];
-        if (counted[told->row][told->place]++ < FIRST || i % EVERY == 0)
+        told->outcome = each_call ? outcome(contender, call, area_length) : GOES_ON;
+        if (counted[told->row][told->place][told->outcome]++ < FIRST || i % EVERY == 0)
             STOP_BEFORE_CALL();
         answer = make_call(contender, call, control, area, area_length);
         schedule_answered(&schedule, call, answer);
@@ -106,7 +138,8 @@ static void follow(const struct contender *contender, unsigned rows[ROWS], unsig
         if (count > places[told->row][told->place])
             places[told->row][told->place] = count;
         if (each_call)
-            printf("%s\t%u\t%u\n", NAMES[told->row] + sizeof "largest", told->place, count);
+            printf("%s\t%u\t%u\t%s\n", NAMES[told->row] + sizeof "largest", told->place, count,
+                   CAME[told->outcome]);
         child_runs_on(pid);
     }
 }

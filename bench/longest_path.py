@@ -84,14 +84,32 @@ def table_targets(start, starts, entries):
     return {number - (place - start) for place, number in entries if start <= place < end}
 
 
+def parts_of(register):
+    """A pattern for the names of a register of 64 bits and of its parts."""
+    name = register[2:]
+    return rf"%r{name}[dwb]?" if name.isdigit() else rf"%(?:[re]?{name}|{name[0]}[lh]|{name}l)"
+
+
 def tables_taken(jump, body, entered):
-    """The tables that a jump may go through: the one that the straight code before it adds, else all of them."""
-    register = re.search(r"\*(%\w+)", body[jump][1]).group(1)
-    base = re.match(rf"add\s+(%\w+),{register}$", body[jump - 1][1])
-    for address, text, _, table in reversed(body[:jump]):
-        if base and table is not None and text.startswith("lea") and re.search(rf",{base.group(1)}\b", text):
-            return {table}
-        if text.startswith(("j", "ret", "ud2", "call")) or address in entered:
+    """The tables that a jump may go through: the one that the straight code before it adds, else all of them.
+
+    Backward from the jump, the last write of its register adds another one, whose last write is the table's address. An
+    instruction writes its last operand; those that write another one end the search.
+    """
+    sought, added = re.search(r"\*(%\w+)", body[jump][1]).group(1), False
+    before = [] if body[jump][0] in entered else reversed(body[:jump])
+    for address, line, _, table in before:
+        text = line.split("#")[0].strip()
+        if text.startswith(("j", "ret", "ud2", "call", "mul", "imul", "div", "idiv", "cqto", "cltd", "xchg")):
+            break
+        if re.search(rf"[\s,]{parts_of(sought)}$", text):
+            base = re.match(rf"add\s+(%\w+),{sought}$", text)
+            if added and table is not None and text.startswith("lea"):
+                return {table}
+            if added or not base:
+                break
+            sought, added = base.group(1), True
+        if address in entered:
             break
     return {line[3] for line in body if line[3] is not None}
 

@@ -80,6 +80,38 @@ static void leave_turn(const struct contender *contender, const struct workload 
                                         0));
 }
 
+/* Steps both tasks in turn, a step each, to the end of their requests; the units are what they get. */
+static void finish_in_turn(const struct contender *contender, const struct workload *workload, uint64_t got[2])
+{
+    uint64_t answers[2] = {POOL_UNDER_WAY, POOL_UNDER_WAY};
+    while (POOL_CODE(answers[0]) == POOL_UNDER_WAY || POOL_CODE(answers[1]) == POOL_UNDER_WAY)
+        for (unsigned task = 0; task < 2; task++)
+            if (POOL_CODE(answers[task]) == POOL_UNDER_WAY)
+                answers[task] = contender->step(control, sizeof control, area, area_length(workload), strips,
+                                                sizeof strips, task);
+    for (unsigned task = 0; task < 2; task++)
+        got[task] = finish(contender, workload, answers[task]);
+}
+
+/* Two tasks collide: each opens a region for a block, frees it, and leaves, so that the region is given back. They note
+   the same heads; after the first turn four exchanges of each turn are lost. */
+static void collide_turn(const struct contender *contender, const struct workload *workload)
+{
+    uint64_t got[2];
+    for (unsigned task = 0; task < 2; task++)
+        (void)contender->begin_allocate(control, sizeof control, area, area_length(workload), strips, sizeof strips,
+                                        task, workload->size);
+    finish_in_turn(contender, workload, got);
+    for (unsigned task = 0; task < 2; task++)
+        (void)contender->begin_free(control, sizeof control, area, area_length(workload), strips, sizeof strips, task,
+                                    got[task]);
+    finish_in_turn(contender, workload, got);
+    for (unsigned task = 0; task < 2; task++)
+        (void)contender->begin_leave(control, sizeof control, area, area_length(workload), strips, sizeof strips,
+                                     task);
+    finish_in_turn(contender, workload, got);
+}
+
 static void start_turn(const struct contender *contender, const struct workload *workload)
 {
     (void)contender->start(control, sizeof control, area, area_length(workload), strips, sizeof strips,
@@ -102,6 +134,7 @@ const struct workload WORKLOADS[] = {
     {"cold pair, carving", 64, 2, 128, carve_turn, NULL},
     {"cold pair, chains", 64, 2, 128, chain_turn, NULL},
     {"cold pair, leaving after 64", 64, 1, 64, leave_turn, NULL},
+    {"cold pair, two tasks collide", 256, 2, 2, collide_turn, NULL},
     {"strip pair of 512 bytes, fresh", POOL_STRIP_LEAST, 1, 1, one_turn, NULL},
     {"strip pair of 512 bytes, fragmented", POOL_STRIP_LEAST, 1, 1, one_turn, fragment},
     {"strip pair of 65,536 bytes, fresh", POOL_STRIPS_BYTES, 1, 1, one_turn, NULL},

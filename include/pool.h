@@ -69,6 +69,29 @@
  *     while (POOL_CODE(answer) == POOL_UNDER_WAY)
  *         answer = pool_step(control, sizeof control, area, sizeof area, strips, sizeof strips, task);
  *
+ * ---- Lost exchanges: how often tasks collide ----
+ *
+ * The step that ends a request also tells how often another task was there first:
+ *
+ *     if (POOL_LOST(answer) > worst)
+ *         worst = POOL_LOST(answer);
+ *
+ * To take an item from a list, or to put one on it, a request notes the list's head. In a later step it exchanges the
+ * head for another, if it is still the noted one. If it is not, because another task has changed it, the exchange is
+ * lost: the list stays as it is, and the request notes the new head. It is the same with a region's anchor, which
+ * describes the region's chain. POOL_LOST is the number of exchanges, of heads and of anchors, that the request has
+ * lost since its accepted beginning, or 4,294,967,295 where there were more. What other tasks have lost is not in it,
+ * nor what earlier requests of the same task have.
+ *
+ * Compare these numbers to tune the table of slots in which your tasks are stepped: for each lost exchange the request
+ * has made two or three steps in vain. A request that the task's own cache can serve loses none, and a request for a
+ * strip or the free of one never does. All tasks share the lists of spare regions and of spare descriptors. Those that
+ * use a class share its partial list, and those that return blocks to a region or take its chain share its anchor.
+ *
+ * The number stands in the answer of the step that ends the request: POOL_FINISHED, POOL_NO_DESCRIPTOR, POOL_NO_REGION
+ * or POOL_NO_STRIP. Every other answer has 0 in its place: that of an earlier step, a beginning, a start, a report or a
+ * refused call.
+ *
  * ---- What is proved ----
  *
  * Of each call, for any bytes in the memories and any numbers: its answer, and every byte of the memories afterwards,
@@ -83,6 +106,8 @@
  *     pool_begin_allocate), at a multiple of 16 bytes of the area where that block has 16 bytes or more;
  *   - a finished strip is at least as large as asked for and less than twice it, or 512 bytes;
  *   - POOL_NO_STRIP comes exactly where no aligned stretch of the rounded size is free, slot of 512 bytes by slot;
+ *   - POOL_LOST of the step that ends a request is the number of exchanges which that request has lost, or
+ *     4,294,967,295 where there were more;
  *   - POOL_DAMAGED does not occur.
  *
  * The premises, which the firmware has to see to:
@@ -90,7 +115,7 @@
  *   1. The three memories do not overlap, and each really has the length that is lent with it. A pointer may be null
  *      where its length is 0.
  *   2. Calls do not overlap in time: mask interrupts or lock around each single call. But for a report, which is a tool
- *      (see "Reports" below), the longest is a step of at most 388 instructions; docs/BENCHMARKS.md says what this
+ *      (see "Reports" below), the longest is a step of at most 393 instructions; docs/BENCHMARKS.md says what this
  *      bound rests on. A start, which comes before the others, also fills 8,192 bytes by your memset.
  *   3. Each call but a start lends the control memory, the area and the strips' memory of the last accepted start. If
  *      it lends another length, it is refused and does no harm.
@@ -228,10 +253,14 @@ extern "C" {
 
 /* ---- answers ---- */
 
-/* Every call answers one number: its code plus 256 times its value. The value is the unit of a finished allocation,
-   from POOL_STRIP_FIRST up for a strip, else 0. */
+/* Every call answers one number, which has three parts: the code in the low 8 bits, the value in the next 24, the lost
+   exchanges in the high 32. The value is the unit of a finished allocation, from POOL_STRIP_FIRST up for a strip, else
+   0. The lost exchanges are those of a request that has ended, else 0: see "Lost exchanges" above. So compare the code
+   of a step with POOL_FINISHED, not its answer. */
 #define POOL_CODE(answer) ((unsigned)((answer) % 256))
-#define POOL_VALUE(answer) ((answer) / 256)
+#define POOL_VALUE(answer) ((answer) / 256 % 16777216)
+#define POOL_LOST(answer) ((uint32_t)((answer) / 256 / 16777216))
+#define POOL_LOST_MOST 4294967295u /* so many lost exchanges, or more */
 
 /* The address of the block that a unit names, and the unit of the block at an address. Use the second only on addresses
    that the first gave: it rounds down to a whole unit and does not test that the address lies in the area. */
@@ -382,8 +411,8 @@ uint64_t pool_begin_leave(uint8_t *control, uint64_t control_length, const uint8
  *
  * Answers, by the first test that fails: POOL_BAD_CONTROL, POOL_NOT_STARTED, POOL_BAD_AREA, POOL_NO_SUCH_TASK,
  * POOL_NO_REQUEST. Else POOL_UNDER_WAY while the request goes on, and POOL_FINISHED at its end. An allocation that
- * cannot be had now ends with POOL_NO_DESCRIPTOR, POOL_NO_REGION or POOL_NO_STRIP. POOL_DAMAGED comes where a bad value
- * is read.
+ * cannot be had now ends with POOL_NO_DESCRIPTOR, POOL_NO_REGION or POOL_NO_STRIP. With these four comes the number of
+ * lost exchanges, POOL_LOST. POOL_DAMAGED comes where a bad value is read.
  */
 uint64_t pool_step(uint8_t *control, uint64_t control_length, uint8_t *area, uint64_t area_length,
                    const uint8_t *strips, uint64_t strips_length, uint64_t task);

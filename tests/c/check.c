@@ -17,13 +17,19 @@ void check(const char *name, int holds)
     printf("%s: %s\n", holds ? "passed" : "FAILED", name);
 }
 
-void check_answer(const char *name, uint64_t answer, unsigned code, uint64_t value)
+void check_lost(const char *name, uint64_t answer, unsigned code, uint64_t value, uint32_t lost)
 {
-    int holds = POOL_CODE(answer) == code && POOL_VALUE(answer) == value;
+    int holds = POOL_CODE(answer) == code && POOL_VALUE(answer) == value && POOL_LOST(answer) == lost;
     check(name, holds);
     if (!holds)
-        printf("    expected code %u value %" PRIu64 ", answered code %u value %" PRIu64 "\n", code, value,
-               POOL_CODE(answer), POOL_VALUE(answer));
+        printf("    expected code %u value %" PRIu64 " lost %" PRIu32 ", answered code %u value %" PRIu64
+               " lost %" PRIu32 "\n",
+               code, value, lost, POOL_CODE(answer), POOL_VALUE(answer), POOL_LOST(answer));
+}
+
+void check_answer(const char *name, uint64_t answer, unsigned code, uint64_t value)
+{
+    check_lost(name, answer, code, value, 0);
 }
 
 int check_end(void)

@@ -7,7 +7,10 @@
 /* Counts one check and prints its name. */
 void check(const char *name, int holds);
 
-/* Counts one check of an answer and prints its name; where the answer is another one, both are printed. */
+/* Counts one check of all parts of an answer and prints its name; where the answer is another one, both are printed. */
+void check_lost(const char *name, uint64_t answer, unsigned code, uint64_t value, uint32_t lost);
+
+/* The same of an answer that tells no lost exchange. */
 void check_answer(const char *name, uint64_t answer, unsigned code, uint64_t value);
 
 /* Prints 'N passed, M failed'; 0 only where nothing failed. */
@@ -19,6 +22,9 @@ void check_sizes(void);
 void check_blocks(void);
 void check_strips(void);
 void check_leaving(void);
+void check_collisions(void);
+void check_lost_exchanges(void);
+void check_lost_runs(void);
 void check_sheet(void);
 void check_holders(void);
 void check_keepers(void);

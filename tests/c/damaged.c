@@ -14,6 +14,7 @@ enum {
     TOP = 4992,
     COUNT = 5248,
     TASK_UNIT = 5504,
+    TASK_LOST = 5600,
     TASK_PLACE = 5632,
     TASK_CLASS = 5640,
     DESCRIPTOR_REGION = 5776,
@@ -175,6 +176,16 @@ static void nodes(void)
     check_answer("its slot is taken again", allocate(&lent, 0, 512), POOL_FINISHED, 8256);
 }
 
+/* Every value of the lost exchanges is in range: it is told with what was asked for. */
+static void lost_exchanges(void)
+{
+    struct lent lent = one_block_in_hand();
+    (void)begin_allocate(&lent, 0, 256);
+    memset(lent.control + TASK_LOST, 0xFF, TASK_PLACE - TASK_LOST);
+    check_lost("any number of lost exchanges is in range", step(&lent, 0), POOL_FINISHED, 448, POOL_LOST_MOST);
+    check_answer("and does not reach the next request", release(&lent, 0, 448), POOL_FINISHED, 0);
+}
+
 /* A write into a free block changes its link; the step that would take the block finds it. */
 static void links(void)
 {
@@ -250,6 +261,7 @@ void check_damaged(void)
     fields();
     strips();
     nodes();
+    lost_exchanges();
     links();
     lists();
     entries_of_no_class();

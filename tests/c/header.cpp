@@ -4,9 +4,22 @@
 #include "pool.h" // a second time: the guard
 
 #include <cstddef>
+#include <type_traits>
 
 static_assert(POOL_CODE(UINT64_C(20) + 256 * 480) == POOL_FINISHED, "the code of an answer");
 static_assert(POOL_VALUE(UINT64_C(20) + 256 * 480) == 480, "the value of an answer");
+static_assert(POOL_LOST(UINT64_C(20) + 256 * 480) == 0, "no lost exchange");
+
+constexpr uint64_t WITH_LOST = UINT64_C(20) + 256 * 16320 + (UINT64_C(7) << 32);
+static_assert(POOL_CODE(WITH_LOST) == POOL_FINISHED, "the code beside lost exchanges");
+static_assert(POOL_VALUE(WITH_LOST) == 16320, "the value beside lost exchanges");
+static_assert(POOL_LOST(WITH_LOST) == 7, "the lost exchanges beside a value");
+static_assert(POOL_CODE(UINT64_MAX) == 255 && POOL_VALUE(UINT64_MAX) == 0xFFFFFF, "8 bits and 24");
+static_assert(POOL_LOST(UINT64_MAX) == POOL_LOST_MOST, "and 32");
+static_assert(std::is_same<decltype(POOL_CODE(WITH_LOST)), unsigned>::value, "the type of a code");
+static_assert(std::is_same<decltype(POOL_VALUE(WITH_LOST)), uint64_t>::value, "the type of a value");
+static_assert(std::is_same<decltype(POOL_LOST(WITH_LOST)), uint32_t>::value, "the type of a number of lost exchanges");
+
 static_assert(POOL_ALIGNMENT % alignof(std::max_align_t) == 0, "what malloc's blocks may hold");
 
 alignas(POOL_ALIGNMENT) uint8_t area[POOL_REGIONS_MOST * POOL_REGION_BYTES];

@@ -8,6 +8,9 @@ int main(void)
     check_blocks();
     check_strips();
     check_leaving();
+    check_collisions();
+    check_lost_exchanges();
+    check_lost_runs();
     check_sheet();
     check_holders();
     check_keepers();

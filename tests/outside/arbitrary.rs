@@ -1,22 +1,24 @@
 //! Arbitrary bytes and arbitrary numbers: never a fault, always an answer of the paper, and no byte changed by a call
 //! that is refused.
 
+pub use crate::arbitrary_counts::Counts;
+use crate::arbitrary_counts::CODES;
 use crate::checks::{Checks, Parted};
-use crate::classes::CLASSES;
-use crate::coverage::{kind, PerPlace, KINDS};
+use crate::coverage::kind;
 use crate::damage::{self, Bytes};
 use crate::expected;
 use crate::fitting;
 use crate::frames;
 use crate::layout::{self, View};
 use crate::leave_steps;
-use crate::library::{self, Lent};
+use crate::library::{self, Lent, Reply};
+use crate::losses::MOST;
+use crate::lost_steps;
 use crate::memory::{Memory, Side};
 use crate::pool::{Answer, Place, Request, PLACES};
 use crate::random::Random;
 use crate::strip_steps;
 use crate::strips::{unit_of, FIRST_UNIT, LAST_UNIT, SLOTS, STRIPS};
-use std::collections::BTreeMap;
 
 const CODE: &str = "arbitrary: the answer is one of the paper's codes for the call";
 const DUE: &str = "arbitrary: the tests are made in the paper's order on the values stored";
@@ -31,64 +33,16 @@ const OUTSIDE: &str = "arbitrary: bytes outside the three memories are as they w
 const STRIPS_KEPT: &str = "arbitrary: no call changes a byte of the strips' memory";
 const STRIP_STEPS: &str = "arbitrary: a strip's step does with any tree and slots what is defined";
 const LEAVING: &str = "arbitrary: where a return ends, the cache's count, the unit and the caches above decide";
+const LOST: &str = "arbitrary: an exchange goes back to its read exactly where the word is not the noted one";
+const TOLD: &str = "arbitrary: 20, 12, 13 and 16 tell the task's number of lost exchanges, other answers 0";
+const COUNTED: &str = "arbitrary: a beginning clears its task's number of lost exchanges, one lost exchange adds one";
 const IMAGE: &str = "arbitrary: a start leaves the same control memory whatever it was";
 
 const TRIALS: u64 = 1500;
-/// The codes that the paper gives to each kind of call, 14 with them.
-const CODES: [&[u64]; KINDS.len()] = [
-    &[0, 1, 2, 3],
-    &[0, 1, 2, 4, 5, 6, 8, 9, 14],
-    &[0, 1, 2, 4, 5, 6, 10, 11, 14],
-    &[0, 1, 2, 4, 5, 6, 14],
-    &[0, 20, 1, 2, 4, 5, 7, 12, 13, 14, 16],
-];
 /// What the strips' memory is filled with.
 const CANARY: u8 = 0x3C;
 const LENGTHS: [usize; 16] =
     [0, 1, 7, 8, 4095, 4096, 4097, 8191, 8192, 8193, 16384, 65535, 65536, 65537, 69632, 1 << 20];
-
-/// How often each code was answered, by kind of call, and 14 by the place of the task that stepped.
-#[derive(Default)]
-pub struct Counts {
-    codes: [[u64; 21]; KINDS.len()],
-    fourteen_at: PerPlace,
-    went_on_at: PerPlace,
-    /// The classes of the requests that were stepped.
-    classes: BTreeMap<u64, u64>,
-    /// Exchanges of leaving that led to another class, and to its last step.
-    led: [u64; 2],
-}
-
-impl Counts {
-    pub fn print(&self) {
-        for (kind, name) in KINDS.iter().enumerate() {
-            let codes: Vec<String> = (0..21)
-                .filter(|&code| self.codes[kind][code] > 0)
-                .map(|code| format!("{code} x {}", self.codes[kind][code]))
-                .collect();
-            println!("arbitrary memories, codes of {name}: {}", codes.join(", "));
-        }
-        println!("arbitrary memories, 14 at places 0 to 36: {:?}", self.fourteen_at.0);
-        println!("arbitrary memories, steps done at places 0 to 36: {:?}", self.went_on_at.0);
-        println!("arbitrary memories, returns that led to leaving's next class, its last step: {:?}", self.led);
-    }
-
-    /// Every code that the paper gives to a kind of call, 14 with them, has to occur.
-    pub fn report(&self, checks: &mut Checks) {
-        let occurs = |kind: usize| CODES[kind].iter().all(|&code| self.codes[kind][code as usize] > 0);
-        let all = (0..KINDS.len()).all(occurs);
-        let _ = checks.hold("arbitrary: each code of each kind of call occurs", all, || "see the counts".to_string());
-        let last = CLASSES as u64 - 1;
-        let edges = [last, last + 1, last + 2, last + 3, 255].iter().all(|class| self.classes.contains_key(class));
-        let _ = checks
-            .hold("arbitrary: steps of the last class and of some past it", edges, || format!("{:?}", self.classes));
-        let led = self.led.iter().all(|&times| times > 0);
-        let _ =
-            checks.hold("arbitrary: leaving goes on with another class and ends", led, || format!("{:?}", self.led));
-        let deep = (1..PLACES).all(|place| self.went_on_at.0[place] > 0);
-        let _ = checks.hold("arbitrary: steps are done at each place", deep, || "see the counts".to_string());
-    }
-}
 
 /// One round of trials, each on memories of its own.
 pub fn round(seed: u64, checks: &mut Checks, counts: &mut Counts) {
@@ -187,18 +141,19 @@ impl<'a> Trial<'a> {
 
     fn call(&mut self, request: Request) -> Result<(), Parted> {
         let place = self.place(request);
-        let answer = library::call(&mut self.ending, request);
+        let reply = library::call(&mut self.ending, request);
         let step = matches!(request, Request::Step { .. });
         self.starting.area.writable(step);
         let again = library::call(&mut self.starting, request);
         self.starting.area.writable(true);
-        let same = answer == again
+        let same = reply == again
             && self.ending.control.bytes() == self.starting.control.bytes()
             && self.ending.area.bytes() == self.starting.area.bytes();
-        self.checks.hold(SAME, same, || format!("{request:?}: {answer:?} and {again:?}"))?;
-        self.check_answer(request, answer)?;
-        self.count(request, answer, place);
-        self.check_bytes(request, answer)?;
+        self.checks.hold(SAME, same, || format!("{request:?}: {reply:?} and {again:?}"))?;
+        self.check_answer(request, reply.answer)?;
+        self.count(request, reply.answer, place);
+        self.check_bytes(request, reply.answer)?;
+        self.check_lost(request, place, reply)?;
         self.before.control.copy_from_slice(self.ending.control.bytes());
         self.before.area.copy_from_slice(self.ending.area.bytes());
         Ok(())
@@ -226,6 +181,28 @@ impl<'a> Trial<'a> {
         let strip = (FIRST_UNIT..=LAST_UNIT).contains(&answer.1) && strip_steps::slot_of(answer.1).is_some();
         let value = if answer.0 == 20 { answer.1 < FIRST_UNIT || strip } else { answer.1 == 0 };
         self.checks.hold(VALUE, value, || format!("{request:?}: {answer:?}"))
+    }
+
+    /// Holds the number that was told, and those of all tasks, against what the bytes before say.
+    fn check_lost(&mut self, request: Request, place: usize, reply: Reply) -> Result<(), Parted> {
+        let (before, after) = (&self.before.control, self.ending.control.bytes());
+        if before.len() != 8192 {
+            return self.checks.hold(TOLD, reply.lost == 0, || format!("{request:?}: {reply:?}"));
+        }
+        let mut lost = false;
+        if let (Request::Step { task }, 0 | 12 | 13 | 16 | 20) = (request, reply.answer.0) {
+            let found = lost_steps::lost(before, after, task as usize, place);
+            lost = found == Ok(true);
+            self.checks.agree(LOST, found.map(|_| ()))?;
+            let number = layout::get(before, layout::TASK_LOST, task as usize);
+            self.counts.lost.0[place] += u64::from(lost);
+            self.counts.lost_at_most.0[place] += u64::from(lost && number == MOST);
+            self.counts.told[reply.answer.0 as usize] += u64::from(number > 0);
+        }
+        let (told, numbers) = lost_steps::due(before, request, reply.answer, lost);
+        self.checks.hold(TOLD, reply.lost == told, || format!("{request:?}: {reply:?} where {told} are due"))?;
+        let left = lost_steps::numbers(after);
+        self.checks.hold(COUNTED, left == numbers, || format!("{request:?}: {left:?} where {numbers:?} are due"))
     }
 
     fn count(&mut self, request: Request, answer: Answer, place: usize) {

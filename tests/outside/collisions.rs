@@ -12,7 +12,7 @@ const N: usize = 16;
 const HALF: usize = N / 2;
 
 /// Steps a task until it stands at this place.
-fn steps_up_to(driver: &mut Driver, task: u64, place: Place) -> Result<(), Parted> {
+pub fn steps_up_to(driver: &mut Driver, task: u64, place: Place) -> Result<(), Parted> {
     for _ in 0..10_000 {
         if driver.pool.tasks[task as usize].place == place {
             break;

@@ -4,6 +4,7 @@ use crate::checks::Checks;
 use crate::classes::CLASSES;
 use crate::keepers_coverage::KeepersCoverage;
 use crate::leave_coverage::LeaveCoverage;
+use crate::lost_coverage::LostCoverage;
 use crate::pool::{Answer, Event, Place, Request, State, PLACES, REGIONS, TASKS};
 use crate::report_coverage::{FormCoverage, SheetCoverage};
 use crate::strip_coverage::StripCoverage;
@@ -23,8 +24,9 @@ const CODES: [&[u64]; KINDS.len()] = [
 /// What a return makes of an anchor's state.
 pub const CHANGES: [&str; 4] = ["FULL to PARTIAL", "FULL to EMPTY", "PARTIAL to PARTIAL", "PARTIAL to EMPTY"];
 
-/// The exchanges, by place, with what each is for.
-const EXCHANGES: [(usize, &str); 9] = [
+/// The exchanges, by place, with what each is for: so many of heads, then those of anchors.
+pub const HEADS: usize = 7;
+pub const EXCHANGES: [(usize, &str); 9] = [
     (4, "pop of a partial descriptor"),
     (7, "pop of a spare descriptor"),
     (10, "pop of a spare region"),
@@ -73,6 +75,7 @@ pub struct Coverage {
     pub freed_by_another: u64,
     pub strips: StripCoverage,
     pub leaving: LeaveCoverage,
+    pub losses: LostCoverage,
     pub sheet: SheetCoverage,
     pub form: FormCoverage,
     pub keepers: KeepersCoverage,
@@ -131,15 +134,7 @@ impl Coverage {
         for place in 1..PLACES {
             reached(checks, &format!("place {place} reached"), self.places.0[place]);
         }
-        for (place, what) in EXCHANGES {
-            reached(checks, &format!("won exchange: {what}"), self.won.0[place]);
-            reached(checks, &format!("lost exchange: {what}"), self.lost.0[place]);
-            // An allocation has the descriptor in hand alone, so that its chain can only get other first blocks.
-            if place != 24 {
-                let name = format!("lost exchange with the same one first again: {what}");
-                reached(checks, &name, self.lost_same_top.0[place]);
-            }
-        }
+        self.report_exchanges(checks);
         for (place, what) in [(2, "partial descriptors"), (5, "spare descriptors"), (8, "spare regions")] {
             reached(checks, &format!("list found empty: {what}"), self.found_empty.0[place]);
         }
@@ -162,9 +157,22 @@ impl Coverage {
         reached(checks, "frees by a task that did not allocate the block", self.freed_by_another);
         self.strips.report(checks);
         self.leaving.report(checks);
+        self.losses.report(checks);
         self.sheet.report(checks);
         self.form.report(checks);
         self.keepers.report(checks);
+    }
+
+    fn report_exchanges(&self, checks: &mut Checks) {
+        for (place, what) in EXCHANGES {
+            reached(checks, &format!("won exchange: {what}"), self.won.0[place]);
+            reached(checks, &format!("lost exchange: {what}"), self.lost.0[place]);
+            // An allocation has the descriptor in hand alone, so that its chain can only get other first blocks.
+            if place != 24 {
+                let name = format!("lost exchange with the same one first again: {what}");
+                reached(checks, &name, self.lost_same_top.0[place]);
+            }
+        }
     }
 
     fn report_codes(&self, checks: &mut Checks) {
@@ -192,6 +200,7 @@ impl Coverage {
         println!("by class, chains taken: {:?}; groups returned: {:?}", self.taken, self.returned);
         self.strips.print();
         self.leaving.print();
+        self.losses.print();
         self.sheet.print();
         self.form.print();
         self.keepers.print();
@@ -219,13 +228,14 @@ pub fn kind(request: Request) -> usize {
 }
 
 pub fn reached(checks: &mut Checks, name: &str, times: u64) {
-    let name = format!("covered: {name}");
-    for _ in 0..times.min(1) {
-        let _ = checks.hold(&name, true, String::new);
-    }
-    if times == 0 {
-        let _ = checks.hold(&name, false, || "never".to_string());
-    }
+    at_least(checks, name, times, 1);
+}
+
+pub fn at_least(checks: &mut Checks, name: &str, times: u64, least: u64) {
+    let _ = checks.hold(&format!("covered: {name}"), times >= least, || match times {
+        0 => "never".to_string(),
+        _ => format!("{times} times, and {least} are asked for"),
+    });
 }
 
 pub fn change(was: State, now: State) -> &'static str {

@@ -7,6 +7,7 @@ use crate::driver::Driver;
 use crate::faults::Fault;
 use crate::layout::*;
 use crate::lists::SPARE_REGIONS;
+use crate::losses::MOST;
 use crate::pieces::LAST;
 use crate::pool::{self, Place};
 use crate::random::Random;
@@ -134,7 +135,7 @@ fn class_edge(random: &mut Random) -> u64 {
 /// Changes one or several bytes or fields.
 pub fn damage(bytes: &mut Bytes, random: &mut Random) {
     for _ in 0..random.pick(&[1, 1, 1, 2, 3, 8, 30]) {
-        match random.below(8) {
+        match random.below(9) {
             0 => bytes.control[random.below(END) as usize] = random.next() as u8,
             1 => {
                 let place = random.below(bytes.area.len() as u64) as usize;
@@ -145,6 +146,7 @@ pub fn damage(bytes: &mut Bytes, random: &mut Random) {
             4 => damage_class(bytes, random),
             5 => damage_strip(bytes, random),
             6 => damage_leaving(bytes, random),
+            7 => damage_lost(bytes, random),
             _ => damage_link(bytes, random),
         }
     }
@@ -200,6 +202,16 @@ fn damage_leaving(bytes: &mut Bytes, random: &mut Random) {
         1 => set(&mut bytes.control, COUNT, cache_index(task, class), random.below(2)),
         _ => set(&mut bytes.control, COUNT, cache_index(task, class), per_region(class) + random.below(2)),
     }
+}
+
+/// Changes a task's number of lost exchanges: near the most, near where a further byte is needed, or any.
+fn damage_lost(bytes: &mut Bytes, random: &mut Random) {
+    let number = match random.below(3) {
+        0 => MOST - random.below(2),
+        1 => (1 << (8 * random.from_to(1, 4))) - 1,
+        _ => random.next(),
+    };
+    set(&mut bytes.control, TASK_LOST, random.below(pool::TASKS as u64) as usize, number);
 }
 
 fn damage_link(bytes: &mut Bytes, random: &mut Random) {

@@ -3,6 +3,7 @@
 use crate::checks::Parted;
 use crate::classes::{block, class_of, per_region, tail, CLASSES, UNITS_PER_REGION};
 use crate::driver::Driver;
+use crate::layout;
 use crate::lists::{LISTS, MOVES, SPARE_DESCRIPTORS, SPARE_REGIONS};
 use crate::pool::{Answer, Call, Request, REGIONS};
 use crate::schedules::Schedule;
@@ -179,7 +180,7 @@ pub fn tags_that_wrap(driver: &mut Driver) -> Result<(), Parted> {
         for tag in &mut tags {
             *tag = u32::MAX - driver.random.below(8) as u32;
         }
-        driver.set_tags(tags);
+        set_tags(driver, tags);
         Schedule::new(driver, &styles::without_restarts(styles::named(name))).go_on(12_000)?;
         for (list, row) in driver.pool.lists.iter().enumerate() {
             wrapped[list] |= row.won > 8;
@@ -192,6 +193,16 @@ pub fn tags_that_wrap(driver: &mut Driver) -> Result<(), Parted> {
         driver.checks.hold(&name, wrapped[list], || "never".to_string())?;
     }
     Ok(())
+}
+
+/// Sets the tags of all lists just after a start, as if the lists had seen that many won exchanges.
+fn set_tags(driver: &mut Driver, tags: [u32; LISTS]) {
+    for (list, tag) in tags.iter().enumerate() {
+        let word = layout::get(driver.lent.control.bytes(), layout::HEAD, list) & 0xFFFF_FFFF;
+        layout::set(driver.lent.control.bytes_mut(), layout::HEAD, list, word | u64::from(*tag) << 32);
+    }
+    driver.control_before.copy_from_slice(driver.lent.control.bytes());
+    driver.tags_at_start = tags;
 }
 
 /// For each move on a list, stops a task before the exchange until the item that it read is on top again.

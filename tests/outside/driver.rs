@@ -6,8 +6,9 @@ use crate::classes::{class_of, is_aligned, is_first, CLASSES, UNIT};
 use crate::coverage::Coverage;
 use crate::faults::Fault;
 use crate::layout::{self, cache_index, View, COUNT};
-use crate::library::{self, Lent};
+use crate::library::{self, Lent, Reply};
 use crate::lists::LISTS;
+use crate::losses::Losses;
 use crate::memory::{Memory, Side};
 use crate::pieces;
 use crate::pool::{Answer, Call, Place, Pool, Request, ALL_UNITS, CONTROL, TASKS};
@@ -47,6 +48,9 @@ pub struct Driver<'a> {
     pub covered: Vec<bool>,
     pub slots: Slots,
     pub tags_at_start: [u32; LISTS],
+    /// The lost exchanges of the requests, and how many the last call of the library told.
+    pub losses: Losses,
+    pub told: u64,
     pub checks: &'a mut Checks,
     pub coverage: &'a mut Coverage,
     pub random: Random,
@@ -64,6 +68,7 @@ impl<'a> Driver<'a> {
         random.fill(area.bytes_mut());
         random.fill(strips.bytes_mut());
         coverage.leaving.forget();
+        coverage.losses.forget();
         Driver {
             pool: Pool::new(fault),
             control_before: control.bytes().to_vec(),
@@ -77,6 +82,8 @@ impl<'a> Driver<'a> {
             covered: vec![false; ALL_UNITS],
             slots: Slots::new(),
             tags_at_start: [0; LISTS],
+            losses: Losses::default(),
+            told: 0,
             checks,
             coverage,
             random,
@@ -95,19 +102,22 @@ impl<'a> Driver<'a> {
         let place = self.place_of(call.request);
         let busy = self.pool.tasks.iter().any(|task| task.place != Place::Idle);
         let expected = self.pool.call(&call);
+        let lost = self.losses.note(call.request, place, self.pool.event, expected, self.pool.fault);
+        let due = Reply { answer: expected, lost };
         if call.control != CONTROL || call.area != self.lent.area.len() as u64 || call.strips != STRIPS {
-            self.call_with_other_lengths(call, expected)?;
+            self.call_with_other_lengths(call, due)?;
         } else {
-            let answer = library::call(&mut self.lent, call.request);
-            self.check_allocation(call.request, answer)?;
-            self.compare_answers(call, answer, expected)?;
+            let reply = library::call(&mut self.lent, call.request);
+            self.check_allocation(call.request, reply.answer)?;
+            self.compare_answers(call, reply, due)?;
             self.compare_strips(call, place, expected)?;
             self.compare_memories(call, expected)?;
-            self.check_left(call.request, place, answer)?;
+            self.check_left(call.request, place, reply.answer)?;
         }
         self.coverage.count(call.request, place, self.pool.event, expected);
         self.coverage.strips.count(&call, &self.pool, expected);
         self.coverage.leaving.count(&call, place, &self.pool, expected);
+        self.coverage.losses.count(&call, self.pool.event, &self.losses, expected);
         self.count_more(call, place, busy, expected);
         self.follow(call.request, place, expected);
         if expected.0 == 13 {
@@ -171,12 +181,13 @@ impl<'a> Driver<'a> {
         self.checks.hold(LEFT, cached == 0, || format!("task {task} has {cached} blocks cached"))
     }
 
-    fn compare_answers(&mut self, call: Call, answer: Answer, expected: Answer) -> Result<(), Parted> {
-        let recent = &self.recent;
+    fn compare_answers(&mut self, call: Call, reply: Reply, due: Reply) -> Result<(), Parted> {
+        let (recent, answer, expected) = (&self.recent, reply.answer, due.answer);
         self.checks.hold(ANSWERS, answer == expected, || {
             format!("{call:?}: library {answer:?}, plain pool {expected:?}; last calls {recent:?}")
         })?;
-        self.checks.hold(NO_14, answer.0 != 14, || format!("{call:?}"))
+        self.checks.hold(NO_14, answer.0 != 14, || format!("{call:?}"))?;
+        self.compare_lost(call, reply, due.lost)
     }
 
     /// Compares control and area with what they were before the call, then keeps them as they are now.
@@ -201,7 +212,7 @@ impl<'a> Driver<'a> {
 
     /// A call that is lent memories of other lengths. The plain pool says whether it is an accepted start, which is
     /// the only such call that may change anything.
-    fn call_with_other_lengths(&mut self, call: Call, expected: Answer) -> Result<(), Parted> {
+    fn call_with_other_lengths(&mut self, call: Call, due: Reply) -> Result<(), Parted> {
         let side = if self.random.one_in(2) { Side::EndsAtGuard } else { Side::StartsAtGuard };
         let control_bytes = stretched(self.lent.control.bytes(), call.control as usize, &mut self.random);
         let area_bytes = stretched(self.lent.area.bytes(), call.area as usize, &mut self.random);
@@ -210,15 +221,15 @@ impl<'a> Driver<'a> {
         if own_strips {
             std::mem::swap(&mut lent.strips, &mut self.lent.strips);
         }
-        let answer = library::call(&mut lent, call.request);
+        let reply = library::call(&mut lent, call.request);
         if own_strips {
             std::mem::swap(&mut lent.strips, &mut self.lent.strips);
         }
-        self.compare_answers(call, answer, expected)?;
+        self.compare_answers(call, reply, due)?;
         self.checks.hold(OUTSIDE, lent.slack_untouched(), || format!("{call:?}"))?;
         self.checks.hold(STRIPS_KEPT, self.lent.strips.bytes() == self.strips_before, || format!("{call:?}"))?;
         self.checks.hold(ONE_LINK, lent.area.bytes() == area_bytes, || format!("{call:?}"))?;
-        if expected.0 != 0 {
+        if due.answer.0 != 0 {
             return self.checks.hold(UNCHANGED, lent.control.bytes() == control_bytes, || format!("{call:?}"));
         }
         self.coverage.other_length_starts += 1;
@@ -227,16 +238,6 @@ impl<'a> Driver<'a> {
         self.lent.control = lent.control;
         self.lent.area = lent.area;
         self.compare_pieces()
-    }
-
-    /// Sets the tags of all lists just after a start, as if the lists had seen that many won exchanges.
-    pub fn set_tags(&mut self, tags: [u32; LISTS]) {
-        for (list, tag) in tags.iter().enumerate() {
-            let word = layout::get(self.lent.control.bytes(), layout::HEAD, list) & 0xFFFF_FFFF;
-            layout::set(self.lent.control.bytes_mut(), layout::HEAD, list, word | u64::from(*tag) << 32);
-        }
-        self.control_before.copy_from_slice(self.lent.control.bytes());
-        self.tags_at_start = tags;
     }
 
     /// Compares structure, by the documents of the layout.
@@ -263,6 +264,7 @@ impl<'a> Driver<'a> {
         self.checks.agree("structure: each block's holder, once", structure::holders(pool, &view))?;
         self.checks.agree("structure: bytes of control outside the fields are zero", structure::gaps(&view))?;
         self.checks.agree("structure: cache entries of no class are empty", structure::entries_of_no_class(&view))?;
+        self.checks.agree("structure: each task's number of lost exchanges", self.numbers_stand())?;
         self.checks.agree("structure: tags", structure::tags(pool, &view, &self.tags_at_start))
     }
 }

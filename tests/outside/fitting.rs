@@ -4,6 +4,7 @@ use crate::classes::{per_region, CLASSES, UNITS_PER_REGION};
 use crate::damage::{regions, zeros, Bytes};
 use crate::layout::*;
 use crate::lists::{SPARE_DESCRIPTORS, SPARE_REGIONS};
+use crate::losses::MOST;
 use crate::pieces::{BEGUN, HELD};
 use crate::pool::{self, Place, PLACES};
 use crate::random::Random;
@@ -37,6 +38,7 @@ pub fn fitting(random: &mut Random) -> Bytes {
         fit(control, column, random, |random| random.from_to(0, LEAST_N));
     }
     fit(control, TASK_UNIT, random, |random| if random.one_in(2) { LEAVING } else { unit(random, regions) });
+    fit(control, TASK_LOST, random, |random| if random.one_in(2) { MOST } else { random.next() });
     fit(control, TASK_PLACE, random, |random| random.below(PLACES as u64));
     let often = class(random);
     let class_of = |random: &mut Random| if random.one_in(2) { often } else { class(random) };

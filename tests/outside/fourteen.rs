@@ -93,11 +93,13 @@ fn try_one(case: &Case, mut bytes: Bytes, task: usize, place: usize, checks: &mu
     }
     let request = begun.unwrap_or(Request::Step { task: task as u64 });
     let mut lent = Lent::closed(&bytes.control, &bytes.area, bytes.strips, Side::EndsAtGuard);
-    let answer = library::call(&mut lent, request);
+    let reply = library::call(&mut lent, request);
     let name = format!("{}: {}", if case.bad { "14" } else { "not 14" }, case.name);
-    let _ = checks.hold(&name, (answer == (14, 0)) == case.bad, || format!("at place {place}: {answer:?}"));
+    let as_due = if case.bad { reply.is((14, 0)) } else { reply.answer.0 != 14 };
+    let _ = checks.hold(&name, as_due, || format!("at place {place}: {reply:?}"));
     let same = lent.control.bytes() == bytes.control && lent.area.bytes() == bytes.area;
-    let _ = checks.hold("14: no byte changes", same || answer.0 != 14, || format!("{} at place {place}", case.name));
+    let _ =
+        checks.hold("14: no byte changes", same || reply.answer.0 != 14, || format!("{} at place {place}", case.name));
     true
 }
 

@@ -5,6 +5,7 @@ use crate::classes::{per_region, tail, units, CLASSES, UNIT, UNITS_PER_REGION};
 use crate::damage::Bytes;
 use crate::layout::*;
 use crate::lists::{SPARE_DESCRIPTORS, SPARE_REGIONS};
+use crate::losses::MOST;
 use crate::pieces::{BEGUN, HELD};
 use crate::pool::{self, Request};
 use crate::strips::{unit_of, SLOTS};
@@ -56,6 +57,7 @@ pub const CASES: &[Case] = &[
     case("a place past the step list, as a free begins", FREE, |bytes, task, _| {
         put(bytes, TASK_PLACE, task, LAST_PLACE + 1) && held(bytes).is_some()
     }),
+    in_range("a number of lost exchanges of 4,294,967,295", ALL, |bytes, task, _| put(bytes, TASK_LOST, task, MOST)),
     in_range("the last class of the table", &[1, 2], task_class::<{ PAST - 1 }>),
     case("the first class past the table", ALL, task_class::<PAST>),
     case("the second class past the table", ALL, task_class::<{ PAST + 1 }>),

@@ -35,6 +35,8 @@ pub const TASK_LEFT: Column = column(5536, 2, 8);
 pub const GROUP_FIRST: Column = column(5552, 2, 8);
 pub const GROUP_LAST: Column = column(5568, 2, 8);
 pub const GROUP_COUNT: Column = column(5584, 2, 8);
+/// The lost exchanges of the task's request, or of its last one. Every value is in range.
+pub const TASK_LOST: Column = column(5600, 4, 8);
 pub const TASK_PLACE: Column = column(5632, 1, 8);
 pub const TASK_CLASS: Column = column(5640, 1, 8);
 pub const TASK_NEXT: Column = column(5648, 1, 8);
@@ -83,7 +85,7 @@ pub fn outside_fields() -> Vec<bool> {
 }
 
 /// The columns with one field for each task.
-pub const OF_A_TASK: [Column; 14] = [
+pub const OF_A_TASK: [Column; 15] = [
     TASK_HEAD,
     TASK_ANCHOR,
     TASK_UNIT,
@@ -92,6 +94,7 @@ pub const OF_A_TASK: [Column; 14] = [
     GROUP_FIRST,
     GROUP_LAST,
     GROUP_COUNT,
+    TASK_LOST,
     TASK_PLACE,
     TASK_CLASS,
     TASK_NEXT,

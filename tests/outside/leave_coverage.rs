@@ -13,7 +13,7 @@ pub const PLACES_OF_LEAVING: [usize; 12] = [17, 18, 19, 20, 21, 22, 29, 30, 31, 
 const EXCHANGES: [(usize, &str); 3] = [(19, "push of a region"), (22, "push of a descriptor"), (32, "anchor")];
 /// What follows where the return of a group ends.
 const ENDS: [&str; 3] = ["a further group", "another class", "the last step"];
-const REQUESTS: [&str; 5] = ["an allocation", "a free", "a strip taken", "a strip given", "leaving"];
+pub const REQUESTS: [&str; 5] = ["an allocation", "a free", "a strip taken", "a strip given", "leaving"];
 /// The stand has an area of four regions.
 const STAND_AREA: u64 = 16_384;
 
@@ -51,7 +51,7 @@ struct Watched {
 }
 
 /// The task and the name of a request that begins.
-fn beginning(request: Request) -> Option<(u64, &'static str)> {
+pub fn beginning(request: Request) -> Option<(u64, &'static str)> {
     match request {
         Request::Allocate { task, size } => Some((task, REQUESTS[if size < LEAST_SIZE { 0 } else { 2 }])),
         Request::Free { task, unit } => Some((task, REQUESTS[if unit < FIRST_UNIT { 1 } else { 3 }])),

@@ -11,7 +11,7 @@ use crate::strips::{FIRST_UNIT, SLOT};
 use crate::strips_directed::expect;
 
 /// Leaves and answers how many steps that took and the last answer.
-fn leave(driver: &mut Driver, task: u64) -> Result<(u64, Answer), Parted> {
+pub fn leave(driver: &mut Driver, task: u64) -> Result<(u64, Answer), Parted> {
     driver.ask(Request::Leave { task })?;
     steps_to_the_end(driver, task)
 }
@@ -163,11 +163,12 @@ pub fn refusals_of_leaving(driver: &mut Driver) -> Result<(), Parted> {
     expect(driver, "a step after leaving has finished", (0, idle), (0, (7, 0)))
 }
 
-/// A way to 12 with one region and five tasks. In each of twelve classes all five read the partial list while it is
-/// empty; then each opens the region, gives its block back and leaves, and leaves an EMPTY descriptor on that list. Of
-/// the 64 descriptors four are left, which four tasks take in hand for the thirteenth class.
-pub fn no_descriptor_by_leaving(driver: &mut Driver) -> Result<(), Parted> {
-    const WAITING: u64 = 5;
+/// The tasks of the way to 12 with one region.
+pub const WAITING: u64 = 5;
+
+/// In each of twelve classes all five tasks read the partial list while it is empty; then each opens the region, gives
+/// its block back and leaves, and leaves an EMPTY descriptor on that list. Of the 64 descriptors four are left.
+pub fn all_but_four_descriptors(driver: &mut Driver) -> Result<(), Parted> {
     start(driver, WAITING, 1)?;
     for class in 1..CLASSES {
         for task in 0..WAITING {
@@ -184,6 +185,13 @@ pub fn no_descriptor_by_leaving(driver: &mut Driver) -> Result<(), Parted> {
         expect(driver, "descriptors that stay on the list of a class", empty, (0, (WAITING, 0)))?;
         driver.compare_structure()?;
     }
+    Ok(())
+}
+
+/// A way to 12 with one region and five tasks: four of them take the last four descriptors in hand for the thirteenth
+/// class.
+pub fn no_descriptor_by_leaving(driver: &mut Driver) -> Result<(), Parted> {
+    all_but_four_descriptors(driver)?;
     for task in 0..DESCRIPTORS as u64 - WAITING * (CLASSES as u64 - 1) {
         driver.ask(Request::Allocate { task, size: 8 })?;
         for _ in 0..5 {

@@ -2,7 +2,8 @@
 //! for the next cache, the counts that it reads are tested: 14 above n.
 
 use crate::classes::{per_region, CLASSES};
-use crate::layout::{cache_index, get, set, COUNT, GROUP_COUNT, LEAVING, TASK_CLASS, TASK_PLACE, TASK_UNIT};
+use crate::layout::{cache_index, get, set, COUNT, GROUP_COUNT, LEAVING};
+use crate::layout::{TASK_CLASS, TASK_LOST, TASK_PLACE, TASK_UNIT};
 use crate::pool::Place;
 
 /// A count that was read is above n.
@@ -32,6 +33,7 @@ pub fn begun(control: &[u8], task: usize) -> (u64, Vec<u8>) {
     let mut after = control.to_vec();
     let Ok(next) = next(control, task, 0) else { return (14, after) };
     set(&mut after, TASK_UNIT, task, LEAVING);
+    set(&mut after, TASK_LOST, task, 0);
     go_on(&mut after, task, next);
     (0, after)
 }

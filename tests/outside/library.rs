@@ -4,6 +4,7 @@ use crate::memory::{within_time, Memory, Side};
 use crate::pool::{Answer, Request};
 use crate::report::Report;
 use crate::tamper;
+use crate::tamper_lost;
 use crate::tamper_report;
 
 unsafe extern "C" {
@@ -76,6 +77,24 @@ macro_rules! reports {
 
 reports! { pool_sheet pool_holders pool_keepers }
 
+/// What a call answers: "code in the low 8 bits, value in the next 24, lost exchanges in the high 32".
+#[derive(Clone, Copy, PartialEq, Eq, Debug)]
+pub struct Reply {
+    pub answer: Answer,
+    pub lost: u64,
+}
+
+impl Reply {
+    fn of(number: u64) -> Reply {
+        Reply { answer: (number & 0xFF, number >> 8 & 0xFF_FFFF), lost: number >> 32 }
+    }
+
+    /// Whether it is this answer, and no lost exchanges are told.
+    pub fn is(self, answer: Answer) -> bool {
+        self == Reply { answer, lost: 0 }
+    }
+}
+
 /// The three memories that a call is lent.
 pub struct Lent {
     pub control: Memory,
@@ -97,14 +116,15 @@ impl Lent {
     }
 }
 
-/// One call of the library. It answers one number: the code, and 256 times the value.
-pub fn call(lent: &mut Lent, request: Request) -> Answer {
+/// One call of the library.
+pub fn call(lent: &mut Lent, request: Request) -> Reply {
     let before = tamper::before(lent, request);
+    let numbers = tamper_lost::before(lent);
     let (c, c_length) = (lent.control.pointer(), lent.control.len() as u64);
     let (a, a_length) = (lent.area.pointer(), lent.area.len() as u64);
     let (s, s_length) = (lent.strips.pointer(), lent.strips.len() as u64);
     // SAFETY: the three memories are lent for the call with their true lengths.
-    let answer = unsafe {
+    let number = unsafe {
         match request {
             Request::Start { tasks } => pool_start(c, c_length, a, a_length, s, s_length, tasks),
             Request::Allocate { task, size } => pool_begin_allocate(c, c_length, a, a_length, s, s_length, task, size),
@@ -113,17 +133,20 @@ pub fn call(lent: &mut Lent, request: Request) -> Answer {
             Request::Step { task } => pool_step(c, c_length, a, a_length, s, s_length, task),
         }
     };
-    tamper::after(lent, request, before, (answer % 256, answer / 256))
+    let place = before.place;
+    let reply = Reply::of(number);
+    let answer = tamper::after(lent, request, before, reply.answer);
+    tamper_lost::after(lent, request, place, numbers, Reply { answer, ..reply })
 }
 
 /// A report of the library, written into the row.
-pub fn report(report: Report, lent: &mut Lent, row: &mut Memory) -> Answer {
-    let answer = true_report(report, lent, row);
-    tamper_report::after(report, lent, row, answer)
+pub fn report(report: Report, lent: &mut Lent, row: &mut Memory) -> Reply {
+    let reply = true_report(report, lent, row);
+    tamper_report::after(report, lent, row, reply)
 }
 
 /// The same without a deliberate fault.
-pub fn true_report(report: Report, lent: &Lent, row: &mut Memory) -> Answer {
+pub fn true_report(report: Report, lent: &Lent, row: &mut Memory) -> Reply {
     let (c, c_length) = (lent.control.pointer(), lent.control.len() as u64);
     let (a, a_length) = (lent.area.pointer(), lent.area.len() as u64);
     let (s, s_length) = (lent.strips.pointer(), lent.strips.len() as u64);
@@ -134,6 +157,6 @@ pub fn true_report(report: Report, lent: &Lent, row: &mut Memory) -> Answer {
     };
     let (r, r_length) = (row.pointer(), row.len() as u64);
     // SAFETY: the three memories and the row are lent for the call with their true lengths.
-    let answer = within_time(|| unsafe { called(c, c_length, a, a_length, s, s_length, r, r_length) });
-    (answer % 256, answer / 256)
+    let number = within_time(|| unsafe { called(c, c_length, a, a_length, s, s_length, r, r_length) });
+    Reply::of(number)
 }

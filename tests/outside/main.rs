@@ -1,6 +1,7 @@
 //! Tests of the block pool from outside: the static library against a plain pool written from the paper alone.
 
 mod arbitrary;
+mod arbitrary_counts;
 mod checks;
 mod classes;
 mod collisions;
@@ -32,6 +33,12 @@ mod leave_steps;
 mod leaving;
 mod library;
 mod lists;
+mod losses;
+mod lost_checks;
+mod lost_coverage;
+mod lost_directed;
+mod lost_numbers;
+mod lost_steps;
 mod made;
 mod memory;
 mod odd_calls;
@@ -71,6 +78,7 @@ mod styles;
 mod table;
 mod tamper;
 mod tamper_keepers;
+mod tamper_lost;
 mod tamper_report;
 mod unread;
 mod users;
@@ -148,7 +156,7 @@ fn schedules_of_a_round() -> usize {
 
 /// One schedule on a fresh driver. A schedule ends at its first failure, which the checks keep.
 fn schedule(options: &Options, round: u64, index: usize, checks: &mut Checks, coverage: &mut Coverage) {
-    let seed = options.seed.wrapping_mul(1_000_003).wrapping_add(round * 64 + index as u64);
+    let seed = options.seed.wrapping_mul(1_000_003).wrapping_add(round * 128 + index as u64);
     let style = index.checked_sub(WRITTEN.len()).map(|index| &STYLES[index]);
     checks.context =
         format!("round {round}, {}", style.map_or(format!("written schedule {index}"), |style| style.name.into()));

@@ -17,7 +17,7 @@ use crate::users::Held;
 
 const SAME: &str = "the library's is that of the plain pool";
 const SAME_AFTER_13: &str = "right after a step that ended with 13 the library's is that of the plain pool";
-const ANSWER: &str = "in a run it is answered by 20, before the first start by 4";
+const ANSWER: &str = "in a run it is answered by 20, before the first start by 4, with no lost exchanges told";
 const KEPT: &str = "it changes no byte of the three memories, and none of its row behind the first";
 const SUMS: &str = "sheet: the four numbers of an open region add up to n, those of others are 0";
 const TOTALS: &str = "form: the total of each class is that of the library's sheet";
@@ -98,10 +98,10 @@ impl Driver<'_> {
     fn take(&mut self, report: Report, filled: u8) -> Result<(), Parted> {
         let row = &mut self.rows[report as usize];
         row.bytes_mut().fill(filled);
-        let answer = library::report(report, &mut self.lent, row);
+        let reply = library::report(report, &mut self.lent, row);
         let whole = report.bytes(regions_of(&self.pool));
         let (due, length) = if self.pool.started_tasks > 0 { ((20, 0), whole) } else { ((4, 0), 0) };
-        self.checks.hold(&report.check(ANSWER), answer == due, || format!("{answer:?} where {due:?} is due"))?;
+        self.checks.hold(&report.check(ANSWER), reply.is(due), || format!("{reply:?} where {due:?} is due"))?;
         let kept = self.lent.control.bytes() == self.control_before
             && self.lent.area.bytes() == self.area_before
             && self.lent.strips.bytes() == self.strips_before

@@ -28,12 +28,13 @@ const IDLE: u64 = 20;
 const UNREAD: &str = "what it does not read may be anything";
 
 /// The columns of which no report reads anything, but for the list of the spare regions, which the keepers read.
-const UNREAD_COLUMNS: [Column; 12] = [
+const UNREAD_COLUMNS: [Column; 13] = [
     HEAD,
     TASK_HEAD,
     TASK_ANCHOR,
     GROUP_FIRST,
     GROUP_LAST,
+    TASK_LOST,
     TASK_NEXT,
     TASK_DESCRIPTOR,
     TASK_STATE,

@@ -3,16 +3,15 @@
 
 use crate::checks::{Checks, Parted};
 use crate::damage::Bytes;
-use crate::library::{self, Lent};
+use crate::library::{self, Lent, Reply};
 use crate::memory::{Memory, Side};
-use crate::pool::Answer;
 use crate::random::Random;
 use crate::report::{whole, Report, REPORTS};
 use crate::report_bytes;
 use crate::report_sums;
 use crate::tamper_report;
 
-const CODE: &str = "the code that is due";
+const CODE: &str = "the code that is due, with no lost exchanges told";
 const ROW: &str = "the numbers that are due, and no further byte of the row changes";
 const REFUSED: &str = "a refused call changes no byte of the row";
 const KEPT: &str = "no byte of the three memories changes, and none beside them";
@@ -24,7 +23,7 @@ const KINDS: &str = "keepers of any memories: each kind goes with the four numbe
 /// What a call left.
 struct Made {
     report: Report,
-    answer: Answer,
+    reply: Reply,
     row_before: Vec<u8>,
     row: Vec<u8>,
     /// Whether no byte but those of the row has changed.
@@ -54,10 +53,10 @@ pub fn all(
     checks: &mut Checks,
 ) -> Result<[Told; REPORTS.len()], Parted> {
     let [sheet, form, keepers] = REPORTS.map(|report| make(report, bytes, lengths[report as usize], random));
-    let codes = (sheet.answer.0, form.answer.0);
+    let codes = (sheet.code(), form.code());
     let together = codes.0 == codes.1 || matches!(codes, (20 | 23, 20 | 23));
     checks.hold(TOGETHER, together, || format!("{codes:?}"))?;
-    let codes = (sheet.answer.0, keepers.answer.0);
+    let codes = (sheet.code(), keepers.code());
     let refused_too = codes.0 == codes.1 || matches!(codes, (20 | 23, 14 | 20 | 23));
     checks.hold(REFUSED_TOO, refused_too, || format!("{codes:?}"))?;
     if sheet.is_given(bytes) && form.is_given(bytes) {
@@ -80,25 +79,29 @@ fn make(report: Report, bytes: &Bytes, length: usize, random: &mut Random) -> Ma
     let mut row = Memory::new(length, side());
     random.fill(row.bytes_mut());
     let row_before = row.bytes().to_vec();
-    let answer = read_only(report, &mut lent, &mut row);
+    let reply = read_only(report, &mut lent, &mut row);
     let kept = lent.control.bytes() == bytes.control && lent.area.bytes() == bytes.area;
     let kept = kept && lent.slack_untouched() && row.slack_untouched();
-    Made { report, answer, row_before, row: row.bytes().to_vec(), kept }
+    Made { report, reply, row_before, row: row.bytes().to_vec(), kept }
 }
 
 /// The call while control and area cannot be written: a call that does it ends the program at once.
-fn read_only(report: Report, lent: &mut Lent, row: &mut Memory) -> Answer {
+fn read_only(report: Report, lent: &mut Lent, row: &mut Memory) -> Reply {
     lent.control.writable(false);
     lent.area.writable(false);
-    let answer = library::true_report(report, lent, row);
+    let reply = library::true_report(report, lent, row);
     lent.control.writable(true);
     lent.area.writable(true);
-    tamper_report::after(report, lent, row, answer)
+    tamper_report::after(report, lent, row, reply)
 }
 
 impl Made {
+    fn code(&self) -> u64 {
+        self.reply.answer.0
+    }
+
     fn is_given(&self, bytes: &Bytes) -> bool {
-        self.answer.0 == 20 && self.row.len() >= self.report.bytes(bytes.regions())
+        self.code() == 20 && self.row.len() >= self.report.bytes(bytes.regions())
     }
 
     /// The bytes of the row that are the report's.
@@ -108,11 +111,11 @@ impl Made {
 
     /// Holds it against what is due.
     fn compared(self, bytes: &Bytes, checks: &mut Checks) -> Result<Told, Parted> {
-        let Made { report, answer, row_before, row, kept } = self;
+        let Made { report, reply, row_before, row, kept } = self;
         let length = row.len();
         let (code, numbers) = report_bytes::due(report, bytes, length);
         let name = |what| format!("{} of any memories: {what}", report.name());
-        checks.hold(&name(CODE), answer == (code, 0), || format!("{answer:?} where {code} is due, row of {length}"))?;
+        checks.hold(&name(CODE), reply.is((code, 0)), || format!("{reply:?} where {code} is due, row of {length}"))?;
         let mut due = row_before;
         due[..numbers.len()].copy_from_slice(&numbers);
         let same = name(if code == 20 { ROW } else { REFUSED });

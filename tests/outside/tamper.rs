@@ -19,7 +19,7 @@ pub static TAMPERING: OnceLock<Fault> = OnceLock::new();
 /// What a fault needs to know of the state before the call.
 pub struct Before {
     /// The place and the class of the task that steps.
-    place: u64,
+    pub place: u64,
     class: u64,
     /// A byte of control that a start has to write.
     byte: u8,

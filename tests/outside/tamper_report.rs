@@ -6,7 +6,7 @@ use crate::faults::Fault;
 use crate::form;
 use crate::keepers;
 use crate::layout::{View, DESCRIPTOR_CLASS, MAP};
-use crate::library::Lent;
+use crate::library::{Lent, Reply};
 use crate::memory::Memory;
 use crate::pool::{Answer, REGIONS, TASKS};
 use crate::report::{cache, number, put_numbers, Report, HANDS, HOLDERS, REPORTS};
@@ -14,6 +14,7 @@ use crate::report_bytes::in_hand;
 use crate::sheet;
 use crate::tamper::{flip, TAMPERING};
 use crate::tamper_keepers::{each_unit, high_first};
+use crate::tamper_lost;
 
 /// What a broken library does alike to each report.
 #[derive(Clone, Copy)]
@@ -48,8 +49,13 @@ fn deed(report: Report, fault: Fault) -> Option<Deed> {
     DEEDS.iter().find(|(_, faults)| faults[report as usize] == fault).map(|(deed, _)| *deed)
 }
 
-pub fn after(report: Report, lent: &mut Lent, row: &mut Memory, answer: Answer) -> Answer {
-    let Some(&fault) = TAMPERING.get() else { return answer };
+pub fn after(report: Report, lent: &mut Lent, row: &mut Memory, reply: Reply) -> Reply {
+    let Some(&fault) = TAMPERING.get() else { return reply };
+    let answer = change(report, fault, lent, row, reply.answer);
+    tamper_lost::after_report(lent, Reply { answer, ..reply })
+}
+
+fn change(report: Report, fault: Fault, lent: &mut Lent, row: &mut Memory, answer: Answer) -> Answer {
     let (done, whole) = (answer.0 == 20, report.bytes(lent.area.len() / 4096));
     if done {
         change_row(report, fault, lent, row);

@@ -2,11 +2,11 @@
 
 use crate::checks::Parted;
 use crate::driver::Driver;
-use crate::{collisions, directed, leave_directed, strips_directed};
+use crate::{collisions, directed, leave_directed, lost_directed, lost_numbers, strips_directed};
 use crate::{form_directed, keepers_directed, sheet_directed};
 
 type Written = fn(&mut Driver) -> Result<(), Parted>;
-pub const WRITTEN: [Written; 43] = [
+pub const WRITTEN: [Written; 54] = [
     directed::first_allocations,
     directed::bench_refusals,
     directed::every_size,
@@ -30,6 +30,17 @@ pub const WRITTEN: [Written; 43] = [
     leave_directed::after_a_strip,
     leave_directed::refusals_of_leaving,
     leave_directed::no_descriptor_by_leaving,
+    lost_directed::ends_with_13,
+    lost_directed::opens_a_region,
+    lost_directed::takes_a_chain,
+    lost_directed::leaves_a_region,
+    lost_directed::returns_to_regions,
+    lost_directed::ends_with_12,
+    lost_directed::strips_tell_none,
+    lost_directed::each_its_own,
+    lost_numbers::written_at_the_end,
+    lost_numbers::heads_up_to_the_most,
+    lost_numbers::anchors_up_to_the_most,
     sheet_directed::first_block,
     sheet_directed::carving,
     sheet_directed::chain_on_the_way,

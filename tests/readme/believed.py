@@ -10,7 +10,8 @@ from documents import README, read, squeezed, tables_by
 
 STATEMENTS = ('crates/demands/proofs/Demands.antt', 'crates/demands/proofs/EndingSteps.antt',
               'crates/demands/proofs/HandedOut.antt', 'crates/demands/proofs/StockSheet.antt',
-              'crates/demands/proofs/SheetByHolder.antt', 'crates/demands/proofs/RegionKeepers.antt')
+              'crates/demands/proofs/SheetByHolder.antt', 'crates/demands/proofs/RegionKeepers.antt',
+              'crates/demands/proofs/LostTold.antt')
 IMPORT = re.compile(r'^(?:unfoldable )?(?:pub )?use Rattle·(\w+)(?:·specs)?\.specs\.(\w+)', re.M)
 
 

@@ -13,6 +13,7 @@ REPORT_ROWS = 'crates/reports/specs/Rows.antt'
 SHEET = 'crates/sheet/specs/Sheet.antt'
 FORM = 'crates/holders/specs/Form.antt'
 KEEPERS = 'crates/keepers/specs/Keepers.antt'
+LOSTS = 'crates/control/specs/Losts.antt'
 PICTURE = 'docs/pictures/memories.svg'
 # The rows of the table of numbers, and the constants of the header, by the names of the definitions.
 ROWS = {'tasks': 'TASKS', 'bytes of the control memory': 'CONTROL-BYTES', 'regions of the area': 'REGIONS',
@@ -24,7 +25,7 @@ CONSTANTS = {'POOL_CONTROL_BYTES': 'CONTROL-BYTES', 'POOL_REGION_BYTES': 'REGION
              'POOL_TASKS_MOST': 'TASKS', 'POOL_BLOCK_MOST': 'LARGEST-SIZE', 'POOL_UNIT_BYTES': 'UNIT-BYTES',
              'POOL_ALIGNMENT': 'ALIGNMENT', 'POOL_STRIPS_BYTES': 'STRIPS-BYTES', 'POOL_STRIP_LEAST': 'SLOT-BYTES',
              'POOL_STRIP_FIRST': 'UNITS', 'POOL_CLASSES': 'CLASSES', 'POOL_SHEET_BYTES': 'SHEET-BYTES',
-             'POOL_FORM_BYTES': 'FORM-BYTES', 'POOL_KEEPER_BYTES': 'KEEPER-BYTES'}
+             'POOL_FORM_BYTES': 'FORM-BYTES', 'POOL_KEEPER_BYTES': 'KEEPER-BYTES', 'POOL_LOST_MOST': 'MOST-LOST'}
 # The sentences on the order of the tests, and the lists of tests that make them up. 14 comes between, where it is read.
 ORDERS = {'a start': ['startTests'], 'the beginning of an allocation': ['callTests', 'idleTests', 'sizeTests'],
           'the beginning of a free': ['callTests', 'idleTests', 'unitTests'],
@@ -40,7 +41,7 @@ def number_of(cell):
 
 def limits():
     """The table's numbers, and the header's constants, are those of the definitions."""
-    known = named(LIMITS, CLASSES, REPORT_ROWS, SHEET, FORM, KEEPERS)
+    known = named(LIMITS, CLASSES, REPORT_ROWS, SHEET, FORM, KEEPERS, LOSTS)
     rows = tables_by(POOL, 'there are')
     told = [(POOL, row[0], number_of(row[1]), ROWS[row[0]]) for row in rows]
     told += [(HEADER, name, int(number), CONSTANTS[name])

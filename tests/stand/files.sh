@@ -123,11 +123,12 @@ answers 'a file with the name of an option' 'stand: there is no file --text' 'st
 # The help: its status, and a word of each thing that it has to tell.
 ./stand --help >"$out/help" 2>"$out/wrote"
 echo "status $?" >>"$out/wrote"
-for word in './stand [FILE]' '--text [FILE]' '--sheet [FILE]' '--holders [FILE]' '--keepers [FILE]' \
-    'a report, one at most' 'start TASKS REGIONS' 'allocate TASK SIZE' 'free TASK UNIT' 'step TASK' 'run TASK MOST' \
-    'byte order mark' 'Standard input is bytes' 'value   the unit' 'total   how many' 'with requests  blocks' \
-    'with requests, by task  blocks' 'task, its running request  the' "'run TASK N'" '65,536 bytes' 'Exit status: 0' \
-    'did not end with 13' 'target/bin/stand_keepers' 'missing or older' 'target cannot be written'; do
+for word in './stand [FILE]' '--text [FILE]' '--lost [FILE]' '--sheet [FILE]' '--holders [FILE]' '--keepers [FILE]' \
+    'a report, one at most' 'With --lost both tables' 'start TASKS REGIONS' 'allocate TASK SIZE' 'free TASK UNIT' \
+    'step TASK' 'run TASK MOST' 'byte order mark' 'Standard input is bytes' 'value   the unit' 'total   how many' \
+    'with requests  blocks' 'with requests, by task  blocks' 'task, its running request  the' "'run TASK N'" \
+    '65,536 bytes' 'Exit status: 0' 'did not end with 13' 'target/bin/stand_lost' 'target/bin/stand_keepers' \
+    'missing or older' 'target cannot be written'; do
     grep -qF -e "$word" "$out/help" || echo "the help does not tell: $word" >>"$out/wrote"
 done
 answers 'the help' 'status 0'

@@ -138,6 +138,27 @@ for form in bytes txt; do
     answers "a program that is killed, one.$form" 'stand: the program failed (status 137)' 'status 1'
 done
 
+# ---- the program of the lost exchanges ----
+
+# It is built like that of the table, and what it writes is shown: here the largest number that it can write.
+make_tree && make_fake "$plays"
+tried there --lost "$tree/one.txt"
+answers '--lost without its program and without rt' \
+    'stand: target/bin/stand_lost is not built, and the Rattle toolchain (rt) is not installed' 'status 1'
+make_fake 'cat >/dev/null; printf "record kind code value lost\n0 1 0 0 4294967295\ntotal 0 1 0\n"' old stand_lost
+make_rt 'echo "rt: one proved (3 s)"; [ "$*" = "check stand_lost" ]'
+tried there --lost "$tree/one.bytes"
+answers 'an old program of --lost is proved and built first' "$proving" 'rt: one proved (3 s)' \
+    'record kind code value lost' '0 1 0 0 4294967295' 'total 0 1 0' 'status 0'
+rm -f "$place/bin/rt"
+tried there --lost "$tree/one.txt"
+answers 'a lost number that is wider than its column' "$tree/one.txt, read as text" \
+    'record kind code value  lost  meaning                     line  text' \
+    '     0    1    0     0 4294967295  accepted                       1  start 1 1' \
+    'total: 0 finished, 1 accepted or under way, 0 refused or ended' 'status 0'
+tried there "$tree/one.bytes"
+answers '--lost: and the program of the table is played as it is' "${played[@]}"
+
 # ---- every code has its meaning ----
 
 make_tree

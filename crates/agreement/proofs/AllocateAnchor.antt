@@ -24,7 +24,7 @@ use Rattle.classes.proofs.Tables.{perRegion-high}
 use Rattle.links.specs.Link.{link}
 use Rattle.plain.specs.State.{State, EMPTY, PARTIAL, FULL, stateNumber, Note, read, retire, pushing, a3-read}
 use Rattle.plain.specs.State.{a3-exchange, a4, Mem, setDescriptor, working}
-use Rattle.plain.specs.Moves.{going, took}
+use Rattle.plain.specs.Moves.{going, took, anchor-lost}
 use Rattle.plain.specs.Steps.{noteOf, chained, AsNoted, asNoted?, moving}
 use Rattle.plain.specs.Steps as Steps
 use Rattle.plain.specs.Blocks.{countBlock}
@@ -56,7 +56,7 @@ use Rattle.agreement.proofs.TurnChanges.{anchoring}
 use Rattle.agreement.proofs.NotedAnchors.{note-of, same-unmoved, unmoved-same, same-anchor-word}
 use Rattle.agreement.proofs.NotedAnchors.{anchor-word-same, number-open, re-note, anchor-tested}
 use Rattle.agreement.proofs.Both.{Both, pass, meet, miss, decide, has-top}
-use Rattle.agreement.proofs.Turns.{At, goes}
+use Rattle.agreement.proofs.Turns.{At, goes, loses}
 use Rattle.agreement.proofs.Sharing.{shares}
 
 -- the word of (FULL, n, 0) says so
@@ -272,11 +272,4 @@ module _ {regions : ℕ} {v : View} {area : List ℕ} {m : Mem} {t : ℕ} {k : �
       pass (ltb (v (DescriptorRegion d)) regions)
       (lt-ltb (v (DescriptorRegion d)) regions (w .pair .rel .core .descriptors .regionNumbers d l))
       (exchange-won n w high first (eqb-true (v (Layout.Anchor d)) word g) h))
-      (λ g h. record {
-        says = refl;
-        keeps = (refl, refl);
-        rel = goes w (TaskPlace t := A3-READ ∷ []) (toPlace A3-READ (slotOf v t)) (working (a3-read c d)) refl
-            (rw (eq-eqb t t refl)) (λ j n. rw (ne-eqb t j n)) refl refl (r-working (r-a3-read refl));
-        sound = omega (arith, w .pair .turn .fits);
-        apart = tt;
-      })))
+      (λ g h. loses w (anchor-lost d) A3-READ (working (a3-read c d)) (omega arith) (r-working (r-a3-read refl)))))

@@ -16,7 +16,7 @@ use Rattle.words.specs.Anchor.{EMPTY, anchorOf}
 use Rattle.words.specs.Mark.{isSet}
 use Rattle.classes.specs.Geometry.{regionOf, isFirst}
 use Rattle.classes.proofs.Sizes.{is-class, holds, smallest}
-use Rattle.plain.specs.Moves.{Decided}
+use Rattle.plain.specs.Moves.{Decided, nothing}
 use Rattle.control.specs.Layout.{Anchor, Marks, TaskPlace, DescriptorRegion, DescriptorClass}
 use Rattle.control.specs.Layout.{Map, Regions}
 use Rattle.control.specs.Places.{IDLE, PLACES}
@@ -30,7 +30,7 @@ use Rattle.stepped.specs.Calls as Calls
 use Rattle.stepped.specs.Leaving.{nextCached, countFits, leaveFrom}
 use Rattle.agreement.specs.Ends.{WritesNothing, Leaves, oneOf, testRefusals, allocateRefusals, freeRefusals}
 use Rattle.agreement.specs.Ends.{leaveRefusals}
-use Rattle.agreement.specs.Ends.{Begins, StartEnds, BeginEnds}
+use Rattle.agreement.specs.Ends.{Begins, StartEnds, Cleared, BeginEnds}
 use Rattle.agreement.specs.Ends.{BegunStripOutcome}
 use Rattle.agreement.specs.Ends.{IsEnd, BegunOutcome}
 use Rattle.stepped.specs.Calls.{Lent}
@@ -65,13 +65,14 @@ leaves o s h n e =
 -- ---- beginnings
 
 -- a beginning is refused by one of the numbers ns, or accepted
-data Beginning (ns : List ℕ) : Outcome → Type 0 where
-  denied : {n : ℕ} → oneOf ns n ≡ true → Beginning ns (refuse n)
-  begun : {e : Decided} {ws : List Write} {ls : List LinkWrite} → Beginning ns (accept e ws ls)
+data Beginning (ns : List ℕ) (v : View) (t : ℕ) : Outcome → Type 0 where
+  denied : {n : ℕ} → oneOf ns n ≡ true → Beginning ns v t (refuse n)
+  begun : {e : Decided} {ws : List Write} {ls : List LinkWrite} → Cleared v t ws → Beginning ns v t (accept e ws ls)
 
-begin-ends : {ns : List ℕ} {o : Outcome} → Beginning ns o → BeginEnds ns o
-begin-ends (denied h) = record { nothing = λ n e. (refl, refl); answers = h }
-begin-ends begun = record { nothing = λ n e. absurd (accepted-no e); answers = tt }
+begin-ends : {ns : List ℕ} {v : View} {t : ℕ} {o : Outcome} → Beginning ns v t o → BeginEnds ns v t o
+begin-ends (denied h) =
+    record { nothing = λ n e. (refl, refl); answers = h; cleared = λ e. absurd (accepted-no (sym e)) }
+begin-ends (begun c) = record { nothing = λ n e. absurd (accepted-no e); answers = tt; cleared = λ e. c }
 
 -- the tests, and "6 the task has a request in hand"
 begin-tests : (lent : Lengths) (v : View) (t : ℕ) (P : Outcome → Type 0) (x : Outcome) (ms : List ℕ)
@@ -84,18 +85,18 @@ begin-tests lent v t P x ms r k =
     (λ e. r 14 refl))
 
 module _ (lent : Lengths) (v : View) (t : ℕ) where
-  pub allocate-ends : (size : ℕ) → BeginEnds allocateRefusals (Calls.allocateOutcome lent v t size)
+  pub allocate-ends : (size : ℕ) → BeginEnds allocateRefusals v t (Calls.allocateOutcome lent v t size)
   unfolding Calls.allocateOutcome Calls.beginAllocate
   allocate-ends size =
-      let P = Beginning allocateRefusals in
+      let P = Beginning allocateRefusals v t in
       begin-ends (begin-tests lent v t P _ (8 ∷ 9 ∷ []) (λ n h. denied h)
       (branch P (eqb size 0) (λ e. denied refl) (λ e. branch P (ltb LARGEST-STRIP size) (λ f. denied refl)
-      (λ f. branch P (ltb LARGEST-SIZE size) (λ g. begun) (λ g. begun)))))
+      (λ f. branch P (ltb LARGEST-SIZE size) (λ g. begun (λ j. refl)) (λ g. begun (λ j. refl))))))
 
-  small-begins : (u : ℕ) → Beginning freeRefusals (Calls.beginFreeSmall v (v Regions) t u)
+  small-begins : (u : ℕ) → Beginning freeRefusals v t (Calls.beginFreeSmall v (v Regions) t u)
   unfolding Calls.beginFreeSmall Calls.freeEntry Calls.freeBy Calls.freeOpen Calls.freeMarked
   small-begins u =
-      let P = Beginning freeRefusals in
+      let P = Beginning freeRefusals v t in
       let entry = v (Map (regionOf u)) in
       let d = entry - 1 in
       let a = v (Anchor d) in
@@ -106,36 +107,39 @@ module _ (lent : Lengths) (v : View) (t : ℕ) where
       branch P (ltb r (v Regions)) (λ g. branch P (eqb r (regionOf u)) (λ h.
       branch P (isAnchor a) (λ i. branch P (eqb (anchorOf a .state) EMPTY) (λ j. denied refl) (λ j.
       branch P (ltb c CLASSES) (λ k. branch P (isFirst c u) (λ l.
-      branch P (isSet (v (Marks (u / WORD-MARKS))) (u % WORD-MARKS)) (λ m. begun) (λ m. denied refl))
+      branch P (isSet (v (Marks (u / WORD-MARKS))) (u % WORD-MARKS)) (λ m. begun (λ j. refl)) (λ m. denied refl))
       (λ l. denied refl)) (λ k. denied refl))) (λ i. denied refl)) (λ h. denied refl)) (λ g. denied refl))
       (λ f. denied refl)))
       (λ e. denied refl)
 
-  strip-begins : (u : ℕ) → Beginning freeRefusals (beginFreeStrip v t u)
+  strip-begins : (u : ℕ) → Beginning freeRefusals v t (beginFreeStrip v t u)
   unfolding beginFreeStrip beginFreeAt
   strip-begins u =
-      let P = Beginning freeRefusals in
+      let P = Beginning freeRefusals v t in
       let s = slotOfUnit u in
       let x = v (SlotByte s) in
       branch P (isStripUnit u) (λ e. branch P (eqb x 0) (λ f. denied refl) (λ f.
       branch P (leb x LAST-BYTE && canBegin s (orderIn x))
-      (λ g. branch P (leb FREE-BEGUN x) (λ h. denied refl) (λ h. begun))
+      (λ g. branch P (leb FREE-BEGUN x) (λ h. denied refl) (λ h. begun (λ j. refl)))
       (λ g. denied refl)))
       (λ e. denied refl)
 
-  pub free-ends : (u : ℕ) → BeginEnds freeRefusals (Calls.freeOutcome lent v t u)
+  pub free-ends : (u : ℕ) → BeginEnds freeRefusals v t (Calls.freeOutcome lent v t u)
   unfolding Calls.freeOutcome Calls.beginFree
   free-ends u =
-      let P = Beginning freeRefusals in
+      let P = Beginning freeRefusals v t in
       begin-ends (begin-tests lent v t P _ (10 ∷ 11 ∷ []) (λ n h. denied h)
       (branch P (ltb u UNITS) (λ e. small-begins u) (λ e. strip-begins u)))
 
-  pub leave-ends : BeginEnds leaveRefusals (Calls.leaveOutcome lent v t)
+  pub leave-ends : BeginEnds leaveRefusals v t (Calls.leaveOutcome lent v t)
   unfolding Calls.leaveOutcome leaveFrom
   leave-ends =
-      let P = Beginning leaveRefusals in
+      let P = Beginning leaveRefusals v t in
       begin-ends (begin-tests lent v t P _ [] (λ n h. denied h)
-      (branch P (countFits v t (nextCached v t 0)) (λ e. begun) (λ e. denied refl)))
+      (branch P (countFits v t (nextCached v t 0))
+      (λ e. branch (λ ws. P (accept nothing ws [])) (eqb (nextCached v t 0) CLASSES) (λ f. begun (λ j. refl))
+      (λ f. begun (λ j. refl)))
+      (λ e. denied refl)))
 
   -- a size that is accepted has the smallest class that holds it, and that class is written
   pub smallest-class : (size : ℕ) → size ≤ LARGEST-SIZE → Calls.allocateOutcome lent v t size .answer ≡ Accepted

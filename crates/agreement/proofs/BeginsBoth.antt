@@ -32,6 +32,7 @@ use Rattle.plain.specs.Invariant.{Invariant}
 use Rattle.plain.proofs.Homes.{inside-open}
 use Rattle.plain.proofs.PlaceAlone.{taskOf}
 use Rattle.plain.proofs.ByState.{not-empty, larger-is}
+use Rattle.control.specs.Layout.{TaskLost}
 use Rattle.control.specs.Layout.{Anchor, Marks, TaskUnit, TaskPlace, TaskClass, DescriptorRegion, DescriptorClass}
 use Rattle.control.specs.Places.{IDLE, A1, F1, STRIP-TAKE, PLACES}
 use Rattle.stepped.specs.Outcome.{Outcome, refuse, accept}
@@ -78,15 +79,15 @@ module _ {regions : ℕ} {v : View} {area : List ℕ} {m : Mem} {t : ℕ} {k : �
   abbrev R : Related regions (contentsOf v area) m
   R = w .pair .rel
 
-  -- the beginning of an allocation writes the task's place and its class, or its order
+  -- the beginning of an allocation writes the task's place, its class, or its order, and no lost exchange
   begins : (place c : ℕ) (p : Work) → c < CLASSES → place < PLACES
       → WorkRelated regions (setSlot t (toRequest place c (v (TaskUnit t)) (slotOf v t)) (contentsOf v area))
       (setTask t (taskOf (working p) k) m) (toRequest place c (v (TaskUnit t)) (slotOf v t)) p
-      → Both regions v area m (accept nothing (TaskPlace t := place ∷ TaskClass t := c ∷ []) [])
+      → Both regions v area m (accept nothing (TaskPlace t := place ∷ TaskClass t := c ∷ TaskLost t := 0 ∷ []) [])
       (setTask t (record { place = working p; cache = m .task t .cache }) m, going nothing)
   begins place c p l n r =
       let s = toRequest place c (v (TaskUnit t)) (slotOf v t) in
-      let ws = TaskPlace t := place ∷ TaskClass t := c ∷ [] in
+      let ws = TaskPlace t := place ∷ TaskClass t := c ∷ TaskLost t := 0 ∷ [] in
       record {
         says = refl;
         rel =
@@ -120,8 +121,8 @@ module _ {regions : ℕ} {v : View} {area : List ℕ} {m : Mem} {t : ℕ} {k : �
       sized : (b : Bool) (d : Dec (LARGEST-SIZE < size)) → (b ≡ true → LARGEST-SIZE < size)
           → (LARGEST-SIZE < size → b ≡ true) → size ≤ LARGEST-STRIP
           → Both regions v area m
-          (cond b (accept nothing (TaskPlace t := STRIP-TAKE ∷ TaskClass t := orderOf size ∷ []) [])
-          (accept nothing (TaskPlace t := A1 ∷ TaskClass t := classOf size ∷ []) [])) (
+          (cond b (accept nothing (TaskPlace t := STRIP-TAKE ∷ TaskClass t := orderOf size ∷ TaskLost t := 0 ∷ []) [])
+          (accept nothing (TaskPlace t := A1 ∷ TaskClass t := classOf size ∷ TaskLost t := 0 ∷ []) [])) (
             setTask t (record {
               place = working (if d (strip-take (orderOf size)) (a1 (classOf size)));
               cache = m .task t .cache;

@@ -29,7 +29,7 @@ use Rattle.plain.specs.Calls.{Pool, Start, allocate, step, startMem, rising, un
 use Rattle.plain.specs.Calls as Plain
 use Rattle.plain.proofs.PlaceAlone.{taskOf}
 use Rattle.plain.proofs.CallTests.{passed, start-passed}
-use Rattle.control.specs.Layout.{TaskPlace, TaskClass}
+use Rattle.control.specs.Layout.{TaskPlace, TaskClass, TaskLost}
 use Rattle.control.specs.Places.{A1}
 use Rattle.stepped.specs.Outcome.{Memories, refuse, accept}
 use Rattle.stepped.specs.Calls.{Lent, lengths}
@@ -64,8 +64,8 @@ stepped-size s t v = by (eqb s 0) (ltb LARGEST-STRIP s) (ltb LARGEST-SIZE s)
   where
     by : (a b c : Bool)
         → steppedBegins v t (cond a (refuse 8) (cond b (refuse 9)
-        (cond c (accept nothing (TaskPlace t := STRIP-TAKE ∷ TaskClass t := orderOf s ∷ []) [])
-        (accept nothing (TaskPlace t := A1 ∷ TaskClass t := classOf s ∷ []) []))))
+        (cond c (accept nothing (TaskPlace t := STRIP-TAKE ∷ TaskClass t := orderOf s ∷ TaskLost t := 0 ∷ []) [])
+        (accept nothing (TaskPlace t := A1 ∷ TaskClass t := classOf s ∷ TaskLost t := 0 ∷ []) []))))
         ≡ served s (cond a (Refused 8) (cond b (Refused 9) (cond c Strip (Class (classOf s)))))
     by true b c = refl
     by false true c = refl

@@ -62,30 +62,31 @@ cause-answers ns v t (Refused n) k = absurd k
 module _ {ns : List ℕ} {v : View} {t : ℕ} where
   answers : {o : Outcome} → Ending ns v t o → StepAnswers ns (o .answer)
   answers (refused h) = h
-  answers (going h) = tt
-  answers (ended {a = a} k h) = cause-answers ns v t a k
+  answers (going h c) = tt
+  answers (ended {a = a} k h c) = cause-answers ns v t a k
 
 -- a call of a step
 module _ {v : View} {t : ℕ} where
   ends : {o : Outcome} → CallEnding v t o → StepEnds v t o
-  ends (refused h) = record { nothing = λ n e. (refl, refl); answers = h; idle = λ i. absurd i }
-  ends (going h) = record { nothing = λ n e. absurd (accepted-no e); answers = tt; idle = λ i. absurd i }
-  ends (ended {a = a} k h) =
+  ends (refused h) = record { nothing = λ n e. (refl, refl); answers = h; idle = λ i. absurd i; counted = λ j. refl }
+  ends (going h c) =
+      record { nothing = λ n e. absurd (accepted-no e); answers = tt; idle = λ i. absurd i; counted = c }
+  ends (ended {a = a} k h c) =
       let G = cause-answers stepRefusals v t a k in
-      record { nothing = λ n e. absurd (subst (Cause v t) e k); answers = G; idle = λ i. h }
+      record { nothing = λ n e. absurd (subst (Cause v t) e k); answers = G; idle = λ i. h; counted = c }
 
   -- why a request ends with the answer a
   cause : {o : Outcome} → CallEnding v t o → (a : Answer) → IsEnd a → o .answer ≡ a → Cause v t a
   cause (refused h) a i e = absurd (subst IsEnd (sym e) i)
-  cause (going h) a i e = absurd (subst IsEnd (sym e) i)
-  cause (ended k h) a i e = subst (Cause v t) e k
+  cause (going h c) a i e = absurd (subst IsEnd (sym e) i)
+  cause (ended k h c) a i e = subst (Cause v t) e k
 
   -- why a step comes to the push back
   came : {o : Outcome} → CallEnding v t o → InPush Back (placeAfter o v t)
       → (FindsEmpty Region v t × ((n : ℕ) → o .answer ≢ Refused n)) ⊎ InPush Back (v (TaskPlace t))
   came (refused h) i = inr i
-  came (going h) i = ⊎-map (λ f. (f, λ n. accepted-no)) (λ p. p) (h i)
-  came (ended k h) i = absurd (omega arith)
+  came (going h c) i = ⊎-map (λ f. (f, λ n. accepted-no)) (λ p. p) (h i)
+  came (ended k h c) i = absurd (omega arith)
 
 module _ (lent : Lengths) (v : View) (link : ℕ → ℕ) (t : ℕ) where
   abbrev o : Outcome
@@ -195,7 +196,7 @@ module _ (lent : Lengths) (v : View) (link : ℕ → ℕ) (t : ℕ) where
   unfolding Steps.stepAt
   to-back T F =
       ap (λ (x : Outcome). placeAfter x v t) (at-place T (F .place) (omega arith) (F .class) ∙ finds-empty Region F)
-      ∙ sent v t (pushPlace Back) [] (λ u. refl)
+      ∙ sent v t (pushPlace Back) [] (λ u. (refl, λ j. refl))
 
   -- a task that is at no place of the push back comes to one exactly if it finds the list of spare regions empty
   pub put-back : (InPush Back (v (TaskPlace t)) → ⊥)

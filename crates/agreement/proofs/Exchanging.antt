@@ -21,7 +21,7 @@ use Rattle.classes.proofs.Tables.{perRegion-high}
 use Rattle.plain.specs.State.{EMPTY, PARTIAL, Mem, Note, Place, State, f1, f2, f3-exchange, f3-read, f4-clear}
 use Rattle.plain.specs.State.{stateNumber, leave-end, Purpose}
 use Rattle.plain.specs.State.{offer, pushing, read, setDescriptor, working}
-use Rattle.plain.specs.Moves.{gave, going}
+use Rattle.plain.specs.Moves.{gave, anchor-lost, going}
 use Rattle.plain.specs.Steps.{asNoted?, chained}
 use Rattle.plain.specs.Steps as Steps
 use Rattle.plain.specs.ByState.{IfOpen}
@@ -43,7 +43,7 @@ use Rattle.agreement.proofs.Sets.{setAnchor, setSlot}
 use Rattle.agreement.proofs.AssignedContents.{anchor-written}
 use Rattle.agreement.proofs.TaskBlocks.{re-slot, unit-fits}
 use Rattle.agreement.proofs.Both.{Both, decide, meet, miss, pass}
-use Rattle.agreement.proofs.Turns.{At, goes}
+use Rattle.agreement.proofs.Turns.{At, goes, loses}
 use Rattle.agreement.proofs.FollowingBoth.{five}
 use Rattle.agreement.proofs.TurnWrites.{OwnWrites, anchor-exchanged}
 use Rattle.agreement.proofs.NotedAnchors.{SameAnchor, anchor-word-same, same-anchor-word, re-note, anchor-tested}
@@ -255,12 +255,5 @@ module _ {regions : ℕ} {v : View} {area : List ℕ} {m : Mem} {t : ℕ} {k : �
       (λ e. same-unmoved m d n D chain-of O M (anchor-word-same b a (eqb-true b a e)))
       (λ q. eq-eqb b a (same-anchor-word b a (unmoved-same m d n D chain-of O M q)))
       (λ e q. won (anchor-word-same b a (eqb-true b a e)) (ℕ-discrete (length J) (perRegion c)))
-      (λ e q. record {
-        says = refl;
-        keeps = (refl, refl);
-        rel = goes w (TaskPlace t := F3-READ ∷ []) (toPlace F3-READ (slotOf v t)) (working (f3-read c z y g))
-            refl (rw (eq-eqb t t refl)) (λ j n. rw (ne-eqb t j n)) refl refl
-            (r-working (r-f3-read refl (same-group refl refl refl refl G)));
-        sound = omega (arith, w .pair .turn .fits);
-        apart = tt;
-      })))
+      (λ e q. loses w (anchor-lost d) F3-READ (working (f3-read c z y g)) (omega arith)
+      (r-working (r-f3-read refl (same-group refl refl refl refl G))))))

@@ -12,7 +12,7 @@ use Rattle.plain.specs.Moves.{going, nothing}
 use Rattle.plain.specs.Steps as Steps
 use Rattle.plain.specs.Calls as Plain
 use Rattle.plain.proofs.PlaceAlone.{taskOf}
-use Rattle.control.specs.Layout.{GroupCount, TaskPlace, TaskClass, TaskUnit, LEAVING}
+use Rattle.control.specs.Layout.{GroupCount, TaskLost, TaskPlace, TaskClass, TaskUnit, LEAVING}
 use Rattle.control.specs.Places.{F2, LEAVE-END}
 use Rattle.stepped.specs.Leaving.{beginLeave}
 use Rattle.agreement.specs.Contents.{Slot, Contents, slotOf, contentsOf}
@@ -44,11 +44,13 @@ module _ {regions : ℕ} {v : View} {area : List ℕ} {m : Mem} {t : ℕ} {k : �
   leave-both =
       subst (λ (q : ℕ → List ℕ). Both regions v area m (beginLeave v t)
       (Steps.atWork t q (Steps.leaveFrom q 0 CLASSES) m, going nothing)) (sym cache-is)
-      (leaves-both w nothing (TaskUnit t := LEAVING ∷ []) m (omega (arith, w .pair .turn .fits)) (refl, refl)
-      (λ j l. begun (TaskPlace t := F2 ∷ TaskClass t := j ∷ GroupCount t := 0 ∷ TaskUnit t := LEAVING ∷ [])
+      (leaves-both w nothing (TaskUnit t := LEAVING ∷ TaskLost t := 0 ∷ []) m (omega (arith, w .pair .turn .fits))
+      (refl, refl)
+      (λ j l. begun
+      (TaskPlace t := F2 ∷ TaskClass t := j ∷ GroupCount t := 0 ∷ TaskUnit t := LEAVING ∷ TaskLost t := 0 ∷ [])
       (toRequest F2 j LEAVING (toGrouped 0 (slotOf v t))) (working (f2 j to-leave []))
       refl (rw (eq-eqb t t refl)) (λ j n. rw (ne-eqb t j n)) l refl (r-working (r-f2 refl refl)))
-      (begun (TaskPlace t := LEAVE-END ∷ TaskUnit t := LEAVING ∷ [])
+      (begun (TaskPlace t := LEAVE-END ∷ TaskUnit t := LEAVING ∷ TaskLost t := 0 ∷ [])
       (toRequest LEAVE-END (v (TaskClass t)) LEAVING (slotOf v t)) (working leave-end)
       refl (rw (eq-eqb t t refl)) (λ j n. rw (ne-eqb t j n)) (mine (w .pair) .fits) refl (r-working (r-leave-end refl)))
       0 (omega arith))

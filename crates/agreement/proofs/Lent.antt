@@ -12,7 +12,7 @@ use Rattle.control.specs.Answers.{codeOf}
 use Rattle.control.specs.declared.answer.Answer.{Answer}
 use Rattle.control.specs.declared.answer.Answer.the-variants.{Accepted, Allocated, Freed, NoDescriptor, NoRegion}
 use Rattle.control.specs.declared.answer.Answer.the-variants.{NoStrip, Refused}
-use Rattle.stepped.specs.Outcome.{Effect, effect, refuse, Memories}
+use Rattle.stepped.specs.Outcome.{Effect, effect, stepEffect, refuse, Memories}
 use Rattle.stepped.specs.Calls.{Lent, lengths, effectIn}
 use Rattle.stepped.specs.Calls as Stepped
 use Rattle.stepped.proofs.CallTests.{start-failed, start-passed}
@@ -34,7 +34,7 @@ same-lengths (free t u) l l′ s n e =
 same-lengths (leave t) l l′ s n e =
     ap (λ (z : Lengths). effect (Stepped.leaveOutcome z (seen (s .control)) t) s) e
 same-lengths (step t) l l′ s n e =
-    ap (λ (z : Lengths). effect (Stepped.stepOutcome z (seen (s .control)) (link (s .area)) t) s) e
+    ap (λ (z : Lengths). stepEffect t (Stepped.stepOutcome z (seen (s .control)) (link (s .area)) t) s) e
 
 -- ---- starts
 

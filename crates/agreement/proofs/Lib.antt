@@ -67,6 +67,7 @@ pub mod SoundStrips
 pub mod SoundSteps
 pub mod SoundCalls
 pub mod FoundStates
+pub mod LostExchanges
 pub mod Asked
 pub mod Reaching
 pub mod BeginningEnds

@@ -95,7 +95,7 @@ module _ {regions : ℕ} {v : View} {area : List ℕ} {m : Mem} {t : ℕ} {p : P
   pub kept : {ℓ n : ℕ} {h : HeadWord} (p′ : Place) → HeadNoted m ℓ h n → HeadNoted (atPlace t k p′ m) ℓ h n
   kept p′ N = record { past = N .past; tags = N .tags; same = N .same }
 
-  -- the place alone changes, as where a list is found empty or an exchange is lost
+  -- the place alone changes, as where a list is found empty
   pub moves : (A : Answer) (e : Decided) (b : ℕ) (p′ : Place) → b < 256
       → PlaceRelated regions (setSlot t (toPlace b (slotOf v t)) (contentsOf v area)) (atPlace t k p′ m)
       (toPlace b (slotOf v t)) p′

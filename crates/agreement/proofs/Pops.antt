@@ -41,7 +41,7 @@ use Rattle.agreement.proofs.AssignedContents.{head-written}
 use Rattle.agreement.proofs.ListTops.{top-of, tail-of, next-of}
 use Rattle.agreement.proofs.TurnInBoth.{mine}
 use Rattle.agreement.proofs.Both.{Both, pass, by-row, has-top}
-use Rattle.agreement.proofs.Turns.{At, goes}
+use Rattle.agreement.proofs.Turns.{At, goes, loses}
 use Rattle.agreement.proofs.ListMoves.{pop-first, ListOf, popped-list}
 use Rattle.agreement.proofs.MoveSteps.{list-of, Won, kept, moves, notes, exchanges, wins}
 
@@ -215,7 +215,7 @@ module _ {regions : ℕ} {v : View} {area : List ℕ} {m : Mem} {t : ℕ} {k : �
       r .below (sym z) ∙ ap (λ (q : List ℕ). top (tail q)) u ∙ sym (top-of rest) in
       rw (← same) (pop-won P w (item - 1) (omega (arith, L .most))
       (record { tag = g; most = omega (arith, L .most); linked = rw here rest })))))
-      (moves w Accepted (lost ℓ) (Lists.popPlace P) (working (popping (popOf v t P) read)) (omega (arith, pop-first P))
+      (loses w (lost ℓ) (Lists.popPlace P) (working (popping (popOf v t P) read)) (omega (arith, pop-first P))
       (r-working (r-popping P (at-read refl))))))
 
 -- ---- the step list

@@ -40,7 +40,7 @@ use Rattle.agreement.proofs.Slots.{toPlace}
 use Rattle.agreement.proofs.TurnInBoth.{mine}
 use Rattle.agreement.proofs.NotedAnchors.{number-max}
 use Rattle.agreement.proofs.Both.{Both, pass}
-use Rattle.agreement.proofs.Turns.{At}
+use Rattle.agreement.proofs.Turns.{At, loses}
 use Rattle.agreement.proofs.ListMoves.{push-later, ListOf, pushed-list}
 use Rattle.agreement.proofs.HeldItems.{HoldsItem, push-holds}
 use Rattle.agreement.proofs.MoveSteps.{list-of, Won, kept, moves, notes, exchanges}
@@ -183,7 +183,7 @@ module _ {regions : ℕ} {v : View} {area : List ℕ} {m : Mem} {t : ℕ} {k : �
         linked = links (add-one x)
             (subst (λ (h : ℕ). Linked (λ (y : ℕ). v (nextField (pushItems P) y)) suc 0 h (m .row ℓ)) same (L .linked));
       })))
-      (moves w Accepted (lost ℓ) (Lists.pushPlace P) (working (pushing (pushOf v t z P) read))
+      (loses w (lost ℓ) (Lists.pushPlace P) (working (pushing (pushOf v t z P) read))
       (omega (arith, push-later P)) (r-working (r-pushing P z f (at-read refl))))))
 
 -- ---- the step list

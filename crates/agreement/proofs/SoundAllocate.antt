@@ -21,7 +21,7 @@ use Rattle.stepped.specs.Ranges.{oneTo, isBlock, isTop, isAnchor, hasChain}
 use Rattle.stepped.specs.Allocate as Allocate
 use Rattle.stepped.proofs.Conjunction.{both, left-true, right-true}
 use Rattle.agreement.proofs.Both.{Fitting}
-use Rattle.agreement.proofs.SoundMoves.{Fit, test}
+use Rattle.agreement.proofs.SoundMoves.{Fit, test, loses}
 use Rattle.agreement.proofs.Ways.{branch}
 
 module _ (regions c : ℕ) (few : regions ≤ REGIONS) where
@@ -124,7 +124,7 @@ module _ (v : View) (fits : Fitting v) (link : ℕ → ℕ) {regions t c : ℕ} 
             );
         own = omega arith;
       }))
-      (λ e. record { sound = omega (arith, task); own = omega arith })))
+      (λ e. loses v fits task _ _ (omega arith))))
 
   -- a block on top of a cache
   a4-move : (u left k top : ℕ) → u < UNITS → left ≤ MOST-BLOCKS → k < MOST-BLOCKS

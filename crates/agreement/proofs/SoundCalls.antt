@@ -21,7 +21,7 @@ use Rattle.classes.proofs.Sizes.{is-class}
 use Rattle.pieces.proofs.StripSizes.{rounds}
 use Rattle.plain.specs.Calls.{Lengths}
 use Rattle.control.specs.Layout.{layout, seen, changed, Anchor, Marks, Map, Regions, DescriptorRegion, TaskUnit}
-use Rattle.control.specs.Layout.{LEAVING}
+use Rattle.control.specs.Layout.{LEAVING, TaskLost}
 use Rattle.control.specs.Layout.{DescriptorClass, TaskPlace}
 use Rattle.control.specs.Places.{IDLE, PLACES}
 use Rattle.control.proofs.Fields.{seen-changed}
@@ -107,7 +107,7 @@ module _ {lent : Lengths} {v : View} (fits : Fitting v) {t : ℕ} (T : Tested le
   pub leave-fit : Fit t (Calls.whenIdle v t (beginLeave v t))
   leave-fit =
       idle-fit (beginLeave v t)
-      (leave-from v task 0 (omega arith) nothing (TaskUnit t := LEAVING ∷ [])
+      (leave-from v task 0 (omega arith) nothing (TaskUnit t := LEAVING ∷ TaskLost t := 0 ∷ [])
       (record { sound = omega (arith, task); own = omega arith }))
 
 -- ---- the bytes

@@ -23,7 +23,7 @@ use Rattle.stepped.specs.Free as Free
 use Rattle.stepped.proofs.Conjunction.{both, left-true, right-true}
 use Rattle.agreement.proofs.Both.{Fitting}
 use Rattle.agreement.proofs.SoundMoves as Moves
-use Rattle.agreement.proofs.SoundMoves.{Fit, test}
+use Rattle.agreement.proofs.SoundMoves.{Fit, test, loses}
 use Rattle.agreement.proofs.SoundAllocate.{block-max, top-max}
 use Rattle.agreement.proofs.Ways.{branch}
 
@@ -180,7 +180,7 @@ module _ (v : View) (fits : Fitting v) (link : ℕ → ℕ) {regions t c : ℕ} 
       ) in
       branch (Fit t) (eqb (a .count + g) n) (λ k. record { sound = (omega (arith, task), s); own = omega (arith, m) })
       (λ k. Moves.f5 v fits few task class (a .state) _ _ (record { sound = s; own = omega (arith, m) })))
-      (λ e. record { sound = omega (arith, task); own = omega arith })))
+      (λ e. loses v fits task _ _ (omega arith))))
 
   pub f4-clear : Fit t (Free.f4Clear v link regions t c)
   unfolding Free.f4Clear

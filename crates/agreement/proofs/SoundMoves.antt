@@ -15,12 +15,13 @@ use Rattle.words.proofs.Heads.{advancedWord-below}
 use Rattle.classes.specs.Classes.{perRegion}
 use Rattle.plain.specs.Moves.{Decided}
 use Rattle.control.specs.Layout.{layout, Head, TaskHead, TaskPlace, TaskNext, TaskState, CacheCount}
-use Rattle.control.specs.Layout.{TaskUnit, LEAVING}
+use Rattle.control.specs.Layout.{TaskUnit, TaskLost, LEAVING}
+use Rattle.control.proofs.OneMoreLost.{more-fits}
 use Rattle.control.specs.declared.moves.Pop.{Pop}
 use Rattle.control.specs.declared.moves.Pop.the-variants.{Partial, Spare, Region}
 use Rattle.control.specs.declared.moves.Push.{Push}
 use Rattle.control.specs.declared.moves.Push.the-variants.{Retire, Back, Release, Offer}
-use Rattle.stepped.specs.Outcome.{Outcome, refuse, bad, accept}
+use Rattle.stepped.specs.Outcome.{Outcome, refuse, bad, accept, lose}
 use Rattle.stepped.specs.Ranges.{oneTo}
 use Rattle.stepped.specs.Leaving.{firstCached, nextCached, countFits, leaveFrom, leaveEnd}
 use Rattle.stepped.specs.Lists as Lists
@@ -59,6 +60,14 @@ none = record { sound = tt; own = tt }
 -- a test whose failure is 14
 pub test : {t : ℕ} (b : Bool) {x : Outcome} → (b ≡ true → Fit t x) → Fit t (cond b x bad)
 test {t} b h = branch (Fit t) b h (λ e. none)
+
+-- a lost exchange: the count fits, and one more does
+pub loses : (v : View) → Fitting v → {t : ℕ} → t < TASKS → (e : Decided) (back : ℕ) → back < 256
+    → Fit t (lose v t e back)
+loses v fits {t} task e back l = record {
+  sound = omega (arith, task, l, more-fits (v (TaskLost t)) (fits (TaskLost t) (omega (arith, task))));
+  own = omega arith;
+}
 
 -- the search for the next cache finds one of the classes, or none
 first-max : (v : View) (t n c : ℕ) → firstCached v t c n ≤ c + n
@@ -181,7 +190,7 @@ module _ (v : View) (fits : Fitting v) {regions t c : ℕ} (few : regions ≤ RE
         sound = omega (arith, pop-below p, advancedWord-below word next (omega (arith, most (popItems p), few-next)));
         own = omega arith;
       }))
-      (λ e. record { sound = omega (arith, task, pop-first p); own = omega arith }))
+      (λ e. loses v fits task _ _ (omega (arith, pop-first p))))
 
   -- ---- pushes
 
@@ -239,4 +248,4 @@ module _ (v : View) (fits : Fitting v) {regions t c : ℕ} (few : regions ≤ RE
         sound = omega (arith, push-below p, advancedWord-below word (x + 1) (omega (arith, most (pushItems p), low)));
         own = omega arith;
       }))
-      (λ e. record { sound = omega (arith, task, push-later p); own = omega arith }))
+      (λ e. loses v fits task _ _ (omega (arith, push-later p))))

@@ -21,7 +21,7 @@ use Rattle.words.specs.Mark.{bitAt}
 use Rattle.plain.specs.Steps.{top}
 use Rattle.plain.specs.Calls.{rising, startMem, Start}
 use Rattle.control.specs.Layout.{CACHES, fieldOf, Head, Tasks, Regions, DescriptorNext, RegionNext, TopOfCache}
-use Rattle.control.specs.Layout.{TaskState, FreeNodes}
+use Rattle.control.specs.Layout.{TaskState, TaskLost, FreeNodes}
 use Rattle.control.specs.Layout
 use Rattle.pieces.specs.Pieces.{onePiece}
 use Rattle.strip_tree.specs.declared.tree.Tree.{Tree}
@@ -88,6 +88,9 @@ module _ (b : Start) (regions : ℕ) where
 
   pub at-state : (t : ℕ) → startView (TaskState t) ≡ 0
   at-state t = unfilled Layout.taskStates t refl refl refl
+
+  pub at-lost : (t : ℕ) → startView (TaskLost t) ≡ 0
+  at-lost t = unfilled Layout.taskLosts t refl refl refl
 
   -- the tree of free pieces
   at-tree : treeOf startView ≡ startTree

@@ -28,7 +28,7 @@ use Rattle.stepped.specs.Free as Free
 use Rattle.stepped.specs.Leaving.{leaveEnd}
 use Rattle.stepped.specs.Steps as Steps
 use Rattle.stepped.proofs.Conjunction.{left-true}
-use Rattle.agreement.proofs.Ways.{branch, PlaceEnding, wrong, either, test, to, stay, finish}
+use Rattle.agreement.proofs.Ways.{branch, PlaceEnding, wrong, either, test, to, stay, finish, back}
 use Rattle.agreement.proofs.MoveWays.{pop-read, pop-next, pop-exchange, push-read, push-next, push-exchange, f5}
 use mathlib.Core.Logic.{inl, inr}
 use Rattle.limits.specs.Limits.{ORDERS}
@@ -62,12 +62,12 @@ module _ (v : View) (link : ℕ → ℕ) (t : ℕ) (fits : v (TaskClass t) < CLA
       let k = v (CacheCount t c) in
       let u = v (CacheTop t c) in
       let below = isTop regions c (k - 1) (link u) in
-      either (eqb k 0) (to (popPlace Partial) (omega arith) (λ u. refl))
+      either (eqb k 0) (to (popPlace Partial) (omega arith) (λ u. (refl, λ j. refl)) refl)
       (test (leb k (perRegion c))
       (branch End (isBlock regions c u && below)
       (λ e. finish
       (inl (record { place = here; class = fits; top = refl; is-block = left-true (isBlock regions c u) below e }))
-      (λ u. refl))
+      (λ u. (refl, λ j. refl)) refl)
       (λ e. wrong)))
 
   a3-read : End (Allocate.a3Read v link regions t c)
@@ -76,8 +76,8 @@ module _ (v : View) (link : ℕ → ℕ) (t : ℕ) (fits : v (TaskClass t) < CLA
       let d = v (TaskDescriptor t) in
       let word = v (Anchor d) in
       test (ltb d DESCRIPTORS) (test (isAnchor word)
-      (either (eqb (anchorOf word .state) EMPTY) (to (pushPlace Retire) (omega arith) (λ u. refl))
-      (test (hasChain (perRegion c) word) (to A3-EXCHANGE (omega arith) (λ u. refl)))))
+      (either (eqb (anchorOf word .state) EMPTY) (to (pushPlace Retire) (omega arith) (λ u. (refl, λ j. refl)) refl)
+      (test (hasChain (perRegion c) word) (to A3-EXCHANGE (omega arith) (λ u. (refl, λ j. refl)) refl))))
 
   a3-exchange : End (Allocate.a3Exchange v link regions t c)
   unfolding Allocate.a3Exchange Allocate.a3ExchangeOf
@@ -86,8 +86,8 @@ module _ (v : View) (link : ℕ → ℕ) (t : ℕ) (fits : v (TaskClass t) < CLA
       let word = v (TaskAnchor t) in
       test (ltb d DESCRIPTORS && hasChain (perRegion c) word) (test (isAnchor (v (Anchor d)))
       (either (eqb (v (Anchor d)) word)
-      (test (ltb (v (DescriptorRegion d)) regions) (to A4 (omega arith) (λ u. refl)))
-      (to A3-READ (omega arith) (λ u. refl))))
+      (test (ltb (v (DescriptorRegion d)) regions) (to A4 (omega arith) (λ u. (refl, λ j. refl)) refl))
+      (back A3-READ (λ i. absurd (omega arith)) refl)))
 
   a4 : End (Allocate.a4 v link regions t c)
   unfolding Allocate.a4 Allocate.a4Move
@@ -98,11 +98,14 @@ module _ (v : View) (link : ℕ → ℕ) (t : ℕ) (fits : v (TaskClass t) < CLA
       let k = v (CacheCount t c) in
       let n = perRegion c in
       test (ltb r regions && ltb i n && oneTo n left && ltb k n && isTop regions c k (v (CacheTop t c)))
-      (either (eqb left 1) (to A1 (omega arith) (λ u. refl)) (test (ltb (link (unitOf r c i)) n) (stay (λ u. refl))))
+      (either (eqb left 1) (to A1 (omega arith) (λ u. (refl, λ j. refl)) refl)
+      (test (ltb (link (unitOf r c i)) n) (stay (λ u. (refl, λ j. refl)))))
 
   a7 : End (Allocate.a7 v link regions t c)
   unfolding Allocate.a7
-  a7 = test (ltb (v (TaskDescriptor t)) DESCRIPTORS && ltb (v (TaskRegion t)) regions) (to A8 (omega arith) (λ u. refl))
+  a7 =
+      test (ltb (v (TaskDescriptor t)) DESCRIPTORS && ltb (v (TaskRegion t)) regions)
+      (to A8 (omega arith) (λ u. (refl, λ j. refl)) refl)
 
   a8 : End (Allocate.a8 v link regions t c)
   unfolding Allocate.a8 Allocate.a8Put
@@ -111,7 +114,7 @@ module _ (v : View) (link : ℕ → ℕ) (t : ℕ) (fits : v (TaskClass t) < CLA
       let k = v (CacheCount t c) in
       let n = perRegion c in
       test (ltb (v (TaskRegion t)) regions && ltb i n && ltb k n && isTop regions c k (v (CacheTop t c)))
-      (either (eqb (i + 1) n) (to A1 (omega arith) (λ u. refl)) (stay (λ u. refl)))
+      (either (eqb (i + 1) n) (to A1 (omega arith) (λ u. (refl, λ j. refl)) refl) (stay (λ u. (refl, λ j. refl))))
 
   -- ---- free
 
@@ -123,8 +126,8 @@ module _ (v : View) (link : ℕ → ℕ) (t : ℕ) (fits : v (TaskClass t) < CLA
       test (leb k n)
       (either (ltb k n)
       (test (isBlock regions c (v (TaskUnit t)) && isTop regions c k (v (CacheTop t c)))
-      (finish (inl here) (λ u. refl)))
-      (to F2 (omega arith) (λ u. refl)))
+      (finish (inl here) (λ u. (refl, λ j. refl)) refl))
+      (to F2 (omega arith) (λ u. (refl, λ j. refl)) refl))
 
   f2 : End (Free.f2 v link regions t c)
   unfolding Free.f2 Free.f2Top Free.f2First Free.f2More
@@ -135,11 +138,11 @@ module _ (v : View) (link : ℕ → ℕ) (t : ℕ) (fits : v (TaskClass t) < CLA
       let r = v (TaskRegion t) in
       let n = perRegion c in
       let below = isTop regions c (k - 1) (link u) in
-      let close = to F3-READ (omega arith) (λ u. refl) in
+      let close = to F3-READ (omega arith) (λ u. (refl, λ j. refl)) refl in
       test (leb k n && leb g n) (either (eqb k 0) close
-      (test (isBlock regions c u) (either (eqb g 0) (test below (stay (λ u. refl)))
+      (test (isBlock regions c u) (either (eqb g 0) (test below (stay (λ u. (refl, λ j. refl))))
       (test (ltb r regions) (either (eqb (regionOf u) r)
-      (test (ltb g n && ltb (v (GroupLast t)) n && below) (stay (λ u. refl)))
+      (test (ltb g n && ltb (v (GroupLast t)) n && below) (stay (λ u. (refl, λ j. refl))))
       close)))))
 
   f3-read : End (Free.f3Read v link regions t c)
@@ -149,7 +152,7 @@ module _ (v : View) (link : ℕ → ℕ) (t : ℕ) (fits : v (TaskClass t) < CLA
       let g = v (GroupCount t) in
       let word = v (Anchor (v (Map r) - 1)) in
       test (ltb r regions && oneTo (perRegion c) g) (test (oneTo DESCRIPTORS (v (Map r)))
-      (test (isAnchor word && hasRoom (perRegion c) g word) (to F3-LINK (omega arith) (λ u. refl))))
+      (test (isAnchor word && hasRoom (perRegion c) g word) (to F3-LINK (omega arith) (λ u. (refl, λ j. refl)) refl)))
 
   f3-link : End (Free.f3Link v link regions t c)
   unfolding Free.f3Link
@@ -157,7 +160,7 @@ module _ (v : View) (link : ℕ → ℕ) (t : ℕ) (fits : v (TaskClass t) < CLA
       let n = perRegion c in
       let word = v (TaskAnchor t) in
       test (ltb (v (TaskRegion t)) regions && ltb (v (GroupLast t)) n && isAnchor word && hasFirst n word)
-      (to F3-EXCHANGE (omega arith) (λ u. refl))
+      (to F3-EXCHANGE (omega arith) (λ u. (refl, λ j. refl)) refl)
 
   f3-exchange : End (Free.f3Exchange v link regions t c)
   unfolding Free.f3Exchange Free.f3ExchangeOf Free.f3Won
@@ -172,17 +175,18 @@ module _ (v : View) (link : ℕ → ℕ) (t : ℕ) (fits : v (TaskClass t) < CLA
       test (ltb d DESCRIPTORS && ltb first n && oneTo n g && isAnchor word && hasRoom n g word)
       (test (isAnchor (v (Anchor d)))
       (either (eqb (v (Anchor d)) word)
-      (either (eqb (a .count + g) n) (to F4-CLEAR (omega arith) (λ u. refl))
-      (f5 v t fits (a .state) (gave d) ws (λ u. refl)))
-      (to F3-READ (omega arith) (λ u. refl))))
+      (either (eqb (a .count + g) n) (to F4-CLEAR (omega arith) (λ u. (refl, λ j. refl)) refl)
+      (f5 v t fits (a .state) (gave d) ws (λ u. (refl, λ j. refl)) refl))
+      (back F3-READ (λ i. absurd (omega arith)) refl)))
 
   take-found : v (TaskPlace t) ≡ STRIP-TAKE → c < ORDERS → (f : Found) → find (treeOf v) c ≡ f
       → End (Strips.stripTakeBy v t c f)
   unfolding Strips.stripTakeAt
   take-found here few (At i j) e =
-      finish (inr (record { place = here; order = few; node = i; found-order = j; found = e; is = refl })) (λ u. refl)
+      finish (inr (record { place = here; order = few; node = i; found-order = j; found = e; is = refl }))
+      (λ u. (refl, λ j. refl)) refl
   take-found here few Nothing e =
-      finish (record { place = here; order = few; none = none-free (treeOf v) c few e }) (λ u. refl)
+      finish (record { place = here; order = few; none = none-free (treeOf v) c few e }) (λ u. (refl, λ j. refl)) refl
 
   strip-take : v (TaskPlace t) ≡ STRIP-TAKE → End (Strips.stripTake v t c)
   unfolding Strips.stripTake
@@ -195,14 +199,15 @@ module _ (v : View) (link : ℕ → ℕ) (t : ℕ) (fits : v (TaskClass t) < CLA
       let s = slotOfUnit (v (TaskUnit t)) in
       let x = v (SlotByte s) in
       test (isStripUnit (v (TaskUnit t)))
-      (test (leb FREE-BEGUN x && leb x LAST-BYTE && canBegin s (orderIn x)) (finish (inr (inl here)) (λ u. refl)))
+      (test (leb FREE-BEGUN x && leb x LAST-BYTE && canBegin s (orderIn x))
+      (finish (inr (inl here)) (λ u. (refl, λ j. refl)) refl))
 
   leave-end : v (TaskPlace t) ≡ LEAVE-END → End (leaveEnd v t)
-  leave-end here = finish (inr (inr here)) (λ u. refl)
+  leave-end here = finish (inr (inr here)) (λ u. (refl, λ j. refl)) refl
 
   f4-clear : End (Free.f4Clear v link regions t c)
   unfolding Free.f4Clear
-  f4-clear = test (ltb (v (TaskRegion t)) regions) (to (pushPlace Release) (omega arith) (λ u. refl))
+  f4-clear = test (ltb (v (TaskRegion t)) regions) (to (pushPlace Release) (omega arith) (λ u. (refl, λ j. refl)) refl)
 
   -- ---- the step list
 

@@ -1,8 +1,8 @@
 -- The tests of the calls, and the ways in which a step can end, whatever the two memories hold.
 use Prim.Native.Nat.{ℕ, _*_, _<_}
-use mathlib.Core.Path.{_≡_, refl, sym, subst, _∙_}
+use mathlib.Core.Path.{_≡_, refl, sym, ap, subst, _∙_}
 use mathlib.Core.Logic.{_⊎_, ⊎-elim, inl, inr}
-use mathlib.Core.Bool.{Bool, true, false, cond, _||_, false≢true}
+use mathlib.Core.Bool.{Bool, true, false, cond, _&&_, _||_, false≢true}
 use mathlib.Core.List.{List, [], _∷_, _++_}
 use native.Mathlib.Omega.{arith}
 use borrow.Author.Tests.{eq-eqb, le-leb, eqb-true, eqb-false, leb-true, leb-false, ltb-true, ltb-false}
@@ -10,17 +10,18 @@ use lib.Dec.{eqb, leb, ltb}
 use Rattle.limits.specs.Limits.{CONTROL-BYTES, REGIONS, REGION-BYTES, TASKS, CLASSES, ORDERS, STRIPS-BYTES}
 use Rattle.fields.specs.Columns.{View, Write, _:=_, assign, assigned}
 use Rattle.links.specs.Link.{LinkWrite}
-use Rattle.plain.specs.Moves.{Decided}
+use Rattle.plain.specs.Moves.{Decided, nothing}
 use Rattle.plain.specs.Calls.{Start, Lengths, StartTested, StartFails, start-control, start-lengths, start-tasks}
 use Rattle.plain.proofs.CallTests.{start-tested}
-use Rattle.control.specs.Layout.{CacheTop, TaskPlace, TaskClass, Tasks, Regions}
+use Rattle.control.specs.Layout.{CacheTop, TaskLost, TaskPlace, TaskClass, Tasks, Regions}
+use Rattle.control.specs.Losts.{oneMore}
 use Rattle.control.specs.Places.{IDLE, A1, F1, STRIP-TAKE, STRIP-GIVE, LEAVE-END}
 use Rattle.control.specs.declared.answer.Answer.{Answer}
 use Rattle.control.specs.declared.answer.Answer.the-variants.{Accepted, Allocated, Freed, NoDescriptor, NoRegion}
 use Rattle.control.specs.declared.answer.Answer.the-variants.{NoStrip, Refused}
 use Rattle.control.specs.declared.moves.Pop.the-variants.{Spare, Region}
 use Rattle.control.specs.declared.moves.Push.the-variants.{Back}
-use Rattle.stepped.specs.Outcome.{Outcome, refuse, bad, accept, over, Memories, Effect, effect}
+use Rattle.stepped.specs.Outcome.{Outcome, refuse, bad, accept, over, lose, Memories, Effect, effect}
 use Rattle.pieces.specs.StripUnits.{stripUnit}
 use Rattle.strip_tree.specs.declared.find.Found.the-variants.{At}
 use Rattle.strip_tree.specs.TreeMoves.{find, slotOfNode}
@@ -31,7 +32,8 @@ use Rattle.stepped.specs.Calls.{Tested, HasTasks, HasRegions, Lent, lengths, st
 use Rattle.stepped.specs.Calls.{FirstFails, control-fails, tasks-fail, not-started, regions-fail, lengths-fail}
 use Rattle.stepped.specs.Calls.{task-fails, isStartedLengths}
 use Rattle.agreement.specs.Ends.{startRefusals, oneOf, testRefusals, placeRefusals, stepRefusals, Begins}
-use Rattle.agreement.specs.Ends.{FindsEmpty, WinsPush, InPush, FindsNoPiece}
+use Rattle.agreement.specs.Ends.{FindsEmpty, WinsPush, InPush, FindsNoPiece, Counted}
+use Rattle.agreement.specs.LostExchanges.{isLost}
 use Rattle.stepped.proofs.CallTests.{one-to, lengths-started, start-failed, start-passed}
 use Rattle.agreement.proofs.BothPass.{both-true}
 
@@ -161,22 +163,30 @@ Cause v t NoStrip = FindsNoPiece v t
 Cause v t (Refused n) = ⊥
 
 -- How a step of the task t ends: with a refusal by one of the numbers ns, with the request under way, or with the
--- request's end. It comes to the push back from the empty list of spare regions, or from that push itself.
+-- request's end. It comes to the push back from the empty list of spare regions, or from that push itself. A lost
+-- exchange is counted, and nothing else is.
 pub data Ending (ns : List ℕ) (v : View) (t : ℕ) : Outcome → Type 0 where
   refused : {n : ℕ} → oneOf ns n ≡ true → Ending ns v t (refuse n)
   going : {e : Decided} {ws : List Write} {ls : List LinkWrite}
       → (InPush Back (assigned ws v (TaskPlace t)) → FindsEmpty Region v t ⊎ InPush Back (v (TaskPlace t)))
-      → Ending ns v t (accept e ws ls)
+      → Counted v t e ws → Ending ns v t (accept e ws ls)
   ended : {a : Answer} {e : Decided} {ws : List Write} {ls : List LinkWrite} → Cause v t a
-      → assigned ws v (TaskPlace t) ≡ IDLE → Ending ns v t (over a e ws ls)
+      → assigned ws v (TaskPlace t) ≡ IDLE → Counted v t e ws → Ending ns v t (over a e ws ls)
 
--- writes that leave the place of the task t
+-- writes that leave the place of the task t, and every count of lost exchanges
 abbrev pub Keeps : ℕ → List Write → Type 0
-Keeps t ws = (u : View) → assigned ws u (TaskPlace t) ≡ u (TaskPlace t)
+Keeps t ws =
+    (u : View) → (assigned ws u (TaskPlace t) ≡ u (TaskPlace t))
+    × ((j : ℕ) → assigned ws u (TaskLost j) ≡ u (TaskLost j))
 
 -- a place that is written, before such writes
 pub sent : (v : View) (t q : ℕ) (ws : List Write) → Keeps t ws → assigned (TaskPlace t := q ∷ ws) v (TaskPlace t) ≡ q
-sent v t q ws h = h (assign (TaskPlace t := q) v) ∙ rw (eq-eqb t t refl)
+sent v t q ws h = h (assign (TaskPlace t := q) v) .0 ∙ rw (eq-eqb t t refl)
+
+-- such writes count nothing, and no exchange is lost by their move
+uncounted : (v : View) (t : ℕ) (e : Decided) (ws : List Write) → isLost e ≡ false
+    → ((j : ℕ) → assigned ws v (TaskLost j) ≡ v (TaskLost j)) → Counted v t e ws
+uncounted v t e ws n h j = rw n (h j)
 
 -- how the step at the place of the task t ends, and how the call of a step does
 abbrev pub PlaceEnding : View → ℕ → Outcome → Type 0
@@ -188,8 +198,8 @@ CallEnding = Ending stepRefusals
 -- the numbers by which the step at a place can be refused are among those of the call
 pub at-call : {v : View} {t : ℕ} {o : Outcome} → PlaceEnding v t o → CallEnding v t o
 at-call (refused {n} h) = refused (subst (λ (m : ℕ). oneOf stepRefusals m ≡ true) (sym (only 14 n h)) refl)
-at-call (going h) = going h
-at-call (ended k h) = ended k h
+at-call (going h c) = going h c
+at-call (ended k h c) = ended k h c
 
 -- the step at a place
 module _ {v : View} {t : ℕ} where
@@ -204,16 +214,30 @@ module _ {v : View} {t : ℕ} where
   pub test : {o : Outcome} (b : Bool) → PlaceEnding v t o → PlaceEnding v t (cond b o bad)
   test b h = either b h wrong
 
-  -- to a place that is none of the push back's
+  -- to a place that is none of the push back's, by a move that is no lost exchange
   pub to : {e : Decided} (q : ℕ) {ws : List Write} {ls : List LinkWrite} → (InPush Back q → ⊥) → Keeps t ws
-      → PlaceEnding v t (accept e (TaskPlace t := q ∷ ws) ls)
-  to q {ws} n h = going (λ i. absurd (n (subst (InPush Back) (sent v t q ws h) i)))
+      → isLost e ≡ false → PlaceEnding v t (accept e (TaskPlace t := q ∷ ws) ls)
+  to {e} q {ws} n h l =
+      going (λ i. absurd (n (subst (InPush Back) (sent v t q ws h) i)))
+      (uncounted v t e (TaskPlace t := q ∷ ws) l (h (assign (TaskPlace t := q) v) .1))
 
   -- to the same place again
-  pub stay : {e : Decided} {ws : List Write} {ls : List LinkWrite} → Keeps t ws → PlaceEnding v t (accept e ws ls)
-  stay h = going (λ i. inr (subst (InPush Back) (h v) i))
+  pub stay : {ws : List Write} {ls : List LinkWrite} → Keeps t ws → PlaceEnding v t (accept nothing ws ls)
+  stay {ws} h =
+      going (λ i. inr (subst (InPush Back) (h v .0) i)) (uncounted v t nothing ws refl (h v .1))
 
   -- to idle
   pub finish : {a : Answer} {e : Decided} {ws : List Write} {ls : List LinkWrite} → Cause v t a → Keeps t ws
-      → PlaceEnding v t (over a e (TaskPlace t := IDLE ∷ ws) ls)
-  finish {ws = ws} k h = ended k (sent v t IDLE ws h)
+      → isLost e ≡ false → PlaceEnding v t (over a e (TaskPlace t := IDLE ∷ ws) ls)
+  finish {e = e} {ws = ws} k h l =
+      ended k (sent v t IDLE ws h)
+      (uncounted v t e (TaskPlace t := IDLE ∷ ws) l (h (assign (TaskPlace t := IDLE) v) .1))
+
+  -- a lost exchange, back to a place q that is none of the push back's, or from one of them
+  pub back : {e : Decided} (q : ℕ) → (InPush Back q → InPush Back (v (TaskPlace t))) → isLost e ≡ true
+      → PlaceEnding v t (lose v t e q)
+  back q h l =
+      let ws = TaskPlace t := q ∷ TaskLost t := oneMore (v (TaskLost t)) ∷ [] in
+      let there : assigned ws v (TaskPlace t) ≡ q = rw (eq-eqb t t refl) in
+      going (λ i. inr (h (subst (InPush Back) there i)))
+      (λ j. ap (λ (b : Bool). cond (b && eqb t j) (oneMore (v (TaskLost t))) (v (TaskLost j))) (sym l))

@@ -1,17 +1,19 @@
 -- docs/POOL.md, "Calls and refusals"
 -- How a call ends, whatever the memories hold: what a refusal leaves, which numbers refuse, when "no descriptor", "no
--- region" and 16 come, and the class or the order that a size gets.
+-- region" and 16 come, what becomes of the counts of lost exchanges, and the class or the order that a size gets.
 use Prim.Native.Nat.{ℕ, _+_, _-_, _^_, _≤_, _<_}
 use mathlib.Core.Path.{_≡_}
 use mathlib.Core.List.{List, [], _∷_, _++_}
-use mathlib.Core.Bool.{Bool, true, false, _||_}
+use mathlib.Core.Bool.{Bool, true, false, cond, _&&_, _||_}
 use lib.Dec.{eqb}
 use Rattle.limits.specs.Limits.{CLASSES, ORDERS, LARGEST-SIZE, LARGEST-STRIP}
-use Rattle.fields.specs.Columns.{View, _:=_, assigned}
+use Rattle.fields.specs.Columns.{View, Write, _:=_, assigned}
 use Rattle.words.specs.Head.{itemOf}
 use Rattle.classes.specs.Classes.{block}
 use Rattle.classes.specs.Sizes.{classOf}
-use Rattle.control.specs.Layout.{Head, TaskHead, TaskPlace, TaskClass, Regions}
+use Rattle.plain.specs.Moves.{Decided}
+use Rattle.control.specs.Layout.{Head, TaskHead, TaskLost, TaskPlace, TaskClass, Regions}
+use Rattle.control.specs.Losts.{oneMore}
 use Rattle.pieces.specs.StripSizes.{orderOf, RoundsTo}
 use Rattle.strip_tree.specs.Trees.{isFreeNode}
 use Rattle.control.specs.Places.{IDLE, A1, STRIP-TAKE}
@@ -24,6 +26,7 @@ use Rattle.control.specs.declared.moves.Push.{Push}
 use Rattle.stepped.specs.Outcome.{Outcome, Memories, Effect, memoriesAfter}
 use Rattle.stepped.specs.StripSteps.{treeOf}
 use Rattle.stepped.specs.Lists.{howMany, handField, popPlace, popList, pushPlace, pushList, pushItems}
+use Rattle.agreement.specs.LostExchanges.{isLost}
 
 -- ---- refusals
 
@@ -95,10 +98,16 @@ pub record StartEnds (s : Memories) (e : Effect) : Type 0 where
   pub leaves : Leaves e s
   pub answers : Begins startRefusals (e .answer)
 
--- how the beginning of a request ends, which the numbers ns can refuse
-pub record BeginEnds (ns : List ℕ) (o : Outcome) : Type 0 where
+-- a beginning sets the count to zero: after the writes ws the task t has lost no exchange, and no other task's count is
+-- changed
+abbrev pub Cleared : View → ℕ → List Write → Type 0
+Cleared v t ws = (j : ℕ) → assigned ws v (TaskLost j) ≡ cond (eqb t j) 0 (v (TaskLost j))
+
+-- how the beginning of a request of the task t ends, which the numbers ns can refuse
+pub record BeginEnds (ns : List ℕ) (v : View) (t : ℕ) (o : Outcome) : Type 0 where
   pub nothing : WritesNothing o
   pub answers : Begins ns (o .answer)
+  pub cleared : o .answer ≡ Accepted → Cleared v t (o .writes)
 
 -- ---- steps
 
@@ -142,20 +151,29 @@ pub record FindsNoPiece (v : View) (t : ℕ) : Type 0 where
   pub order : v (TaskClass t) < ORDERS
   pub none : (i : ℕ) → 1 ≤ i → i < 2 ^ (ORDERS - v (TaskClass t)) → isFreeNode (treeOf v) i ≡ false
 
--- How a step ends: "12 and 13 .. are a request's end .. and leave the task idle", and so do 16 and a finish.
+-- "The pop and push of a list, and the change of an anchor, are to count the lost exchanges" (the request for lost
+-- exchanges): after the writes ws of a step of the task t that decided e, its count is one more if e is a lost
+-- exchange, and no other count is changed
+abbrev pub Counted : View → ℕ → Decided → List Write → Type 0
+Counted v t e ws =
+    (j : ℕ) → assigned ws v (TaskLost j) ≡ cond (isLost e && eqb t j) (oneMore (v (TaskLost t))) (v (TaskLost j))
+
+-- How a step ends: "12 and 13 .. are a request's end .. and leave the task idle", and so do 16 and a finish. The lost
+-- exchange that it may be is counted.
 pub record StepEnds (v : View) (t : ℕ) (o : Outcome) : Type 0 where
   pub nothing : WritesNothing o
   pub answers : StepAnswers stepRefusals (o .answer)
   pub idle : IsEnd (o .answer) → placeAfter o v t ≡ IDLE
+  pub counted : Counted v t (o .decided) (o .writes)
 
 -- ---- sizes
 
--- The allocation of a small block of `size` bytes has begun: nothing but the task's place and its class is written, and
--- the class is the smallest whose block holds the size.
+-- The allocation of a small block of `size` bytes has begun: nothing but the task's place, its class and its lost
+-- exchanges, none, is written, and the class is the smallest whose block holds the size.
 pub record BegunOutcome (t size : ℕ) (o : Outcome) : Type 0 where
   pub from : 1 ≤ size
   pub to : size ≤ LARGEST-SIZE
-  pub writes : o .writes ≡ (TaskPlace t := A1 ∷ TaskClass t := classOf size ∷ [])
+  pub writes : o .writes ≡ (TaskPlace t := A1 ∷ TaskClass t := classOf size ∷ TaskLost t := 0 ∷ [])
   pub class : classOf size < CLASSES
   pub holds : size ≤ block (classOf size)
   pub smallest : (c : ℕ) → c < classOf size → block c < size
@@ -165,5 +183,5 @@ pub record BegunOutcome (t size : ℕ) (o : Outcome) : Type 0 where
 pub record BegunStripOutcome (t size : ℕ) (o : Outcome) : Type 0 where
   pub from : LARGEST-SIZE < size
   pub to : size ≤ LARGEST-STRIP
-  pub writes : o .writes ≡ (TaskPlace t := STRIP-TAKE ∷ TaskClass t := orderOf size ∷ [])
+  pub writes : o .writes ≡ (TaskPlace t := STRIP-TAKE ∷ TaskClass t := orderOf size ∷ TaskLost t := 0 ∷ [])
   pub rounds : RoundsTo size (orderOf size)

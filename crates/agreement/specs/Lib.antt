@@ -6,6 +6,7 @@ pub mod Tied
 pub mod Events
 pub mod Reached
 pub mod Asked
+pub mod LostExchanges
 pub mod AtWhatAsked
 pub mod Handed
 pub mod Observe

@@ -15,7 +15,7 @@ use Rattle.classes.specs.declared.size.Choice.the-variants.{Class, Strip, Refus
 use Rattle.pieces.specs.StripSizes.{orderOf, RoundsTo}
 use Rattle.pieces.proofs.StripSizes.{rounds, rounds-once}
 use Rattle.plain.specs.Moves.{nothing}
-use Rattle.control.specs.Layout.{changed, TaskPlace, TaskClass}
+use Rattle.control.specs.Layout.{changed, TaskLost, TaskPlace, TaskClass}
 use Rattle.control.specs.declared.answer.Answer.the-variants.{Accepted}
 use Rattle.control.specs.Places.{IDLE, A1, STRIP-TAKE, PLACES}
 use Rattle.stepped.specs.Outcome.{Outcome, refuse, bad, accept}
@@ -40,17 +40,18 @@ module _ (v : View) (t : ℕ) (x : Outcome) where
 
 -- ---- sizes
 
+-- the request of the task t begins, at its first place and with its class or order
+abbrev begins : ℕ → ℕ → ℕ → Outcome
+begins t place c = accept nothing (TaskPlace t := place ∷ TaskClass t := c ∷ TaskLost t := 0 ∷ []) []
+
 -- a beginning by what the size is given, and by the order that it has as a strip
 abbrev given : ℕ → ℕ → Choice → Outcome
 given t k (Refused n) = refuse n
-given t k Strip = accept nothing (TaskPlace t := STRIP-TAKE ∷ TaskClass t := k ∷ []) []
-given t k (Class c) = accept nothing (TaskPlace t := A1 ∷ TaskClass t := c ∷ []) []
+given t k Strip = begins t STRIP-TAKE k
+given t k (Class c) = begins t A1 c
 
 by-tests : (p q s : Bool) (t k c : ℕ)
-    → cond p (refuse 8)
-    (cond q (refuse 9)
-    (cond s (accept nothing (TaskPlace t := STRIP-TAKE ∷ TaskClass t := k ∷ []) [])
-    (accept nothing (TaskPlace t := A1 ∷ TaskClass t := c ∷ []) [])))
+    → cond p (refuse 8) (cond q (refuse 9) (cond s (begins t STRIP-TAKE k) (begins t A1 c)))
     ≡ given t k (cond p (Refused 8) (cond q (Refused 9) (cond s Strip (Class c))))
 by-tests true q s t k c = refl
 by-tests false true s t k c = refl
@@ -82,14 +83,22 @@ strip-larger size e =
     ltb-true LARGEST-SIZE size
     (by-strip (eqb size 0) (ltb LARGEST-STRIP size) (ltb LARGEST-SIZE size) (classOf size) (subst IsStrip (sym e) tt))
 
+-- the three stores of an accepted beginning
+begun : (before : List ℕ) {placed classed after : List ℕ} (t place c : ℕ)
+    → placed ≡ changed (TaskPlace t := place ∷ []) before
+    → classed ≡ changed (TaskClass t := c ∷ []) placed
+    → after ≡ changed (TaskLost t := 0 ∷ []) classed
+    → after ≡ changed (begins t place c .writes) before
+begun before t place c p q l =
+    l ∙ ap (changed (TaskLost t := 0 ∷ [])) (q ∙ ap (changed (TaskClass t := c ∷ [])) p)
+
 -- a size above those of small blocks
 module _ (t size : ℕ) (large : LARGEST-SIZE < size) where
   pub too-large : LARGEST-STRIP < size → beginAllocate t size ≡ refuse 9
   unfolding beginAllocate
   too-large h = rw (ne-eqb size 0 (λ e. omega arith), lt-ltb LARGEST-STRIP size h)
 
-  as-strip : size ≤ LARGEST-STRIP
-      → beginAllocate t size ≡ accept nothing (TaskPlace t := STRIP-TAKE ∷ TaskClass t := orderOf size ∷ []) []
+  as-strip : size ≤ LARGEST-STRIP → beginAllocate t size ≡ begins t STRIP-TAKE (orderOf size)
   unfolding beginAllocate
   as-strip most = rw (
     ne-eqb size 0 (λ e. omega arith),
@@ -97,17 +106,15 @@ module _ (t size : ℕ) (large : LARGEST-SIZE < size) where
     lt-ltb LARGEST-SIZE size large,
   )
 
-  -- the two stores of a strip's request
-  pub strip-served : size ≤ LARGEST-STRIP → (before : List ℕ) {between after : List ℕ} (k : ℕ) → RoundsTo size k
-      → between ≡ changed (TaskPlace t := STRIP-TAKE ∷ []) before
-      → after ≡ changed (TaskClass t := k ∷ []) between
+  -- a strip's request: k is the order that the code has
+  pub strip-served : size ≤ LARGEST-STRIP → (before : List ℕ) {placed classed after : List ℕ} (k : ℕ) → RoundsTo size k
+      → placed ≡ changed (TaskPlace t := STRIP-TAKE ∷ []) before
+      → classed ≡ changed (TaskClass t := k ∷ []) placed
+      → after ≡ changed (TaskLost t := 0 ∷ []) classed
       → Done (beginAllocate t size) before after Accepted
-  strip-served most before {between} k r p q =
+  strip-served most before k r p q l =
       let d = rounds-once size k (orderOf size) r (rounds size most) in
-      done (as-strip most) refl
-      (q ∙ ap (λ (c : ℕ). changed (TaskClass t := c ∷ []) between) d
-      ∙ ap (changed (TaskClass t := orderOf size ∷ [])) p)
-      refl
+      done (as-strip most ∙ ap (begins t STRIP-TAKE) (sym d)) refl (begun before t STRIP-TAKE k p q l) refl
 
 module _ (v : View) (t size : ℕ) (idle : v (TaskPlace t) ≡ IDLE) where
   as-given : (x : Choice) → choice size ≡ x → whenIdle v t (beginAllocate t size) ≡ given t (orderOf size) x
@@ -117,11 +124,14 @@ module _ (v : View) (t size : ℕ) (idle : v (TaskPlace t) ≡ IDLE) where
   size-refused n e = as-given (Refused n) e
 
   pub size-served : (c : ℕ) → choice size ≡ Class c
-      → whenIdle v t (beginAllocate t size) ≡ accept nothing (TaskPlace t := A1 ∷ TaskClass t := c ∷ []) []
+      → whenIdle v t (beginAllocate t size) ≡ begins t A1 c
   size-served c e = as-given (Class c) e
 
-  -- the two stores of an accepted beginning
-  pub served : (before : List ℕ) {between after : List ℕ} (c : ℕ) → between ≡ changed (TaskPlace t := A1 ∷ []) before
-      → after ≡ changed (TaskClass t := c ∷ []) between → choice size ≡ Class c
+  -- a small block's request
+  pub served : (before : List ℕ) {placed classed after : List ℕ} (c : ℕ)
+      → placed ≡ changed (TaskPlace t := A1 ∷ []) before
+      → classed ≡ changed (TaskClass t := c ∷ []) placed
+      → after ≡ changed (TaskLost t := 0 ∷ []) classed
+      → choice size ≡ Class c
       → Done (whenIdle v t (beginAllocate t size)) before after Accepted
-  served before c p q e = done (size-served c e) refl (q ∙ ap (changed (TaskClass t := c ∷ [])) p) refl
+  served before c p q l e = done (size-served c e) refl (begun before t A1 c p q l) refl

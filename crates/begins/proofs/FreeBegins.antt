@@ -3,7 +3,7 @@ use mathlib.Core.Path.{_≡_, refl, sym, ap, subst, _∙_}
 use mathlib.Core.Logic.{_≢_}
 use mathlib.Core.Bool.{Bool, true, false, cond}
 use mathlib.Core.List.{List, [], _∷_}
-use Prim.Native.Nat.{ℕ, _-_, _/_, _%_, _≤_, _<_}
+use Prim.Native.Nat.{ℕ, _+_, _-_, _/_, _%_, _≤_, _<_}
 use native.Mathlib.Omega.{arith}
 use borrow.Author.Tests.{eq-eqb, ne-eqb, lt-ltb, le-ltb, le-leb, lt-leb}
 use Rattle.limits.specs.Limits.{CLASSES, DESCRIPTORS, WORD-MARKS, UNITS}
@@ -12,7 +12,7 @@ use Rattle.words.specs.Anchor.{EMPTY, anchorOf}
 use Rattle.words.specs.Mark.{isSet, withClear}
 use Rattle.classes.specs.Geometry.{regionOf, isFirst}
 use Rattle.plain.specs.Moves.{nothing}
-use Rattle.control.specs.Layout.{changed, Anchor, Marks, TaskUnit, TaskPlace, TaskClass, DescriptorRegion}
+use Rattle.control.specs.Layout.{changed, Anchor, Marks, TaskUnit, TaskLost, TaskPlace, TaskClass, DescriptorRegion}
 use Rattle.control.specs.Layout.{DescriptorClass, Map}
 use Rattle.control.specs.declared.answer.Answer.the-variants.{Accepted}
 use Rattle.control.specs.Places.{IDLE, F1}
@@ -28,7 +28,14 @@ module _ (v : View) (t u c : ℕ) where
   -- the request begins, and the unit's word of marks becomes x
   abbrev begun : ℕ → Outcome
   begun x =
-      accept nothing (TaskPlace t := F1 ∷ TaskClass t := c ∷ TaskUnit t := u ∷ Marks (u / WORD-MARKS) := x ∷ []) []
+      accept nothing
+      (TaskPlace t := F1
+      ∷ TaskClass t := c
+      ∷ TaskUnit t := u
+      ∷ TaskLost t := 0
+      ∷ Marks (u / WORD-MARKS) := x
+      ∷ [])
+      []
 
   pub mark-clear : (w : ℕ) → w ≡ v (Marks (u / WORD-MARKS)) → isSet w (u % WORD-MARKS) ≡ false
       → freeMarked v t u c ≡ refuse 11
@@ -44,17 +51,19 @@ module _ (v : View) (t u c : ℕ) where
       (subst (λ (x : ℕ). isSet x (u % WORD-MARKS) ≡ true) e h)
       ∙ ap begun (sym (k ∙ ap (λ (x : ℕ). withClear x (u % WORD-MARKS)) e))
 
-  -- the four stores of an accepted beginning
+  -- the five stores of an accepted beginning
   pub stored : (w cleared : ℕ) → w ≡ v (Marks (u / WORD-MARKS)) → isSet w (u % WORD-MARKS) ≡ true
       → cleared ≡ withClear w (u % WORD-MARKS)
-      → (before : List ℕ) {b₁ b₂ b₃ b₄ : List ℕ} → b₁ ≡ changed (TaskPlace t := F1 ∷ []) before
+      → (before : List ℕ) {b₁ b₂ b₃ b₄ b₅ : List ℕ} → b₁ ≡ changed (TaskPlace t := F1 ∷ []) before
       → b₂ ≡ changed (TaskClass t := c ∷ []) b₁
       → b₃ ≡ changed (TaskUnit t := u ∷ []) b₂
-      → b₄ ≡ changed (Marks (u / WORD-MARKS) := cleared ∷ []) b₃ → Done (freeMarked v t u c) before b₄ Accepted
-  stored w cleared e h k before h₁ h₂ h₃ h₄ =
+      → b₄ ≡ changed (TaskLost t := 0 ∷ []) b₃
+      → b₅ ≡ changed (Marks (u / WORD-MARKS) := cleared ∷ []) b₄ → Done (freeMarked v t u c) before b₅ Accepted
+  stored w cleared e h k before h₁ h₂ h₃ h₄ h₅ =
       done (mark-set w cleared e h k) refl
-      (h₄ ∙ ap (changed (Marks (u / WORD-MARKS) := cleared ∷ []))
-      (h₃ ∙ ap (changed (TaskUnit t := u ∷ [])) (h₂ ∙ ap (changed (TaskClass t := c ∷ [])) h₁)))
+      (h₅ ∙ ap (changed (Marks (u / WORD-MARKS) := cleared ∷ []))
+      (h₄ ∙ ap (changed (TaskLost t := 0 ∷ []))
+      (h₃ ∙ ap (changed (TaskUnit t := u ∷ [])) (h₂ ∙ ap (changed (TaskClass t := c ∷ [])) h₁))))
       refl
 
 module _ (v : View) (t u d : ℕ) where
@@ -122,9 +131,13 @@ module _ (v : View) (regions t u entry : ℕ) where
   unfolding freeEntry
   bad-entry h = rw (ne-eqb entry 0 (λ e. omega arith), lt-leb entry DESCRIPTORS h)
 
-  pub by-entry : entry ≢ 0 → entry ≤ DESCRIPTORS → freeEntry v regions t u entry ≡ freeBy v regions t u (entry - 1)
+  -- d is the entry less one
+  pub by-entry : (d : ℕ) → d + 1 ≡ entry → d < DESCRIPTORS
+      → freeEntry v regions t u entry ≡ freeBy v regions t u d
   unfolding freeEntry
-  by-entry e h = rw (ne-eqb entry 0 e, le-leb entry DESCRIPTORS h)
+  by-entry d e h =
+      let less : entry - 1 ≡ d = omega arith in
+      rw (ne-eqb entry 0 (λ z. omega arith), le-leb entry DESCRIPTORS (omega arith), less)
 
 module _ (v : View) (regions t u : ℕ) (idle : v (TaskPlace t) ≡ IDLE) where
   -- a unit from UNITS up is one of strips

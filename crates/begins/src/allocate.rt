@@ -2,6 +2,7 @@
 use classes::size;
 use classes::size::Choice;
 use control::answer::Answer;
+use control::losts;
 use control::places;
 use control::tasks;
 ghost use Prim.Native.Nat.{_<_};
@@ -23,6 +24,7 @@ fn strip(control: &mut [u8], task: usize, size: u64) -> Answer
     let order = strip_tree::size::order_of(bytes);
     tasks::set_task_place(control, task, places::STRIP_TAKE);
     tasks::set_task_class(control, task, order as u8);
+    losts::set_task_lost(control, task, 0);
     Answer::Accepted
 }
 
@@ -50,6 +52,7 @@ pub fn begin(control: &mut [u8], task: usize, size: u64) -> Answer
         Choice::Class(class) => {
             tasks::set_task_place(control, task, places::A1);
             tasks::set_task_class(control, task, class);
+            losts::set_task_lost(control, task, 0);
             Answer::Accepted
         }
     }

@@ -8,6 +8,7 @@ use words::anchor::Anchor;
 use words::mark;
 ghost use Prim.Native.Nat.{_<_, _≤_};
 ghost use Rattle.limits.specs.Limits.{UNITS, TASKS, REGIONS, DESCRIPTORS};
+ghost use Rattle.classes.specs.Geometry.{regionOf};
 ghost use Rattle.control.specs.Layout.{Control, seen};
 ghost use Rattle.stepped.specs.Calls.{whenIdle, beginFree, freeEntry, freeBy, freeOpen, freeMarked};
 ghost use Rattle.stepped.specs.Done.{Done};
@@ -27,6 +28,7 @@ fn marked(control: &mut [u8], task: usize, unit: usize, class: u8) -> Answer
     control::tasks::set_task_place(control, task, places::F1);
     control::tasks::set_task_class(control, task, class);
     control::notes::set_task_unit(control, task, unit as u16);
+    control::losts::set_task_lost(control, task, 0);
     control::regions::set_marks(control, unit / limits::WORD_MARKS, cleared);
     Answer::Accepted
 }
@@ -47,17 +49,19 @@ fn open(control: &mut [u8], task: usize, unit: usize, descriptor: usize) -> Answ
     marked(control, task, unit, class)
 }
 
-// 10 where the descriptor does not name the unit's region back, or its anchor is EMPTY. Caller: `entry`.
+// 10 where the descriptor does not name the unit's region back, or its anchor is EMPTY. A region that is the unit's own
+// needs no test of its range. Caller: `entry`, whose unit lies in the area.
 fn by(control: &mut [u8], regions: usize, task: usize, unit: usize, descriptor: usize) -> Answer
-    requires { ⌜ Control (now control) × (task < TASKS) × (unit < UNITS) × (descriptor < DESCRIPTORS) ⌝ }
+    requires { ⌜ Control (now control) × (task < TASKS) × (unit < UNITS) × (regionOf unit < regions)
+        × (descriptor < DESCRIPTORS) ⌝ }
     ensures { λ r. ⌜ Done (freeBy (seen (now (control .entry))) regions task unit descriptor)
         (now (control .entry)) (now (control .exit)) r ⌝ }
 {
     let region = control::regions::descriptor_region(control, descriptor) as usize;
-    if regions <= region {
-        return Answer::Refused(14);
-    }
     if region != geometry::region_of(unit) {
+        if regions <= region {
+            return Answer::Refused(14);
+        }
         return Answer::Refused(10);
     }
     let word = control::regions::anchor(control, descriptor);
@@ -71,19 +75,21 @@ fn by(control: &mut [u8], regions: usize, task: usize, unit: usize, descriptor: 
     open(control, task, unit, descriptor)
 }
 
-// 10 where the map has no entry for the unit's region. Caller: `begin`.
+// 10 where the map has no entry for the unit's region. The entry less one wraps where it is 0, so that one comparison
+// passes all entries that name a descriptor. Caller: `begin`, which has found the unit in the area.
 fn entry(control: &mut [u8], regions: usize, task: usize, unit: usize, entry: u8) -> Answer
-    requires { ⌜ Control (now control) × (task < TASKS) × (unit < UNITS) ⌝ }
+    requires { ⌜ Control (now control) × (task < TASKS) × (unit < UNITS) × (regionOf unit < regions) ⌝ }
     ensures { λ r. ⌜ Done (freeEntry (seen (now (control .entry))) regions task unit entry)
         (now (control .entry)) (now (control .exit)) r ⌝ }
 {
-    if entry == 0 {
-        return Answer::Refused(10);
-    }
-    if limits::DESCRIPTORS < (entry as usize) {
+    let descriptor = std::num::wrapping_sub_usize(entry as usize, 1);
+    if limits::DESCRIPTORS <= descriptor {
+        if entry == 0 {
+            return Answer::Refused(10);
+        }
         return Answer::Refused(14);
     }
-    by(control, regions, task, unit, (entry - 1) as usize)
+    by(control, regions, task, unit, descriptor)
 }
 
 // 6 where the task has a request in hand; the units from UNITS up are those of strips; 10 where the area has no such

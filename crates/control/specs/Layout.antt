@@ -138,6 +138,13 @@ groupCounts = column 5584 2 TASKS
 abbrev pub GroupCount : ℕ → Field
 GroupCount = fieldOf groupCounts
 
+-- how many exchanges a task has lost in the request that it has in hand, or had last
+abbrev pub taskLosts : Column
+taskLosts = column 5600 4 TASKS
+
+abbrev pub TaskLost : ℕ → Field
+TaskLost = fieldOf taskLosts
+
 -- a task's place in the step list: one of Places, and `stepList` of the stepped pool is their list
 abbrev pub taskPlaces : Column
 taskPlaces = column 5632 1 TASKS
@@ -260,6 +267,7 @@ layout =
     ∷ groupFirsts
     ∷ groupLasts
     ∷ groupCounts
+    ∷ taskLosts
     ∷ taskPlaces
     ∷ taskClasses
     ∷ taskNexts

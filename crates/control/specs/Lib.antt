@@ -2,3 +2,4 @@
 pub mod Layout
 pub mod Places
 pub mod Answers
+pub mod Losts

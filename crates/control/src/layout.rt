@@ -32,6 +32,9 @@ pub const GROUP_LASTS: usize = 5568;
 
 pub const GROUP_COUNTS: usize = 5584;
 
+// How many exchanges a task has lost in its request.
+pub const TASK_LOSTS: usize = 5600;
+
 // A task's place in the step list, its class, the next that it noted, what it has in hand, the state that it found.
 pub const TASK_PLACES: usize = 5632;
 

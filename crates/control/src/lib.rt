@@ -3,6 +3,7 @@ pub mod answer;
 pub mod caches;
 pub mod layout;
 pub mod lists;
+pub mod losts;
 pub mod moves;
 pub mod notes;
 pub mod places;

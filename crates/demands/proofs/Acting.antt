@@ -3,12 +3,13 @@ use mathlib.Core.Path.{_≡_, refl, sym, ap, subst, _∙_}
 use mathlib.Core.Logic.{_≢_, inl, inr, ⊎-elim}
 use mathlib.Core.Bool.{Bool, cond, false≢true}
 use mathlib.Core.List.{List}
-use Prim.Native.Nat.{ℕ, _<_}
+use Prim.Native.Nat.{ℕ}
 use native.Mathlib.Omega.{arith}
 use borrow.Author.Tests.{eq-eqb, ne-eqb}
+use Rattle.plain.specs.Moves as Moves
 use Rattle.plain.specs.Calls.{Call, Start, start, allocate, free, leave, step}
 use Rattle.control.specs.Layout.{seen}
-use Rattle.control.specs.Answers.{CODES, codeOf, numberOf}
+use Rattle.control.specs.Answers.{codeOf, valueOf, numberOf, codeIn}
 use Rattle.control.specs.declared.answer.Answer.{Answer}
 use Rattle.control.specs.declared.answer.Answer.the-variants.{Accepted, Allocated, Freed, NoDescriptor, NoRegion}
 use Rattle.control.specs.declared.answer.Answer.the-variants.{NoStrip, Refused}
@@ -18,13 +19,15 @@ use Rattle.stepped.specs.Calls as Calls
 use Rattle.stepped.proofs.CallTests.{failed}
 use Rattle.agreement.specs.Ends.{Begins, startRefusals, oneOf}
 use Rattle.agreement.specs.Events.{ran, stepped}
+use Rattle.agreement.proofs.Both.{answerOf}
 use Rattle.agreement.proofs.BeginningEnds.{start-ends}
 use Rattle.agreement.proofs.Lent.{start-elsewhere}
 use Rattle.agreement.proofs.Ways.{fails-or-passes}
 use Rattle.pool.specs.Call.{EffectIs}
 use Rattle.demands.specs.Acts.{Act, on-own, on-other, write, write-strip, Contract, OtherLength, Happens}
+use Rattle.demands.specs.AnswerKinds.{endsRequest}
 use Rattle.demands.specs.Acts.{afterAct, eventOfAct, Number, Answered}
-use Rattle.demands.proofs.NumberTells.{code-small, told-as}
+use Rattle.demands.proofs.NumberTells.{effect-none, numbers}
 
 -- the stepped run at the event of an act: the memories and the number are the act's
 pub record Shows (a : Act) (s : Memories) : Type 0 where
@@ -38,12 +41,7 @@ left-is : {e : Effect} {left : Memories} {r : ℕ} → EffectIs e (left .control
 left-is C = sym (λ i. record { control = C .control-is i; area = C .area-is i; strips = C .strips-is i })
 
 own-shows : (k : Call) (left : Memories) (r : ℕ) (s : Memories) → Contract k s left r → Shows (on-own k left r) s
-own-shows k left r s C = record {
-  leaves = left-is C;
-  answers =
-      let e = effectOf k s in
-      told-as (e .answer) (e .answer) (e .decided) (C .number) refl (code-small k s);
-}
+own-shows k left r s C = record { leaves = left-is C; answers = numbers k s left r C }
 
 -- ---- calls on other memories
 
@@ -66,20 +64,17 @@ refused-alike s lent t x y (inr h) =
 
 module _ (s lent left : Memories) (r : ℕ) where
   -- two outcomes that refuse by the same number: the pool's memories stay, and the answers are the same
-  both-refused : {o o′ : Outcome} {n : ℕ} → o ≡ refuse n → o′ ≡ refuse n → r ≡ numberOf (o′ .answer)
-      → codeOf (o′ .answer) < CODES
-      → (ran (effect o s) .0 ≡ s) × Number r (ran (effect o s) .1)
-  both-refused {o} {o′} {n} p q e l = (
-    ap (λ (z : Outcome). ran (effect z s) .0) p,
-    told-as (o .answer) (o′ .answer) (o .decided) e (ap (λ (z : Outcome). z .answer) (q ∙ sym p)) l,
-  )
+  both-refused : {o o′ : Outcome} {n : ℕ} → o ≡ refuse n → o′ ≡ refuse n → Number r (answerOf o′)
+      → (ran (effect o s) .0 ≡ s) × Number r (answerOf o)
+  both-refused {o} {o′} {n} p q N =
+      (ap (λ (z : Outcome). ran (effect z s) .0) p, subst (Number r) (ap answerOf (q ∙ sym p)) N)
 
   allocate-shows : (t size : ℕ) → Contract (allocate t size) lent left r → OtherLength s lent
       → Shows (on-other (allocate t size) lent left r) s
   unfolding Calls.allocateOutcome
   allocate-shows t size C h =
       let R = refused-alike s lent t _ _ h in
-      let B = both-refused (R .1 .0) (R .1 .1) (C .number) (code-small (allocate t size) lent) in
+      let B = both-refused (R .1 .0) (R .1 .1) (numbers (allocate t size) lent left r C) in
       record { leaves = B .0; answers = B .1 }
 
   free-shows : (t u : ℕ) → Contract (free t u) lent left r → OtherLength s lent
@@ -87,7 +82,7 @@ module _ (s lent left : Memories) (r : ℕ) where
   unfolding Calls.freeOutcome
   free-shows t u C h =
       let R = refused-alike s lent t _ _ h in
-      let B = both-refused (R .1 .0) (R .1 .1) (C .number) (code-small (free t u) lent) in
+      let B = both-refused (R .1 .0) (R .1 .1) (numbers (free t u) lent left r C) in
       record { leaves = B .0; answers = B .1 }
 
   leave-shows : (t : ℕ) → Contract (leave t) lent left r → OtherLength s lent
@@ -95,15 +90,23 @@ module _ (s lent left : Memories) (r : ℕ) where
   unfolding Calls.leaveOutcome
   leave-shows t C h =
       let R = refused-alike s lent t _ _ h in
-      let B = both-refused (R .1 .0) (R .1 .1) (C .number) (code-small (leave t) lent) in
+      let B = both-refused (R .1 .0) (R .1 .1) (numbers (leave t) lent left r C) in
       record { leaves = B .0; answers = B .1 }
 
   step-shows : (t : ℕ) → Contract (step t) lent left r → OtherLength s lent → Shows (on-other (step t) lent left r) s
   unfolding Calls.stepOutcome
   step-shows t C h =
       let R = refused-alike s lent t _ _ h in
-      let B = both-refused (R .1 .0) (R .1 .1) (C .number) (code-small (step t) lent) in
+      let B = both-refused (R .1 .0) (R .1 .1) (numbers (step t) lent left r C) in
       record { leaves = B .0; answers = B .1 }
+
+  -- a number of one answer is one of any other with the same code and value
+  number-as : {y z : Moves.Answer} → y .code ≡ z .code → y .value ≡ z .value → Number r y → Number r z
+  number-as p q N = record {
+    code = N .code ∙ p;
+    value = N .value ∙ q;
+    none-lost = λ e. N .none-lost (ap endsRequest p ∙ e);
+  }
 
   module _ (b : Start) (C : Contract (start b) lent left r) where
     -- the start by the event, and by the contract
@@ -112,6 +115,14 @@ module _ (s lent left : Memories) (r : ℕ) where
 
     abbrev e′ : Effect
     e′ = Calls.startIn b (lending lent) lent
+
+    N : Number r (ran e′ .1)
+    N = numbers (start b) lent left r C
+
+    accepted-number : e′ .answer ≡ Accepted → r ≡ 0
+    accepted-number q =
+        let l : e′ .lost ≡ 0 = effect-none (start b) lent (ap (λ (a : Answer). endsRequest (codeOf a)) q) in
+        omega (arith, C .number, ap numberOf q, l)
 
     abbrev StartShown : Type 0
     StartShown = Shows (on-other (start b) lent left r) s
@@ -127,8 +138,9 @@ module _ (s lent left : Memories) (r : ℕ) where
         record {
           leaves =
               L
-              ∙ sym (ap (λ (b : Bool). cond b left s) (ne-eqb r 0 (λ h. z (sym (C .number ∙ ap numberOf q) ∙ h))));
-          answers = told-as (e .answer) (e′ .answer) (e .decided) (C .number) (q ∙ sym p) (code-small (start b) lent);
+              ∙ sym (ap (λ (b : Bool). cond b left s)
+              (ne-eqb r 0 (λ h. z (sym (N .code ∙ ap codeOf q) ∙ ap codeIn h))));
+          answers = number-as (ap codeOf (q ∙ sym p)) (ap valueOf (q ∙ sym p)) N;
         }
 
     -- an accepted start takes the memories that it is lent
@@ -137,10 +149,8 @@ module _ (s lent left : Memories) (r : ℕ) where
       leaves =
           ap (λ (z : Effect). ran z .0) p
           ∙ left-is C
-          ∙ sym (ap (λ (b : Bool). cond b left s) (eq-eqb r 0 (C .number ∙ ap numberOf q)));
-      answers =
-          told-as (e .answer) (e′ .answer) (e .decided) (C .number) (ap (λ (z : Effect). z .answer) (sym p))
-          (code-small (start b) lent);
+          ∙ sym (ap (λ (b : Bool). cond b left s) (eq-eqb r 0 (accepted-number q)));
+      answers = subst (λ (z : Effect). Number r (ran z .1)) (sym p) N;
     }
 
     equal-shows : e ≡ e′ → (a : Answer) → e′ .answer ≡ a → Begins startRefusals a → StartShown

@@ -42,7 +42,7 @@ module _ (v : View) (t : ℕ) where
         branch Stays (leb (itemOf (v (Head (Lists.pushList Back c)))) DESCRIPTORS)
         (λ e. inr
         (to (PUSH-BACK + TO-NEXT) (TaskHead t := v (Head (Lists.pushList Back c)) ∷ []) (omega arith) (omega arith)
-        (λ u. refl))) (λ e. inr here)
+        (λ u. (refl, λ j. refl)))) (λ e. inr here)
 
     at-next : Stays (Lists.pushNext v regions t c Back)
     unfolding Lists.pushNext
@@ -51,7 +51,7 @@ module _ (v : View) (t : ℕ) where
         (λ e. inr
         (to (PUSH-BACK + TO-EXCHANGE) (DescriptorNext (v (TaskDescriptor t)) :=
         itemOf (v (TaskHead t)) ∷ [])
-        (omega arith) (omega arith) (λ u. refl))) (λ e. inr here)
+        (omega arith) (omega arith) (λ u. (refl, λ j. refl)))) (λ e. inr here)
 
     at-exchange : Stays (Lists.pushExchange v regions t c Back)
     unfolding Lists.pushExchange
@@ -60,7 +60,7 @@ module _ (v : View) (t : ℕ) where
         (ltb (v (TaskDescriptor t)) DESCRIPTORS && leb (itemOf (v (TaskHead t))) DESCRIPTORS && leb
         (itemOf (v (Head (Lists.pushList Back c)))) DESCRIPTORS)
         (λ e. branch Stays (eqb (v (Head (Lists.pushList Back c))) (v (TaskHead t))) (λ f. inl refl)
-        (λ f. inr (to PUSH-BACK [] (omega arith) (omega arith) (λ u. refl))))
+        (λ f. inr (to PUSH-BACK [] (omega arith) (omega arith) (λ u. (refl, λ j. refl)))))
         (λ e. inr here)
 
     at-place : Stays (Steps.stepAt v link regions t c (v (TaskPlace t)))

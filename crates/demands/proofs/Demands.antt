@@ -6,6 +6,7 @@ use mathlib.Core.Path.{_≡_, refl, sym, ap, subst, _∙_}
 use mathlib.Core.Bool.{true, false≢true}
 use mathlib.Core.List.{List, [], _∷_}
 use Prim.Native.Nat.{ℕ, _%_, _≤_, _<_}
+use native.Mathlib.Omega.{arith}
 use borrow.Author.Tests.{eq-eqb, le-leb, ltb-true}
 use lib.Dec.{ltb, eqb}
 use Rattle.limits.specs.Limits.{CONTROL-BYTES, REGION-BYTES, AREA-BYTES, TASKS, STRIPS-BYTES, CLASSES, LARGEST-SIZE}
@@ -17,8 +18,10 @@ use Rattle.classes.specs.Sizes.{classOf}
 use Rattle.pieces.specs.StripSizes.{orderOf}
 use Rattle.plain.specs.Calls.{Pool, Call, Start, start, allocate, free, leave, step, unstarted, Lengths}
 use Rattle.plain.specs.Calls as Plain
-use Rattle.control.specs.Layout.{seen, changed, TaskPlace, TaskClass, Regions}
-use Rattle.control.specs.Answers.{numberOf}
+use Rattle.control.specs.Layout.{seen, changed, TaskPlace, TaskClass, TaskLost, Regions}
+use Rattle.control.specs.Answers.{codeOf, numberWith, codeIn}
+use Rattle.control.specs.declared.answer.Answer.{Answer}
+use Rattle.control.proofs.AnswerNumber.{tells-none}
 use Rattle.stepped.specs.Steps.{stepAt}
 use Rattle.stepped.specs.Outcome.{Outcome, Memories}
 use Rattle.stepped.specs.Calls as Calls
@@ -38,7 +41,7 @@ use Rattle.demands.specs.Tests.{freeTests, leaveTests, stepTests}
 use Rattle.demands.specs.Acts.{Act, on-own, on-other, write, write-strip, Contract, Happens, AllHappen}
 use Rattle.demands.specs.Acts.{eventOfCall, eventOfAct, eventsOfActs, Answered}
 use Rattle.demands.specs.Acts.{OtherLeft, Tells, Told, WhereverActs}
-use Rattle.demands.proofs.NumberTells.{refused, accepted}
+use Rattle.demands.proofs.NumberTells.{told, refused, refused-with, refusal-code, accepted}
 use Rattle.demands.proofs.Failing.{start-first, allocate-first, free-first, leave-first, step-first}
 use Rattle.demands.proofs.Failing.{none-failed, later}
 use Rattle.demands.proofs.Acting.{shows}
@@ -50,7 +53,7 @@ use Rattle.demands.proofs.ReachingByActs.{along-acts}
 pub refused-changes-nothing : (k : Call) (lent left : Memories) (r : ℕ) → Contract k lent left r → Refusal r
     → left ≡ lent
 refused-changes-nothing k lent left r C h =
-    let R = refused (effectOf k lent .answer) (subst Refusal (C .number) h) in
+    let R = refused (effectOf k lent .answer) (subst Refusal (refusal-code k lent left r C h) h) in
     let L = effect-leaves k (lending lent) lent (R .0) (R .1) in
     (λ i. record { control = C .control-is i; area = C .area-is i; strips = C .strips-is i }) ∙ L
 
@@ -83,32 +86,50 @@ module _ (lent left : Memories) (r : ℕ) where
 
   pub allocate-refused-first : (t size : ℕ) → Contract (allocate t size) lent left r
       → r ≡ firstFailed (allocateTests long (seen (lent .control)) t size) 0
-  allocate-refused-first t size C = C .number ∙ allocate-first long (seen (lent .control)) t size
+  allocate-refused-first t size C =
+      C .number
+      ∙ tells-none (Calls.allocateOutcome long (seen (lent .control)) t size .answer)
+      ∙ allocate-first 0 long (seen (lent .control)) t size
 
   pub free-refused-first : (t u : ℕ) → Contract (free t u) lent left r
       → r ≡ firstFailed (freeTests long (seen (lent .control)) t u) 0
-  free-refused-first t u C = C .number ∙ free-first long (seen (lent .control)) t u
+  free-refused-first t u C =
+      C .number
+      ∙ tells-none (Calls.freeOutcome long (seen (lent .control)) t u .answer)
+      ∙ free-first 0 long (seen (lent .control)) t u
 
   pub leave-refused-first : (t : ℕ) → Contract (leave t) lent left r
       → r ≡ firstFailed (leaveTests long (seen (lent .control)) t) 0
-  leave-refused-first t C = C .number ∙ leave-first long (seen (lent .control)) t
+  leave-refused-first t C =
+      C .number
+      ∙ tells-none (Calls.leaveOutcome long (seen (lent .control)) t .answer)
+      ∙ leave-first 0 long (seen (lent .control)) t
 
-  -- a step answers the number of the first test that fails; where all pass, that of the step at the task's place
+  -- a step answers the number of the first test that fails; where all pass, that of the step at the task's place, which
+  -- tells the task's count where it ends the request
   pub step-refused-first : (t : ℕ) → Contract (step t) lent left r
       → let v = seen (lent .control) in
-      r
+      let a = stepAt v (link (lent .area)) (v Regions) t (v (TaskClass t)) (v (TaskPlace t)) .answer in
+      r ≡ firstFailed (stepTests long v t) (numberWith a (seen (left .control) (TaskLost t)))
+  step-refused-first t C =
+      let v = seen (lent .control) in
+      subst
+      (λ (c : List ℕ). r
       ≡ firstFailed (stepTests long v t)
-      (numberOf (stepAt v (link (lent .area)) (v Regions) t (v (TaskClass t)) (v (TaskPlace t)) .answer))
-  step-refused-first t C = C .number ∙ step-first long (seen (lent .control)) t (link (lent .area))
+      (numberWith (stepAt v (link (lent .area)) (v Regions) t (v (TaskClass t)) (v (TaskPlace t)) .answer)
+      (seen c (TaskLost t))))
+      (sym (C .control-is))
+      (C .number ∙ step-first _ long v t (link (lent .area)))
 
   -- a step is refused by the numbers of its tests alone, and by 14, where the step at its place reads a bad value
   pub step-refused-by : (t : ℕ) → Contract (step t) lent left r → Refusal r → oneOf stepRefusals r ≡ true
   step-refused-by t C h =
       let o = Calls.stepOutcome long (seen (lent .control)) (link (lent .area)) t in
-      let R = refused (o .answer) (subst Refusal (C .number) h) in
+      let e = refusal-code (step t) lent left r C h in
+      let R = refused (o .answer) (subst Refusal e h) in
       let G =
       subst (StepAnswers stepRefusals) (R .1) (step-ends long (seen (lent .control)) (link (lent .area)) t .answers) in
-      ap (oneOf stepRefusals) (C .number ∙ ap numberOf (R .1)) ∙ G
+      ap (oneOf stepRefusals) (e ∙ ap codeOf (R .1)) ∙ G
 
   -- a step that passes all of its tests is refused by 14 alone: "14 comes where the bad value is read". A place past
   -- the step list is such a value.
@@ -119,17 +140,19 @@ module _ (lent left : Memories) (r : ℕ) where
       let ts = stepTests long v t in
       let Q = later (callTests long v t) (requestTests v t) P in
       let a = stepAt v (link (lent .area)) (v Regions) t (v (TaskClass t)) (v (TaskPlace t)) .answer in
-      let e : r ≡ numberOf a = step-refused-first t C ∙ none-failed ts (numberOf a) P in
-      let R = refused a (subst Refusal e h) in
+      let n = numberWith a (seen (left .control) (TaskLost t)) in
+      let e : r ≡ n = step-refused-first t C ∙ none-failed ts n P in
+      let R = refused-with a (seen (left .control) (TaskLost t)) (subst Refusal e h) in
       let class = ltb-true (v (TaskClass t)) CLASSES (Q .1 .0) in
       let busy = ltb-true IDLE (v (TaskPlace t)) (Q .0) in
       let G = place-answers long v (link (lent .area)) t class busy in
-      e ∙ ap numberOf (R .1) ∙ only 14 (R .0) (subst (StepAnswers placeRefusals) (R .1) G)
+      let m : R .0 ≡ 14 = only 14 (R .0) (subst (StepAnswers placeRefusals) (R .1) G) in
+      omega (arith, e, ap (λ (x : Answer). numberWith x (seen (left .control) (TaskLost t))) (R .1), m)
 
   -- the beginning of an allocation that writes this place and this class, or order, changes no other byte
   begun-by : (t size place class : ℕ) → Contract (allocate t size) lent left r
       → Calls.allocateOutcome long (seen (lent .control)) t size .writes
-      ≡ (TaskPlace t := place ∷ TaskClass t := class ∷ [])
+      ≡ (TaskPlace t := place ∷ TaskClass t := class ∷ TaskLost t := 0 ∷ [])
       → Begun t place class lent left
   begun-by t size place class C e = record {
     control-is = C .control-is ∙ ap (λ ws. changed ws (lent .control)) e;
@@ -146,7 +169,8 @@ module _ (lent left : Memories) (r : ℕ) where
       let o = Calls.allocateOutcome long (seen (lent .control)) t size in
       let A =
       accepted allocateRefusals false≢true (o .answer)
-      (allocate-ends long (seen (lent .control)) t size .answers) (sym (C .number) ∙ h) in (
+      (allocate-ends long (seen (lent .control)) t size .answers)
+      (sym (told (allocate t size) lent left r C .code) ∙ ap codeIn h) in (
         λ l. let B = smallest-class long (seen (lent .control)) t size l A in
             record {
               class = classOf size;

@@ -11,7 +11,7 @@ use Rattle.links.specs.Link.{link}
 use Rattle.plain.specs.Calls.{Pool, Call, start, allocate, free, leave, step, Lengths}
 use Rattle.control.specs.Layout.{seen, TaskPlace}
 use Rattle.control.specs.Places.{IDLE, STRIP-TAKE}
-use Rattle.control.specs.Answers.{numberOf}
+use Rattle.control.specs.Answers.{codeOf, codeIn}
 use Rattle.control.specs.declared.answer.Answer.{Answer}
 use Rattle.control.specs.declared.answer.Answer.the-variants.{NoDescriptor, NoRegion, NoStrip}
 use Rattle.control.specs.declared.moves.Pop.the-variants.{Spare, Region}
@@ -25,9 +25,9 @@ use Rattle.agreement.specs.Reached.{History, Reached}
 use Rattle.agreement.proofs.Ends.{step-ends, no-descriptor, no-region, no-strip, put-back}
 use Rattle.agreement.proofs.Handed as Handed
 use Rattle.agreement.proofs.SoundCalls.{step-place, step-others, allocate-others, free-others, leave-others}
-use Rattle.demands.specs.AnswerKinds.{EndsRequest, OfAnother}
+use Rattle.demands.specs.AnswerKinds.{endsRequest, EndsRequest, OfAnother}
 use Rattle.demands.specs.Acts.{Contract}
-use Rattle.demands.proofs.NumberTells.{ends-told, end-told}
+use Rattle.demands.proofs.NumberTells.{told, ends-told, end-told}
 use Rattle.demands.proofs.Backing.{stays-back}
 
 -- one step of the task t, by the contract of the function
@@ -44,38 +44,38 @@ module _ (lent left : Memories) (r t : ℕ) (C : Contract (step t) lent left r) 
   abbrev o : Outcome
   o = stepOutcome long v (link (lent .area)) t
 
-  answer-number : r ≡ numberOf (o .answer)
-  answer-number = C .number
+  answer-code : codeIn r ≡ codeOf (o .answer)
+  answer-code = told (step t) lent left r C .code
 
   -- 12, 13 and 16 tell what the step found
-  found : (numberOf (o .answer) ≡ 12 → o .answer ≡ NoDescriptor) × (numberOf (o .answer) ≡ 13 → o .answer ≡ NoRegion)
-      × (numberOf (o .answer) ≡ 16 → o .answer ≡ NoStrip)
+  found : (codeOf (o .answer) ≡ 12 → o .answer ≡ NoDescriptor) × (codeOf (o .answer) ≡ 13 → o .answer ≡ NoRegion)
+      × (codeOf (o .answer) ≡ 16 → o .answer ≡ NoStrip)
   found = ends-told (o .answer) (step-ends long v (link (lent .area)) t .answers)
 
-  -- the number of the answer a comes exactly where a does, if it tells that answer
-  exactly : {X : Type 0} (a : Answer) → (numberOf (o .answer) ≡ numberOf a → o .answer ≡ a) → (o .answer ≡ a) ↔ X
-      → (r ≡ numberOf a) ↔ X
-  exactly a N E = (λ h. E .0 (N (sym answer-number ∙ h)), λ f. answer-number ∙ ap numberOf (E .1 f))
+  -- the code of the answer a comes exactly where a does, if it tells that answer
+  exactly : {X : Type 0} (a : Answer) → (codeOf (o .answer) ≡ codeOf a → o .answer ≡ a) → (o .answer ≡ a) ↔ X
+      → (codeIn r ≡ codeOf a) ↔ X
+  exactly a N E = (λ h. E .0 (N (sym answer-code ∙ h)), λ f. answer-code ∙ ap codeOf (E .1 f))
 
   -- "'No descriptor' .. only and always where the list read is empty": 12 is answered exactly where the task reads the
   -- head of the list of spare descriptors and finds it empty.
-  pub twelve : (r ≡ 12) ↔ (Tested long v t × FindsEmpty Spare v t)
+  pub twelve : (codeIn r ≡ 12) ↔ (Tested long v t × FindsEmpty Spare v t)
   twelve = exactly NoDescriptor (found .0) (no-descriptor long v (link (lent .area)) t)
 
   -- "and 'no region'": 13 is answered exactly where the task wins the push of its descriptor back on the spare list.
-  pub thirteen : (r ≡ 13) ↔ (Tested long v t × WinsPush Back v t)
+  pub thirteen : (codeIn r ≡ 13) ↔ (Tested long v t × WinsPush Back v t)
   thirteen = exactly NoRegion (found .1) (no-region long v (link (lent .area)) t)
 
   -- "16 ends a request" (the request for strips): 16 is answered exactly where the task is to take a strip and the tree
   -- has no free piece of its order or of a larger one.
-  pub sixteen : (r ≡ 16) ↔ (Tested long v t × FindsNoPiece v t)
+  pub sixteen : (codeIn r ≡ 16) ↔ (Tested long v t × FindsNoPiece v t)
   sixteen = exactly NoStrip (found .2) (no-strip long v (link (lent .area)) t)
 
   -- "16 ends a request exactly if no aligned free stretch of the rounded size exists", slot by slot: wherever a run
   -- has come, of a step of a task that is to take a strip. The task has asked for a size above 256; the free slots are
   -- those of the plain pool, whose pieces are the memories' own by the agreement.
   pub sixteen-exactly : {h : History} {p : Pool} → Reached h lent p → Tested long v t → v (TaskPlace t) ≡ STRIP-TAKE
-      → EndsWith16 (p .mem .strips) (asked t h) (r ≡ 16)
+      → EndsWith16 (p .mem .strips) (asked t h) (codeIn r ≡ 16)
   sixteen-exactly R T here =
       let E = Handed.sixteen-exactly R long t T here in
       record {
@@ -101,16 +101,17 @@ module _ (lent left : Memories) (r t : ℕ) (C : Contract (step t) lent left r) 
         (λ i. B .0 (subst (InPush Back) left-place i), λ f. subst (InPush Back) (sym left-place) (B .1 f))
 
     -- A task that is in the push back stays there until it answers 13.
-    pub stays-thirteen : InPush Back (v (TaskPlace t)) → (r ≡ 13) ⊎ InPush Back (seen (left .control) (TaskPlace t))
+    pub stays-thirteen : InPush Back (v (TaskPlace t))
+        → (codeIn r ≡ 13) ⊎ InPush Back (seen (left .control) (TaskPlace t))
     stays-thirteen here =
-        ⊎-elim (λ e. inl (answer-number ∙ ap numberOf e)) (λ i. inr (subst (InPush Back) (sym left-place) i))
+        ⊎-elim (λ e. inl (answer-code ∙ ap codeOf e)) (λ i. inr (subst (InPush Back) (sym left-place) i))
         (stays-back long v (link (lent .area)) t here)
 
     -- "12 and 13 .. are a request's end .. and leave the task idle", and so do 16 and a finish.
     pub ends-idle : EndsRequest r → seen (left .control) (TaskPlace t) ≡ IDLE
     ends-idle h =
         let E = step-ends long v (link (lent .area)) t in
-        left-place ∙ E .idle (end-told (o .answer) (E .answers) (subst EndsRequest answer-number h))
+        left-place ∙ E .idle (end-told (o .answer) (E .answers) (ap endsRequest (sym answer-code) ∙ h))
 
 -- No call of another task moves a task: between two of its own calls it is where it was, until the next start.
 pub others-stay : (k : Call) (lent left : Memories) (r : ℕ) → Contract k lent left r → Bytes (lent .control)

@@ -19,7 +19,7 @@ use Rattle.plain.specs.Calls.{Start, Lengths}
 use Rattle.stepped.specs.Calls.{Lent, lengths}
 use Rattle.control.specs.Layout.{Anchor, Marks, TaskPlace, TaskClass, DescriptorRegion, DescriptorClass, Map, Tasks}
 use Rattle.control.specs.Layout.{Regions, SlotByte}
-use Rattle.control.specs.Answers.{numberOf}
+use Rattle.control.specs.Answers.{numberTelling, numberWith}
 use Rattle.plain.specs.Moves.{nothing}
 use Rattle.stepped.specs.Outcome.{Outcome, accept, Memories, Effect}
 use Rattle.stepped.specs.Ranges.{oneTo, isAnchor}
@@ -46,11 +46,12 @@ module _ {A : Type 0} (f : A → ℕ) where
   twice true b x y p q = passes b x y p q
   twice false b x y p q = q
 
--- the number of an outcome
-abbrev numbered : Outcome → ℕ
-numbered o = numberOf (o .answer)
+-- lost: how many exchanges the task has lost, which the number of a step that ends its request tells
+module _ (lost : ℕ) (lent : Lengths) (v : View) (t : ℕ) where
+  -- the number of an outcome
+  abbrev numbered : Outcome → ℕ
+  numbered o = numberWith (o .answer) lost
 
-module _ (lent : Lengths) (v : View) (t : ℕ) where
   after-tests : (ts : List Test) (k : ℕ) (x : Outcome) → numbered x ≡ firstFailed ts k
       → numbered (Calls.tested lent v t x) ≡ firstFailed (callTests lent v t ++ ts) k
   unfolding Calls.tested
@@ -172,7 +173,7 @@ later (t ∷ ts) us P = later ts us (P .1)
 
 -- the number of an effect
 abbrev answered : Effect → ℕ
-answered e = numberOf (e .answer)
+answered e = numberTelling (e .answer) (e .lost)
 
 pub start-first : (b : Start) (lent : Lent) (s : Memories)
     → answered (Calls.startIn b lent s) ≡ firstFailed (startTests b (lengths lent)) 0

@@ -2,8 +2,8 @@
 -- 16" (the request for the new processor), "A size gets the smallest class that holds it" (the demands), and "A size is
 -- rounded up to a power of two, at least 512" (the request for strips).
 use mathlib.Core.Path.{_≡_, sym, ap, subst, subst⁻¹, _∙_}
-use mathlib.Core.Logic.{⊎-elim}
-use Prim.Native.Nat.{ℕ, _/_, _%_, _≤_, _<_}
+use mathlib.Core.Logic.{_⊎_, ⊎-elim}
+use Prim.Native.Nat.{ℕ, _≤_, _<_}
 use native.Mathlib.Omega.{arith}
 use Rattle.limits.specs.Limits.{LARGEST-SIZE, UNITS}
 use Rattle.fields.specs.Columns.{View}
@@ -13,7 +13,7 @@ use Rattle.plain.specs.Steps.{Result, stepOf}
 use Rattle.plain.specs.Calls.{Pool, Lengths, step}
 use Rattle.control.specs.Layout.{seen, TaskPlace, TaskClass, Regions}
 use Rattle.control.specs.Places.{A1}
-use Rattle.control.specs.Answers.{CODES, numberOf}
+use Rattle.control.specs.Answers.{valueOf, codeIn, valueIn}
 use Rattle.control.specs.declared.answer.Answer.{Answer}
 use Rattle.control.specs.declared.answer.Answer.the-variants.{Allocated, Freed}
 use Rattle.stepped.specs.Outcome.{Outcome, Memories}
@@ -26,10 +26,10 @@ use Rattle.agreement.specs.Handed.{AllEmpty, AlignedBlock, Handed, StripHanded,
 use Rattle.agreement.proofs.Ends.{step-ends, ends-by}
 use Rattle.agreement.proofs.Handed.{hands-out, handed, freed}
 use Rattle.demands.specs.Acts.{Contract, eventOfCall}
-use Rattle.demands.proofs.NumberTells.{finish-told}
+use Rattle.demands.proofs.NumberTells.{told, finish-told}
 use Rattle.demands.proofs.WholeStep.{whole-step}
 
-module _ (s left : Memories) (r t : ℕ) (C : Contract (step t) s left r) (finished : r % CODES ≡ 20) where
+module _ (s left : Memories) (r t : ℕ) (C : Contract (step t) s left r) (finished : codeIn r ≡ 20) where
   abbrev v : View
   v = seen (s .control)
 
@@ -41,24 +41,27 @@ module _ (s left : Memories) (r t : ℕ) (C : Contract (step t) s left r) (finis
 
   -- the value that the step answers
   abbrev pub value : ℕ
-  value = r / CODES
+  value = valueIn r
+
+  -- the step has handed out a unit, or a free is done
+  found : ((u : ℕ) × (o .answer ≡ Allocated u)) ⊎ (o .answer ≡ Freed)
+  found =
+      finish-told (o .answer) (step-ends long v (link (s .area)) t .answers)
+      (sym (told (step t) s left r C .code) ∙ finished)
 
   -- it passes the tests
   pub finish-tested : Tested long v t
   finish-tested =
       ⊎-elim (λ f. ends-by long v (link (s .area)) t (Allocated (f .0)) tt (f .1) .0)
-      (λ f. ends-by long v (link (s .area)) t Freed tt f .0)
-      (finish-told (o .answer) (step-ends long v (link (s .area)) t .answers)
-      (subst (λ (n : ℕ). n % CODES ≡ 20) (C .number) finished))
+      (λ f. ends-by long v (link (s .area)) t Freed tt f .0) found
 
   -- what holds of the unit that an allocation hands out, and of 0 where a free has finished, holds of the value
   of-value : (P : ℕ → Type 0) → ((u : ℕ) → o .answer ≡ Allocated u → P u) → (o .answer ≡ Freed → P 0)
       → P value
   of-value P h k =
-      ⊎-elim (λ f. subst P (sym (f .2) ∙ ap (λ (n : ℕ). n / CODES) (sym (C .number))) (h (f .0) (f .1)))
-      (λ f. subst P (ap (λ (n : ℕ). n / CODES) (sym (C .number ∙ ap numberOf f))) (k f))
-      (finish-told (o .answer) (step-ends long v (link (s .area)) t .answers)
-      (subst (λ (n : ℕ). n % CODES ≡ 20) (C .number) finished))
+      let is = told (step t) s left r C .value in
+      ⊎-elim (λ f. subst P (sym (is ∙ ap valueOf (f .1))) (h (f .0) (f .1)))
+      (λ f. subst P (sym (is ∙ ap valueOf f)) (k f)) found
 
   -- A step that finishes an allocation, at its step 1, hands out an aligned block, in the area, of the class of the
   -- task's request, whatever the memories hold.

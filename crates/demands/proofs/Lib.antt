@@ -12,3 +12,4 @@ pub mod TaskLeaves
 pub mod StockSheet
 pub mod SheetByHolder
 pub mod RegionKeepers
+pub mod LostTold

@@ -7,6 +7,7 @@ use Rattle.agreement.specs.Events.{whole, Premise, Premises}
 use Rattle.agreement.specs.Reached.{History, happened, Reached, by-event}
 use Rattle.demands.specs.Acts.{Act, Happens, AllHappen, afterAct, eventOfAct, eventsOfActs, AlongActs}
 use Rattle.demands.specs.Acts.{WhereverActs}
+use Rattle.demands.specs.LostTold.{AlongHistory}
 use Rattle.demands.proofs.Acting.{shows}
 
 -- an act leaves what its event reaches
@@ -25,3 +26,15 @@ pub along-acts : (P : Act → Memories → Pool → Type 0) → WhereverActs P �
 along-acts P f R [] run premises = tt
 along-acts P f {h} {s} {p} R (a ∷ rest) run premises =
     (f h s p R a (run .0) (premises .0), along-acts P f (by-act R a (run .0) (premises .0)) rest (run .1) (premises .1))
+
+-- The same of what speaks of the history that ends with the act.
+pub along-history : (P : Act → History → Type 0)
+    → ((h : History) (s : Memories) (p : Pool) → Reached h s p → (a : Act) → Happens a s → Premise (eventOfAct a s) p
+    → P a (happened (eventOfAct a s) s p ∷ h))
+    → {h : History} {s : Memories} {p : Pool} → Reached h s p → (acts : List Act) → AllHappen acts s
+    → Premises (eventsOfActs acts s) p → AlongHistory P acts h s p
+along-history P f R [] run premises = tt
+along-history P f {h} {s} {p} R (a ∷ rest) run premises = (
+  f h s p R a (run .0) (premises .0),
+  along-history P f (by-act R a (run .0) (premises .0)) rest (run .1) (premises .1),
+)

@@ -3,7 +3,7 @@
 use mathlib.Core.Path.{_≡_, refl, sym, ap, subst, subst⁻¹, _∙_}
 use mathlib.Core.Bool.{false≢true}
 use mathlib.Core.List.{List, [], _∷_}
-use Prim.Native.Nat.{ℕ, _%_, _≤_, _<_}
+use Prim.Native.Nat.{ℕ, _≤_, _<_}
 use native.Mathlib.Omega.{arith}
 use native.Mathlib.Decide.{decLt}
 use Rattle.rows.proofs.Branch.{if-yes}
@@ -12,8 +12,8 @@ use lib.Dec.{ltb, eqb}
 use lib.ListN.{length}
 use Rattle.limits.specs.Limits.{TASKS, CLASSES}
 use Rattle.control.specs.Places.{IDLE, PLACES}
-use Rattle.control.specs.Layout.{seen, changed, TaskPlace, TaskUnit, CacheCount, LEAVING}
-use Rattle.control.specs.Answers.{CODES}
+use Rattle.control.specs.Layout.{seen, changed, TaskPlace, TaskUnit, TaskLost, CacheCount, LEAVING}
+use Rattle.control.specs.Answers.{codeIn}
 use Rattle.control.specs.declared.answer.Answer.the-variants.{Accepted}
 use Rattle.fields.specs.Columns.{View, _:=_}
 use Rattle.links.specs.Link.{link, withLinks}
@@ -41,7 +41,7 @@ use Rattle.agreement.proofs.BeginningEnds.{leave-ends}
 use Rattle.agreement.proofs.Reaching.{reached-tied, reached-asked}
 use Rattle.demands.specs.AnswerKinds.{BegunLeaving}
 use Rattle.demands.specs.Acts.{on-own, Contract, eventOfCall}
-use Rattle.demands.proofs.NumberTells.{accepted}
+use Rattle.demands.proofs.NumberTells.{told, accepted}
 use Rattle.demands.proofs.Acting.{shows}
 use Rattle.demands.proofs.WholeStep.{whole-is, wholeStep, whole-step}
 use Rattle.demands.proofs.HandedOut.{finish-tested, left-empty}
@@ -50,10 +50,10 @@ use Rattle.demands.proofs.HandedOut.{finish-tested, left-empty}
 
 -- what an accepted beginning writes: the task's own fields, and no link
 begins : (lent : Lengths) (v : View) (t : ℕ) → let o = Calls.leaveOutcome lent v t in o .answer ≡ Accepted
-    → (o .writes ≡ leaveWrites v t (nextCached v t 0) (TaskUnit t := LEAVING ∷ [])) × (o .links ≡ [])
+    → (o .writes ≡ leaveWrites v t (nextCached v t 0) (TaskUnit t := LEAVING ∷ TaskLost t := 0 ∷ [])) × (o .links ≡ [])
 unfolding Calls.leaveOutcome Calls.whenIdle leaveFrom
 begins lent v t =
-    let ws = leaveWrites v t (nextCached v t 0) (TaskUnit t := LEAVING ∷ []) in
+    let ws = leaveWrites v t (nextCached v t 0) (TaskUnit t := LEAVING ∷ TaskLost t := 0 ∷ []) in
     let P : Outcome → Type 0 = λ o. o .answer ≡ Accepted → (o .writes ≡ ws) × (o .links ≡ []) in
     tests lent v t P _ (λ n h e. absurd (accepted-no (sym e)))
     (λ T. branch P (ltb (v (TaskPlace t)) PLACES)
@@ -70,7 +70,8 @@ leave-begins lent left r t C h =
     let o = Calls.leaveOutcome long v t in
     let B =
     begins long v t
-    (accepted leaveRefusals false≢true (o .answer) (leave-ends long v t .answers) (sym (C .number) ∙ h)) in
+    (accepted leaveRefusals false≢true (o .answer) (leave-ends long v t .answers)
+    (sym (told (leave t) lent left r C .code) ∙ ap codeIn h)) in
     record {
       control-is = C .control-is ∙ ap (λ ws. changed ws (lent .control)) (B .0);
       area-is = C .area-is ∙ ap (λ ls. withLinks ls (lent .area)) (B .1);
@@ -116,7 +117,7 @@ module _ {h : History} {s : Memories} {p : Pool} (R : Reached h s p) (t : ℕ) (
       by (working w) e W A = leaving-step t (p .mem) w e (at-leaving (requestAt w) A) (D .good .leaves k) l
 
   -- "one further step, after all are empty, finishes the request": then the counts of all of the task's caches are 0
-  pub counts-zero : (left : Memories) (r : ℕ) (C : Contract (step t) s left r) → r % CODES ≡ 20
+  pub counts-zero : (left : Memories) (r : ℕ) (C : Contract (step t) s left r) → codeIn r ≡ 20
       → Premise (eventOfCall (step t) s) p → (c : ℕ) → c < CLASSES → seen (left .control) (CacheCount t c) ≡ 0
   counts-zero left r C finished P c i =
       let T = finish-tested s left r t C finished in

@@ -2,16 +2,16 @@
 -- Runs made of the exported functions' contracts, with users' writes between the calls; and what demand 3 says of them.
 use mathlib.Core.Path.{_≡_}
 use mathlib.Core.Logic.{_≢_, _⊎_}
-use mathlib.Core.Bool.{cond}
+use mathlib.Core.Bool.{false, cond}
 use mathlib.Core.List.{List, [], _∷_}
-use Prim.Native.Nat.{ℕ, _/_, _%_}
+use Prim.Native.Nat.{ℕ}
 use lib.Dec.{eqb}
 use lib.ListN.{length, set}
 use Rattle.limits.specs.Limits.{CONTROL-BYTES}
 use Rattle.plain.specs.Moves.{Answer}
 use Rattle.plain.specs.Calls.{Pool, Call, start, allocate, free, leave, step, StartedLengths}
 use Rattle.control.specs.Layout.{Tasks, Regions, seen}
-use Rattle.control.specs.Answers.{CODES}
+use Rattle.control.specs.Answers.{codeIn, valueIn, lostIn}
 use Rattle.stepped.specs.Outcome.{Memories}
 use Rattle.stepped.specs.Calls.{lending, lengths}
 use Rattle.agreement.specs.Events.{Event, stepped, whole, Premise}
@@ -19,7 +19,7 @@ use Rattle.agreement.specs.Events as Events
 use Rattle.agreement.specs.Reached.{History, Reached}
 use Rattle.agreement.specs.Agreement.{Agrees, Unchanged, Untouched}
 use Rattle.pool.specs.Call.{Ensures}
-use Rattle.demands.specs.AnswerKinds.{Refusal}
+use Rattle.demands.specs.AnswerKinds.{Refusal, endsRequest}
 
 -- What happens to a pool: a call on its memories leaves the memories `left` and answers `number`; a call on other
 -- memories, lent as `lent`; a user writes the byte b at the byte `at` of the area, or of the strips' memory: "Strips
@@ -97,10 +97,13 @@ abbrev pub eventsOfActs : List Act → Memories → List Event
 eventsOfActs [] s = []
 eventsOfActs (a ∷ rest) s = eventOfAct a s ∷ eventsOfActs rest (afterAct a s)
 
--- The number tells the code and the value of y: it is the code, and CODES times the value.
+-- The number tells the code and the value of y, and no lost exchanges where y ends no request: "Every other answer
+-- gives 0" (the request for lost exchanges). What it tells where y ends one is in LostTold: "The two runs are compared
+-- without this number".
 pub record Number (number : ℕ) (y : Answer) : Type 0 where
-  pub code : number % CODES ≡ y .code
-  pub value : number / CODES ≡ y .value
+  pub code : codeIn number ≡ y .code
+  pub value : valueIn number ≡ y .value
+  pub none-lost : endsRequest (y .code) ≡ false → lostIn number ≡ 0
 
 -- the number that a call answered is that of y; a user's write answers nothing
 abbrev pub Answered : Act → Answer → Type 0

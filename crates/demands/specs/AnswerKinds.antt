@@ -1,28 +1,35 @@
 -- docs/POOL.md, "Calls and refusals"
 -- What the demands say of a call's answer: refusals, a request's end, the class or the order that a size gets.
 use mathlib.Core.Path.{_≡_}
-use mathlib.Core.Logic.{_≢_, _⊎_}
+use mathlib.Core.Logic.{_≢_}
+use mathlib.Core.Bool.{Bool, true}
 use mathlib.Core.List.{[], _∷_}
-use Prim.Native.Nat.{ℕ, _%_, _≤_, _<_}
+use Prim.Native.Nat.{ℕ, _≤_, _<_}
 use Rattle.limits.specs.Limits.{CLASSES}
 use Rattle.control.specs.Places.{A1, STRIP-TAKE}
-use Rattle.control.specs.Answers.{CODES}
+use Rattle.control.specs.Answers.{codeIn}
 use Rattle.fields.specs.Columns.{_:=_}
 use Rattle.classes.specs.Classes.{block}
 use Rattle.pieces.specs.StripSizes.{RoundsTo}
-use Rattle.control.specs.Layout.{seen, changed, TaskPlace, TaskClass, TaskUnit, LEAVING}
+use Rattle.control.specs.Layout.{seen, changed, TaskPlace, TaskClass, TaskUnit, TaskLost, LEAVING}
 use Rattle.plain.specs.Calls.{Call, start, allocate, free, leave, step}
 use Rattle.stepped.specs.Outcome.{Memories}
 use Rattle.stepped.specs.Leaving.{nextCached, leaveWrites}
+use Rattle.agreement.specs.Ends.{oneOf}
 
 -- "A refused call answers the number": 1 to 14, but for 12 and 13, which "refuse no call". 16 is past them: it "ends a
 -- request" (the request for strips), and refuses no call either.
 abbrev pub Refusal : ℕ → Type 0
 Refusal r = (1 ≤ r) × (r ≤ 14) × (r ≢ 12) × (r ≢ 13)
 
--- "12 and 13 .. are a request's end"; "16 ends a request" (the request for strips); and so does "20 finished"
+-- "12 and 13 .. are a request's end"; "16 ends a request" (the request for strips); and so does "20 finished": whether
+-- a code does
+abbrev pub endsRequest : ℕ → Bool
+endsRequest code = oneOf (12 ∷ 13 ∷ 16 ∷ 20 ∷ []) code
+
+-- the number that a call answers ends a request, by its code
 abbrev pub EndsRequest : ℕ → Type 0
-EndsRequest r = (r ≡ 12) ⊎ ((r ≡ 13) ⊎ ((r ≡ 16) ⊎ (r % CODES ≡ 20)))
+EndsRequest r = endsRequest (codeIn r) ≡ true
 
 -- a call of another task than u; a start is a call of none
 abbrev pub OfAnother : ℕ → Call → Type 0
@@ -32,10 +39,11 @@ OfAnother u (free t unit) = u ≢ t
 OfAnother u (leave t) = u ≢ t
 OfAnother u (step t) = u ≢ t
 
--- "Beginning a request does no step": that of an allocation has set the task's place and its class, or order, and
--- changed no other byte.
+-- "Beginning a request does no step": that of an allocation has set the task's place, its class, or order, and its lost
+-- exchanges to none, and changed no other byte.
 pub record Begun (t place class : ℕ) (before after : Memories) : Type 0 where
-  pub control-is : after .control ≡ changed (TaskPlace t := place ∷ TaskClass t := class ∷ []) (before .control)
+  pub control-is : after .control
+      ≡ changed (TaskPlace t := place ∷ TaskClass t := class ∷ TaskLost t := 0 ∷ []) (before .control)
   pub area-is : after .area ≡ before .area
   pub strips-is : after .strips ≡ before .strips
 
@@ -56,10 +64,12 @@ pub record BegunStrip (t size : ℕ) (before after : Memories) : Type 0 where
   pub begun : Begun t STRIP-TAKE order before after
 
 -- "Beginning a request does no step": that of leaving has set the task's place, and its class and a group of none where
--- it goes on with a cache, and LEAVING in the place of a unit; it changed no other byte. The cache is the first that is
--- not empty, "in rising order of class" (the request for leaving); with all empty the task is at the last step.
+-- it goes on with a cache, LEAVING in the place of a unit, and no lost exchange; it changed no other byte. The cache is
+-- the first that is not empty, "in rising order of class" (the request for leaving); with all empty the task is at the
+-- last step.
 pub record BegunLeaving (t : ℕ) (before after : Memories) : Type 0 where
   pub control-is : let v = seen (before .control) in
-      after .control ≡ changed (leaveWrites v t (nextCached v t 0) (TaskUnit t := LEAVING ∷ [])) (before .control)
+      after .control
+      ≡ changed (leaveWrites v t (nextCached v t 0) (TaskUnit t := LEAVING ∷ TaskLost t := 0 ∷ [])) (before .control)
   pub area-is : after .area ≡ before .area
   pub strips-is : after .strips ≡ before .strips

@@ -2,3 +2,4 @@
 pub mod Tests
 pub mod AnswerKinds
 pub mod Acts
+pub mod LostTold

@@ -11,36 +11,54 @@ use Rattle.limits.specs.Limits.{CONTROL-BYTES, REGION-BYTES, TASKS, REGIONS}
 use Rattle.fields.specs.Columns.{View}
 use Rattle.links.specs.Link.{link}
 use Rattle.plain.specs.Calls.{allocate, free, leave, step, Lengths}
-use Rattle.control.specs.Layout.{Regions, seen}
-use Rattle.control.specs.Answers.{numberOf}
+use Rattle.control.specs.Layout.{Regions, TaskLost, seen}
+use Rattle.control.specs.Answers.{numberOf, numberWith}
 use Rattle.control.specs.declared.answer.Answer.{Answer}
-use Rattle.stepped.specs.Outcome.{Outcome, refuse, effect}
+use Rattle.stepped.specs.Outcome.{Outcome, refuse, Memories, Effect, effect, stepEffect}
 use Rattle.stepped.specs.Steps as Steps
 use Rattle.stepped.specs.Calls.{tested, whenIdle, beginAllocate, beginFree, allocateOutcome, freeOutcome, leaveOutcome}
 use Rattle.stepped.specs.Calls.{stepOutcome}
 use Rattle.stepped.specs.Leaving.{beginLeave}
 use Rattle.stepped.specs.Done.{Done, NumberIn}
-use Rattle.stepped.proofs.Doing.{lends, numbers}
+use Rattle.stepped.proofs.Doing.{lends}
 use Rattle.begins.specs.TestNumber.{TestsAre}
 use Rattle.pool.specs.Call.{EffectIs, Ensures}
 
--- a call that the number r refuses
-pub refused-is : {o : Outcome} (c a z : List ℕ) {r : ℕ} → o ≡ refuse r
-    → EffectIs (effect o (record { control = c; area = a; strips = z })) c a z r
-refused-is c a z {r} e =
-    subst (λ (x : Outcome). EffectIs (effect x (record { control = c; area = a; strips = z })) c a z r) (sym e)
-    (record { number = refl; control-is = refl; area-is = refl; strips-is = refl })
-
--- a call that does the outcome x
-pub does-is : {o x : Outcome} {c a z c′ a′ : List ℕ} {r : ℕ} → o ≡ x → NumberIn x c a c′ a′ r
-    → EffectIs (effect o (record { control = c; area = a; strips = z })) c′ a′ z r
-does-is {c = c} {a = a} {z = z} {c′ = c′} {a′ = a′} {r = r} e d =
-    subst (λ (w : Outcome). EffectIs (effect w (record { control = c; area = a; strips = z })) c′ a′ z r) (sym e)
-    (record { number = d .number; control-is = d .control; area-is = d .area; strips-is = refl })
+-- a call whose outcome o is x; f is the effect of an outcome
+by-outcome : (f : Outcome → Effect) {o x : Outcome} {c a z : List ℕ} {r : ℕ} → o ≡ x → EffectIs (f x) c a z r
+    → EffectIs (f o) c a z r
+by-outcome f {c = c} {a = a} {z = z} {r = r} e d = subst (λ (w : Outcome). EffectIs (f w) c a z r) (sym e) d
 
 module _ (c a z : List ℕ) where
   abbrev lengths : Lengths
   lengths = record { control = length c; area = length a; strips = length z }
+
+  abbrev lent : Memories
+  lent = record { control = c; area = a; strips = z }
+
+  -- a call that the number r refuses
+  refused-is : (r : ℕ) → EffectIs (effect (refuse r) lent) c a z r
+  refused-is r = record { number = omega arith; control-is = refl; area-is = refl; strips-is = refl }
+
+  -- a call that is no step, does the outcome x and answers the number of s
+  does-is : {x : Outcome} {c′ : List ℕ} {s : Answer} {r : ℕ} → Done x c c′ s → r ≡ numberOf s
+      → EffectIs (effect x lent) c′ a z r
+  does-is d n = record {
+    number = omega (arith, n ∙ ap numberOf (d .answer));
+    control-is = d .control;
+    area-is = lends {a = a} d .area;
+    strips-is = refl;
+  }
+
+  -- a step of the task t that does the outcome x
+  steps-is : {x : Outcome} {t : ℕ} {c′ a′ : List ℕ} {r : ℕ} → NumberIn x t c a c′ a′ r
+      → EffectIs (stepEffect t x lent) c′ a′ z r
+  steps-is {x} {t} d = record {
+    number = d .number ∙ ap (λ (m : List ℕ). numberWith (x .answer) (seen m (TaskLost t))) (d .control);
+    control-is = d .control;
+    area-is = d .area;
+    strips-is = refl;
+  }
 
 module _ (c a z : List ℕ) (t r : ℕ) (T : TestsAre (lengths c a z) (seen c) t r) where
   refuses : r ≢ 0 → (x : Outcome) → tested (lengths c a z) (seen c) t x ≡ refuse r
@@ -51,44 +69,45 @@ module _ (c a z : List ℕ) (t r : ℕ) (T : TestsAre (lengths c a z) (seen c) t
 
   pub allocate-refused : (size : ℕ) → r ≢ 0 → Ensures (allocate t size) c a z c a z r
   unfolding allocateOutcome
-  allocate-refused size h = refused-is c a z (refuses h _)
+  allocate-refused size h = by-outcome (λ o. effect o (lent c a z)) (refuses h _) (refused-is c a z r)
 
   pub allocate-does : (size : ℕ) → r ≡ 0 → {c′ : List ℕ} {s : Answer} {n : ℕ}
       → Done (whenIdle (seen c) t (beginAllocate t size)) c c′ s → n ≡ numberOf s
       → Ensures (allocate t size) c a z c′ a z n
   unfolding allocateOutcome
-  allocate-does size h d n = does-is (passes h _) (numbers (lends d) n)
+  allocate-does size h d n = by-outcome (λ o. effect o (lent c a z)) (passes h _) (does-is c a z d n)
 
   pub free-refused : (u : ℕ) → r ≢ 0 → Ensures (free t u) c a z c a z r
   unfolding freeOutcome
-  free-refused u h = refused-is c a z (refuses h _)
+  free-refused u h = by-outcome (λ o. effect o (lent c a z)) (refuses h _) (refused-is c a z r)
 
   pub free-does : (u regions : ℕ) → r ≡ 0 → regions ≡ seen c Regions → {c′ : List ℕ} {s : Answer} {n : ℕ}
       → Done (whenIdle (seen c) t (beginFree (seen c) regions t u)) c c′ s → n ≡ numberOf s
       → Ensures (free t u) c a z c′ a z n
   unfolding freeOutcome
   free-does u regions h e {c′} {s} d n =
-      does-is (passes h _)
-      (numbers (lends (subst (λ (k : ℕ). Done (whenIdle (seen c) t (beginFree (seen c) k t u)) c c′ s) e d)) n)
+      by-outcome (λ o. effect o (lent c a z)) (passes h _)
+      (does-is c a z (subst (λ (k : ℕ). Done (whenIdle (seen c) t (beginFree (seen c) k t u)) c c′ s) e d) n)
 
   pub leave-refused : r ≢ 0 → Ensures (leave t) c a z c a z r
   unfolding leaveOutcome
-  leave-refused h = refused-is c a z (refuses h _)
+  leave-refused h = by-outcome (λ o. effect o (lent c a z)) (refuses h _) (refused-is c a z r)
 
   pub leave-does : r ≡ 0 → {c′ : List ℕ} {s : Answer} {n : ℕ}
       → Done (whenIdle (seen c) t (beginLeave (seen c) t)) c c′ s → n ≡ numberOf s → Ensures (leave t) c a z c′ a z n
   unfolding leaveOutcome
-  leave-does h d n = does-is (passes h _) (numbers (lends d) n)
+  leave-does h d n = by-outcome (λ o. effect o (lent c a z)) (passes h _) (does-is c a z d n)
 
   pub step-refused : r ≢ 0 → Ensures (step t) c a z c a z r
   unfolding stepOutcome
-  step-refused h = refused-is c a z (refuses h _)
+  step-refused h = by-outcome (λ o. stepEffect t o (lent c a z)) (refuses h _) (refused-is c a z r)
 
   pub step-does : (regions : ℕ) → r ≡ 0 → regions ≡ seen c Regions → {c′ a′ : List ℕ} {n : ℕ}
-      → NumberIn (Steps.stepOf (seen c) (link a) regions t) c a c′ a′ n → Ensures (step t) c a z c′ a′ z n
+      → NumberIn (Steps.stepOf (seen c) (link a) regions t) t c a c′ a′ n → Ensures (step t) c a z c′ a′ z n
   unfolding stepOutcome
   step-does regions h e {c′} {a′} {n} d =
-      does-is (passes h _) (subst (λ (k : ℕ). NumberIn (Steps.stepOf (seen c) (link a) k t) c a c′ a′ n) e d)
+      by-outcome (λ o. stepEffect t o (lent c a z)) (passes h _)
+      (steps-is c a z (subst (λ (k : ℕ). NumberIn (Steps.stepOf (seen c) (link a) k t) t c a c′ a′ n) e d))
 
 -- what the tests tell
 module _ (lent : Lengths) (v : View) (t r : ℕ) (T : TestsAre lent v t r) (h : r ≡ 0) where

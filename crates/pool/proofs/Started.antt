@@ -2,6 +2,7 @@
 use mathlib.Core.Path.{_≡_, refl}
 use mathlib.Core.List.{List}
 use Prim.Native.Nat.{ℕ, _/_}
+use native.Mathlib.Omega.{arith}
 use lib.ListN.{length}
 use Rattle.limits.specs.Limits.{REGION-BYTES}
 use Rattle.plain.specs.Calls.{Start, start, StartTested, StartFails}
@@ -20,7 +21,7 @@ module _ (c a z : List ℕ) (tasks : ℕ) where
   pub refused : {n : ℕ} → StartFails b (lengths lent) n → Ensures (start b) c a z c a z n
   refused F =
       rw (start-failed b lent (record { control = c; area = a; strips = z }) F)
-      (record { number = refl; control-is = refl; area-is = refl; strips-is = refl })
+      (record { number = omega arith; control-is = refl; area-is = refl; strips-is = refl })
 
   pub started : StartTested b (lengths lent) → {c′ : List ℕ} → c′ ≡ startImage b (length a / REGION-BYTES)
       → Ensures (start b) c a z c′ a z 0

@@ -4,14 +4,14 @@ use mathlib.Core.Path.{_≡_}
 use mathlib.Core.List.{List}
 use Prim.Native.Nat.{ℕ}
 use Rattle.plain.specs.Calls.{Call}
-use Rattle.control.specs.Answers.{numberOf}
+use Rattle.control.specs.Answers.{numberTelling}
 use Rattle.stepped.specs.Outcome.{Effect}
 use Rattle.stepped.specs.Calls.{effectOf}
 
 -- "For every input, the answer and each byte of both memories afterwards", and of the strips' memory: the answer as one
--- number, and the three memories, are those of the definition's effect.
+-- number, with the lost exchanges in its high half, and the three memories are those of the definition's effect.
 pub record EffectIs (e : Effect) (control area strips : List ℕ) (r : ℕ) : Type 0 where
-  pub number : r ≡ numberOf (e .answer)
+  pub number : r ≡ numberTelling (e .answer) (e .lost)
   pub control-is : control ≡ e .control
   pub area-is : area ≡ e .area
   pub strips-is : strips ≡ e .strips

@@ -19,9 +19,9 @@ use Rattle.schedule.specs.Tally.{noneCounted, counted}
 use Rattle.schedule.specs.Stand.{runs, table}
 use Rattle.schedule.specs.Plain.{onPlain}
 
--- a line of the table
+-- a line of the table, without lost exchanges
 abbrev line : ℕ → ℕ → ℕ → ℕ → Line
-line number kind code value = record { number = number; kind = kind; code = code; value = value }
+line number kind code value = record { number = number; kind = kind; code = code; value = value; lost = 0 }
 
 abbrev total : ℕ → ℕ → ℕ → Tally
 total finished accepted others = record { finished = finished; accepted = accepted; others = others }

@@ -11,7 +11,7 @@ use Rattle.limits.specs.Limits.{CONTROL-BYTES, REGION-BYTES, STRIPS-BYTES}
 use Rattle.fields.specs.Columns.{View}
 use Rattle.plain.specs.Calls.{Call}
 use Rattle.control.specs.Layout.{Tasks, Regions, seen}
-use Rattle.control.specs.Answers.{numberOf}
+use Rattle.control.specs.Answers.{numberTelling}
 use Rattle.stepped.specs.Outcome.{Memories}
 use Rattle.stepped.specs.Calls.{effectOf}
 use Rattle.schedule.specs.Stand.{STAND-REGIONS, STAND-AREA}
@@ -40,12 +40,12 @@ lentRegions v = cond (eqb (v Tasks) 0) 0 (cond (ltb STAND-REGIONS (v Regions)) S
 abbrev pub part : ℕ → Memories → Memories
 part n s = record { control = s .control; area = midOf 0 n (s .area); strips = s .strips }
 
--- a call that is lent that
+-- a call that is lent that; its answer as one number, with the lost exchanges in its high half
 abbrev pub onPart : Call → ℕ → Memories → Memories × ℕ
 onPart k n s =
     let e = effectOf k (part n s) in (
       record { control = e .control; area = putMid 0 n (s .area) (e .area); strips = e .strips },
-      numberOf (e .answer),
+      numberTelling (e .answer) (e .lost),
     )
 
 -- a call, by what the stand lends it: "more than 4 regions is 2"
@@ -61,7 +61,7 @@ startedPart s = part (REGION-BYTES * lentRegions (seen (s .control))) s
 abbrev pub afterAll : (input : List ℕ) → Memories
 afterAll input = played onBytes (length input) input 0 zeros
 
--- the answer of the last of them: the code, and CODES times the value; 0 where there is no record
+-- the answer of the last of them as one number; 0 where there is no record
 abbrev pub lastOf : (input : List ℕ) → ℕ
 lastOf input = lastAnswer onBytes (length input) input 0 0 zeros
 

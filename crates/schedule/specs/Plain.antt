@@ -11,7 +11,7 @@ use Rattle.control.specs.Answers.{CODES}
 use Rattle.schedule.specs.Stand.{STAND-REGIONS}
 use Rattle.schedule.specs.Stand.{Lends, named, as-started}
 
--- an answer as one number: the code, and CODES times the value
+-- an answer as one number: the code, and CODES times the value; the plain pool tells no lost exchanges
 abbrev pub answerNumber : Answer → ℕ
 answerNumber y = y .code + CODES * y .value
 

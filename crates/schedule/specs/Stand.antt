@@ -7,7 +7,7 @@ use lib.Dec.{eqb, ltb}
 use lib.ListN.{length}
 use Rattle.limits.specs.Limits.{REGION-BYTES}
 use Rattle.plain.specs.Calls.{Call, start, allocate, free, leave, step}
-use Rattle.control.specs.Answers.{CODES}
+use Rattle.control.specs.Answers.{codeIn, valueIn, lostIn}
 use Rattle.schedule.specs.declared.record.Entry.{Entry}
 use Rattle.schedule.specs.declared.record.Record.{Record}
 use Rattle.schedule.specs.declared.record.Record.the-variants.{Start, Allocate, Free, Step, Run, Leave, Bad}
@@ -30,11 +30,19 @@ pub data Lends : Type 0 where
   named : (regions : ℕ) → Lends
   as-started : Lends
 
--- "each line, in decimal: record from 0, kind byte, code, value", for the answer r: the code, and CODES times the value
+-- "each line, in decimal: record from 0, kind byte, code, value", and the lost exchanges, for the answer r as one
+-- number
 abbrev pub lineOf : Entry → ℕ → Line
-lineOf e r = record { number = e .number; kind = e .kind; code = r % CODES; value = r / CODES }
+lineOf e r = record {
+  number = e .number;
+  kind = e .kind;
+  code = codeIn r;
+  value = valueIn r;
+  lost = lostIn r;
+}
 
--- a pool: its state, and what a call makes of it, with the answer: the code, and CODES times the value
+-- a pool: its state, and what a call makes of it, with the answer as one number: the code, CODES times the value, and
+-- ONE-LOST times the lost exchanges that it tells
 module _ {S : Type 0} (call : Call → Lends → S → S × ℕ) where
   -- "run (task, most steps ..), which stops at a finish, an end or a refusal (most 0: code 0, no call made)"; "A run
   -- shows its last call's answer". The last answer so far is a.

@@ -6,12 +6,13 @@ use control::answer;
 ghost use Rattle.schedule.specs.Stand.{runs, treated, shown};
 ghost use Rattle.schedule.specs.Bytes.{onBytes, Does, StandMemories};
 
-// A line of the table: "record from 0, kind byte, code, value".
+// A line of the table: "record from 0, kind byte, code, value", and the lost exchanges that the answer tells.
 pub struct Line {
     pub number: u64,
     pub kind: u8,
     pub code: u64,
     pub value: u64,
+    pub lost: u32,
 }
 
 // "5 run .. stops at a finish, an end or a refusal (most 0: code 0, no call made)". It answers as the last call.
@@ -34,7 +35,7 @@ fn run(control: &mut [u8], area: &mut [u8], strips: &[u8], task: u8, most: u16) 
     answer
 }
 
-// What a record does to the three memories, and what it answers: the code, and `CODES` times the value.
+// What a record does to the three memories, and what it answers, as one number for C.
 pub fn treat(control: &mut [u8], area: &mut [u8], strips: &[u8], body: Record) -> u64
     requires { ⌜ StandMemories (now control) (now area) (now strips) ⌝ }
     ensures { λ r.
@@ -65,6 +66,7 @@ pub fn show(control: &mut [u8], area: &mut [u8], strips: &[u8], entry: Entry) ->
         number: entry.number,
         kind: entry.kind,
         code: number % answer::CODES,
-        value: number / answer::CODES,
+        value: number / answer::CODES % answer::VALUES,
+        lost: (number / answer::ONE_LOST) as u32,
     }
 }

@@ -16,8 +16,8 @@ fn room() -> [u8; table::TABLE_BYTES]
     [0; table::TABLE_BYTES]
 }
 
-// Plays the schedule on three memories that are zero at first, and puts its table at the start of `out`. That this is
-// the plain pool's table is `play-is-plain` of crates/stand_agreement.
+// Plays the schedule on three memories that are zero at first, and puts its table at the start of `out`, without the
+// lost exchanges. That this is the plain pool's table is `play-is-plain` of crates/stand_agreement.
 fn play(input: &[u8], out: &mut [u8]) -> usize
     requires { ⌜ (length (now input) ≤ INPUT-BYTES) × (TABLE-BYTES ≤ length (now out)) ⌝ }
     ensures { λ r. ⌜ Plays (now (input .entry)) (now (out .entry)) (now (out .exit)) r ⌝ }
@@ -25,7 +25,7 @@ fn play(input: &[u8], out: &mut [u8]) -> usize
     let mut control = [0u8; limits::CONTROL_BYTES];
     let mut area = [0u8; lend::STAND_AREA];
     let strips = [0u8; limits::STRIPS_BYTES];
-    table::write(&mut control, &mut area, &strips, input, out)
+    table::write(&mut control, &mut area, &strips, input, out, false)
 }
 
 fn main() {

@@ -3,7 +3,7 @@
 use mathlib.Core.Path.{_≡_, refl, ap, _∙_}
 use mathlib.Core.Bool.{Bool}
 use mathlib.Core.List.{List}
-use Prim.Native.Nat.{ℕ, zero, suc, _+_, _*_, _≤_, _<_}
+use Prim.Native.Nat.{ℕ, zero, suc, _+_, _*_, _%_, _≤_, _<_}
 use native.Mathlib.Omega.{arith}
 use native.Mathlib.Decide.{decLt}
 use borrow.Author.Tests.{lt-ltb, le-ltb, eq-eqb}
@@ -13,6 +13,7 @@ use Rattle.fields.specs.Little.{Bytes}
 use Rattle.fields.specs.Columns.{View}
 use Rattle.plain.specs.Calls.{Pool, Call, unstarted}
 use Rattle.control.specs.Layout.{seen, Tasks}
+use Rattle.control.specs.Answers.{ONE-LOST}
 use Rattle.stepped.specs.Outcome.{Memories}
 use Rattle.stepped.specs.Calls.{lengths, lending}
 use Rattle.reports.specs.Reports.{reportRefusal, reportOf, reportOn, Answers}
@@ -20,7 +21,7 @@ use Rattle.schedule.specs.Records.{INPUT-BYTES, MOST-CALLS, recordAt, endOf}
 use Rattle.schedule.specs.Stand.{Lends, treated, played, lastAnswer}
 use Rattle.schedule.specs.Bytes.{zeros, onBytes, startedPart, afterAll, lastOf}
 use Rattle.schedule.specs.Plain.{regionsFed, onPlain}
-use Rattle.stand_agreement.proofs.Beside.{Beside, SameAnswer, partOf, tied, lent-same}
+use Rattle.stand_agreement.proofs.Beside.{Beside, SameAnswer, same-small, partOf, tied, lent-same}
 use Rattle.stand_agreement.proofs.Table.{record-fits, same-treated, zeros-beside}
 
 -- the plain pool after all records of a schedule
@@ -62,16 +63,16 @@ module _ (input : List ℕ) (bytes : Bytes input) (long : length input ≤ INPUT
   same-after-all : (n : ℕ) × SameAnswer n (afterAll input, lastOf input) (plainAfterAll input, plainLastOf input)
   same-after-all =
       same-played (length input) 0 0 (zeros, 0) (unstarted, 0) (omega arith) (omega arith)
-      (record { number = refl; beside = zeros-beside })
+      (record { number = same-small 0 (omega arith); beside = zeros-beside })
 
   -- the memories are beside the plain pool
   pub after-all : (n : ℕ) × Beside n (afterAll input) (plainAfterAll input)
   after-all = (same-after-all .0, same-after-all .1 .beside)
 
-  -- The last record's answer is the plain pool's: for every input of bytes, at most 65,536, and there is no other
-  -- premise.
-  pub last-is-plain : lastOf input ≡ plainLastOf input
-  last-is-plain = same-after-all .1 .number
+  -- The last record's answer is the plain pool's, but for the lost exchanges that it tells: for every input of bytes,
+  -- at most 65,536, and there is no other premise.
+  pub last-is-plain : lastOf input % ONE-LOST ≡ plainLastOf input
+  last-is-plain = same-after-all .1 .number .without-lost
 
   -- the part of the area that the stand lends is the one that the run has reached
   pub lent-is : startedPart (afterAll input) ≡ partOf (regionsFed (plainAfterAll input)) (afterAll input)

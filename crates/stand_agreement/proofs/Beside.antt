@@ -1,6 +1,6 @@
--- The stand on bytes beside the stand over the plain pool: each request is answered by the same number, and keeps them
--- beside each other.
-use Prim.Native.Nat.{ℕ, suc, _*_, _≤_, _<_}
+-- The stand on bytes beside the stand over the plain pool: each request is answered by the same number but for the lost
+-- exchanges, and keeps them beside each other.
+use Prim.Native.Nat.{ℕ, suc, _*_, _%_, _≤_, _<_}
 use mathlib.Core.Path.{_≡_, refl, sym, ap, subst, _∙_}
 use mathlib.Core.List.{[], _∷_}
 use native.Mathlib.Omega.{arith}
@@ -18,7 +18,7 @@ use Rattle.plain.specs.Calls.{Pool, Call, allocate, free, leave, step, Lengths}
 use Rattle.plain.specs.Calls as Calls
 use Rattle.plain.proofs.CallAnswers.{most}
 use Rattle.control.specs.Layout.{Tasks, seen}
-use Rattle.control.specs.Answers.{numberOf}
+use Rattle.control.specs.Answers.{ONE-LOST, numberTelling, codeIn, lostIn}
 use Rattle.stepped.specs.Outcome.{Effect, Memories, memoriesAfter}
 use Rattle.stepped.specs.Calls.{effectOf, lending, lengths}
 use Rattle.stepped.specs.Calls as Stepped
@@ -28,8 +28,11 @@ use Rattle.agreement.proofs.AnswersOfRuns.{short}
 use Rattle.agreement.specs.Reached.{History, happened, Reached, by-event}
 use Rattle.agreement.proofs.Reaching.{reached-tied}
 use Rattle.agreement.proofs.Theorem.{reached-agrees}
+use Rattle.demands.specs.AnswerKinds.{endsRequest}
 use Rattle.demands.specs.Acts.{on-own, eventOfCall, Number}
+use Rattle.demands.specs.LostTold.{lostDue}
 use Rattle.demands.proofs.Acting.{shows}
+use Rattle.demands.proofs.LostTold.{lost-told}
 use Rattle.schedule.specs.Stand.{STAND-REGIONS, STAND-AREA}
 use Rattle.schedule.specs.Stand.{as-started}
 use Rattle.schedule.specs.Bytes.{lentRegions, onPart, onBytes}
@@ -69,13 +72,29 @@ later h B =
           (arith, h, B .most-won k ℓ);
     }
 
--- a number is its code and CODES times its value
-pub sum : {n : ℕ} {y : Answer} → Number n y → n ≡ answerNumber y
-sum N = omega (arith, N .code, N .value)
+-- "The two runs are compared without this number" (the request for lost exchanges): a number of bytes is that of the
+-- plain pool but for the lost exchanges that it tells, and tells none where that is 0
+pub record SameNumber (n m : ℕ) : Type 0 where
+  pub without-lost : n % ONE-LOST ≡ m
+  pub none : m ≡ 0 → n ≡ 0
+
+-- a number that tells an answer is that answer's
+pub tells : {n : ℕ} {y : Answer} → Number n y → SameNumber n (answerNumber y)
+tells {n} {y} N = record {
+  without-lost = omega (arith, N .code, N .value);
+  none = λ e.
+      let z : y .code ≡ 0 = omega (arith, e) in
+      let l : lostIn n ≡ 0 = N .none-lost (ap endsRequest z) in
+      omega (arith, N .code, N .value, l, e);
+}
+
+-- numbers below ONE-LOST are the same
+pub same-small : (n : ℕ) → n < ONE-LOST → SameNumber n n
+same-small n l = record { without-lost = omega (arith, l); none = λ e. e }
 
 -- the two stands answer the same, and are beside each other again
 pub record SameAnswer (n : ℕ) (x : Memories × ℕ) (y : Pool × ℕ) : Type 0 where
-  pub number : x .1 ≡ y .1
+  pub number : SameNumber (x .1) (y .1)
   pub beside : Beside n (x .0) (y .0)
 
 module _ {n : ℕ} {s : Memories} {p : Pool} (B : Beside n s p) where
@@ -126,7 +145,7 @@ module _ {n : ℕ} {s : Memories} {p : Pool} (B : Beside n s p) (small : n < TAG
     same-call : SameAnswer (suc n) (onPart q (REGION-BYTES * regions) s) (feeding q (REGION-BYTES * regions) p)
     same-call =
         let S =
-        shows (on-own q left (numberOf (e .answer))) lent
+        shows (on-own q left (numberTelling (e .answer) (e .lost))) lent
         (record { number = refl; control-is = refl; area-is = refl; strips-is = refl }) in
         let H = happened (eventOfCall q lent) lent p ∷ B .history in
         let A = reached-agrees (B .history) lent p (B .reached) (eventOfCall q lent) premise in
@@ -141,7 +160,9 @@ module _ {n : ℕ} {s : Memories} {p : Pool} (B : Beside n s p) (small : n < TAG
           strips = e .strips;
         } in
         record {
-          number = sum (S .answers) ∙ ap answerNumber (A .0 .says) ∙ ap (λ x. answerNumber (x .1)) (as-fed q);
+          number =
+              subst (SameNumber (numberTelling (e .answer) (e .lost)))
+              (ap answerNumber (A .0 .says) ∙ ap (λ x. answerNumber (x .1)) (as-fed q)) (tells (S .answers));
           beside = record {
             area-is =
                 back-length (REGION-BYTES * regions) (s .area) (e .area) (omega (arith, B .few, B .area-is))
@@ -196,3 +217,14 @@ module _ {n : ℕ} {s : Memories} {p : Pool} (B : Beside n s p) (small : n < TAG
   same-step t =
       same-lent (step t) (near t) (length-linked (Stepped.stepOutcome long v (link (lent .area)) t .links) (lent .area))
       refl (step-keeps fed t p)
+
+  -- The lost exchanges that a step on the stand tells are those of its request, by the history of the stand's run.
+  pub lost-shown : (t : ℕ) → let x = onBytes (step t) as-started s in
+      lostIn (x .1) ≡ lostDue (step t) (codeIn (x .1)) (happened (eventOfCall (step t) lent) lent p ∷ B .history)
+  lost-shown t =
+      subst
+      (λ (k : ℕ). let x = onPart (step t) (REGION-BYTES * k) s in
+      lostIn (x .1) ≡ lostDue (step t) (codeIn (x .1)) (happened (eventOfCall (step t) lent) lent p ∷ B .history))
+      (sym (lent-same B))
+      (lost-told (B .reached) (on-own (step t) (memoriesAfter (effectOf (step t) lent)) _)
+      (record { number = refl; control-is = refl; area-is = refl; strips-is = refl }) (near t))

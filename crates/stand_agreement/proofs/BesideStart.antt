@@ -11,11 +11,10 @@ use borrow.Rule.Slice.PartMut.{putMid, put-same}
 use lib.Dec.{eqb}
 use lib.ListN.{length}
 use Rattle.limits.specs.Limits.{REGION-BYTES}
-use Rattle.plain.specs.Moves.{Answer}
 use Rattle.plain.specs.Calls.{Pool, Start, start, Lengths}
 use Rattle.plain.specs.Calls as Calls
 use Rattle.plain.proofs.CallAnswers.{most}
-use Rattle.control.specs.Answers.{codeOf, numberOf}
+use Rattle.control.specs.Answers.{codeOf, codeIn, numberTelling}
 use Rattle.control.specs.declared.answer.Answer.the-variants.{Accepted, Allocated, Freed, NoDescriptor, NoRegion}
 use Rattle.control.specs.declared.answer.Answer.the-variants.{NoStrip, Refused}
 use Rattle.control.specs.declared.answer.Answer as A
@@ -27,7 +26,8 @@ use Rattle.agreement.proofs.BeginningEnds.{start-ends}
 use Rattle.agreement.proofs.Lent.{start-leaves}
 use Rattle.agreement.specs.Reached.{History, happened, Reached, by-event}
 use Rattle.agreement.proofs.Theorem.{reached-agrees}
-use Rattle.demands.specs.Acts.{on-other, eventOfCall}
+use Rattle.demands.specs.Acts.{on-other, eventOfCall, Number}
+use Rattle.demands.proofs.NumberTells.{Tells, told}
 use Rattle.demands.proofs.Acting.{shows}
 use Rattle.schedule.specs.Stand.{STAND-REGIONS}
 use Rattle.schedule.specs.Stand.{named}
@@ -35,23 +35,11 @@ use Rattle.schedule.specs.Bytes.{onPart, onBytes}
 use Rattle.schedule.specs.Plain.{answerNumber, feeding, regionsFed, onPlain}
 use Rattle.stand_agreement.proofs.LentArea.{part-length, part-back, back-length}
 use Rattle.stand_agreement.proofs.Fed.{standLengths, StartIs, accepted, refused, start-is}
-use Rattle.stand_agreement.proofs.Beside.{partOf, Beside, tied, later, sum, SameAnswer}
+use Rattle.stand_agreement.proofs.Beside.{partOf, Beside, tied, later, SameNumber, tells, same-small}
+use Rattle.stand_agreement.proofs.Beside.{SameAnswer}
 
--- a number that is 0 has the code 0, and the code of a beginning tells its number
-code-zero : (y : Answer) → answerNumber y ≡ 0 → y .code ≡ 0
-code-zero y e = omega arith
-
--- the answer of a start is accepted, or a refusal
-number-code : (a : A.Answer) → Begins startRefusals a → numberOf a ≡ codeOf a
-number-code Accepted b = refl
-number-code (Allocated u) b = absurd b
-number-code Freed b = absurd b
-number-code NoDescriptor b = absurd b
-number-code NoRegion b = absurd b
-number-code NoStrip b = absurd b
-number-code (Refused n) b = refl
-
-refusal : (a : A.Answer) → Begins startRefusals a → numberOf a ≢ 0 → (n : ℕ) × (a ≡ Refused n)
+-- the answer of a start that is not accepted is a refusal
+refusal : (a : A.Answer) → Begins startRefusals a → codeOf a ≢ 0 → (n : ℕ) × (a ≡ Refused n)
 refusal Accepted b h = absurd (h refl)
 refusal (Allocated u) b h = absurd b
 refusal Freed b h = absurd b
@@ -69,7 +57,7 @@ module _ {n : ℕ} {s : Memories} {p : Pool} (B : Beside n s p) (b : Start) (reg
   e = effectOf (start b) lent
 
   abbrev r : ℕ
-  r = numberOf (e .answer)
+  r = numberTelling (e .answer) (e .lost)
 
   abbrev left : Memories
   left = memoriesAfter e
@@ -88,14 +76,22 @@ module _ {n : ℕ} {s : Memories} {p : Pool} (B : Beside n s p) (b : Start) (reg
       λ i. Calls.plainCall (start b) (record { control = tied B .length i; area = part-is i; strips = B .strips-is i })
       p
 
+  -- the number tells the start's code, and no lost exchanges
+  told-number : Tells r e
+  told-number =
+      told (start b) lent left r (record { number = refl; control-is = refl; area-is = refl; strips-is = refl })
+
   -- what the stepped run and the whole run have of it
-  number-same : r ≡ answerNumber (Calls.plainCall (start b) lengths p .1)
-  number-same =
+  answered : Number r (Calls.plainCall (start b) lengths p .1)
+  answered =
       let S =
       shows (on-other (start b) lent left r) before
       (record { number = refl; control-is = refl; area-is = refl; strips-is = refl }, tt) in
       let A = reached-agrees (B .history) before p (B .reached) (eventOfCall (start b) lent) tt in
-      sum (S .answers) ∙ ap answerNumber (A .0 .says) ∙ ap (λ x. answerNumber (x .1)) fed
+      subst (Number r) (A .0 .says ∙ ap (λ x. x .1) fed) (S .answers)
+
+  number-same : SameNumber r (answerNumber (Calls.plainCall (start b) lengths p .1))
+  number-same = tells answered
 
   abbrev H : History
   H = happened (eventOfCall (start b) lent) before p ∷ B .history
@@ -120,7 +116,7 @@ module _ {n : ℕ} {s : Memories} {p : Pool} (B : Beside n s p) (b : Start) (reg
 
   accepted-beside : r ≡ 0 → 1 ≤ p′ .tasks → p′ .regions ≡ regions → Beside (suc n) s′ p′
   accepted-beside h k g =
-      let kept = start-leaves b (lending lent) lent (sym (number-code (e .answer) answers) ∙ h) in
+      let kept = start-leaves b (lending lent) lent (sym (told-number .code) ∙ ap codeIn h) in
       let long : length (e .area) ≡ REGION-BYTES * regions = ap length (kept .0) ∙ part-is in
       let q : regionsFed p′ ≡ regions =
       ap (λ (b : Bool). cond b 0 (p′ .regions)) (ne-eqb (p′ .tasks) 0 (λ z. omega arith)) ∙ g in
@@ -143,7 +139,7 @@ module _ {n : ℕ} {s : Memories} {p : Pool} (B : Beside n s p) (b : Start) (reg
         most-won = most n (start b) lengths p (B .most-won);
       }
 
-  refused-beside : r ≢ 0 → p′ ≡ p → Beside (suc n) s′ p′
+  refused-beside : codeOf (e .answer) ≢ 0 → p′ ≡ p → Beside (suc n) s′ p′
   refused-beside h k =
       let R = refusal (e .answer) answers h in
       let L = start-ends b (lending lent) lent .leaves (R .0) (R .1) in
@@ -164,9 +160,8 @@ module _ {n : ℕ} {s : Memories} {p : Pool} (B : Beside n s p) (b : Start) (reg
       (subst (λ (z : Pool). Beside (suc n) s z) (sym k) (later (omega arith) B))
 
   by : StartIs regions p (Calls.plainCall (start b) lengths p) → Beside (suc n) s′ p′
-  by (accepted z k g) = accepted-beside (number-same ∙ z) k g
-  by (refused z k) =
-      refused-beside (λ h. z (code-zero (Calls.plainCall (start b) lengths p .1) (sym number-same ∙ h))) k
+  by (accepted z k g) = accepted-beside (number-same .none z) k g
+  by (refused z k) = refused-beside (λ h. z (sym (answered .code) ∙ told-number .code ∙ h)) k
 
   pub same-lent : SameAnswer (suc n) (onPart (start b) (REGION-BYTES * regions) s)
       (feeding (start b) (REGION-BYTES * regions) p)
@@ -179,5 +174,7 @@ same-start {n} {s} {p} B b regions = by-regions (decLt STAND-REGIONS regions)
   where
     by-regions : Dec (STAND-REGIONS < regions)
         → SameAnswer (suc n) (onBytes (start b) (named regions) s) (onPlain (start b) (named regions) p)
-    by-regions (yes h) = rw (lt-ltb STAND-REGIONS regions h) (record { number = refl; beside = later (omega arith) B })
+    by-regions (yes h) =
+        rw (lt-ltb STAND-REGIONS regions h)
+        (record { number = same-small 2 (omega arith); beside = later (omega arith) B })
     by-regions (no h) = rw (le-ltb STAND-REGIONS regions (omega arith)) (same-lent B b regions (omega arith))

@@ -18,7 +18,7 @@ use Rattle.control.specs.Places.{IDLE, A1, A3-READ, A3-EXCHANGE, A4, A8}
 use Rattle.control.specs.declared.answer.Answer.the-variants.{Allocated}
 use Rattle.control.specs.declared.moves.Pop.the-variants.{Partial}
 use Rattle.control.specs.declared.moves.Push.the-variants.{Retire}
-use Rattle.stepped.specs.Outcome.{Outcome, bad, accept, over}
+use Rattle.stepped.specs.Outcome.{Outcome, bad, accept, over, lose}
 use Rattle.stepped.specs.Ranges.{oneTo, isTop, isBlock, isAnchor, hasChain}
 use Rattle.stepped.specs.Lists.{popPlace, pushPlace}
 
@@ -86,7 +86,7 @@ module _ (v : View) (link : ℕ → ℕ) (regions t c : ℕ) where
       ∷ [])
       [])
       bad)
-      (accept (anchor-lost d) (TaskPlace t := A3-READ ∷ []) []))
+      (lose v t (anchor-lost d) A3-READ))
       bad
 
   -- the exchange of the anchor of the descriptor in hand

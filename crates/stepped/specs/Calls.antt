@@ -20,10 +20,10 @@ use Rattle.pieces.specs.StripSizes.{orderOf}
 use Rattle.plain.specs.Moves.{nothing}
 use Rattle.plain.specs.Calls.{Start, Call, start, allocate, free, leave, step, Lengths, StartedLengths}
 use Rattle.control.specs.Layout.{Anchor, Marks, TaskUnit, TaskPlace, TaskClass, DescriptorRegion, DescriptorClass}
-use Rattle.control.specs.Layout.{Map, Tasks, Regions, seen}
+use Rattle.control.specs.Layout.{Map, Tasks, Regions, TaskLost, seen}
 use Rattle.control.specs.Places.{IDLE, A1, F1, STRIP-TAKE, PLACES}
 use Rattle.control.specs.declared.answer.Answer.the-variants.{Accepted}
-use Rattle.stepped.specs.Outcome.{Outcome, refuse, bad, accept, Memories, Effect, effect}
+use Rattle.stepped.specs.Outcome.{Outcome, refuse, bad, accept, Memories, Effect, effect, stepEffect}
 use Rattle.stepped.specs.Ranges.{oneTo, isAnchor}
 use Rattle.stepped.specs.StripSteps.{beginFreeStrip}
 use Rattle.stepped.specs.Leaving.{beginLeave}
@@ -95,8 +95,8 @@ beginAllocate t size =
     cond (eqb size 0) (refuse 8)
     (cond (ltb LARGEST-STRIP size) (refuse 9)
     (cond (ltb LARGEST-SIZE size)
-    (accept nothing (TaskPlace t := STRIP-TAKE ∷ TaskClass t := orderOf size ∷ []) [])
-    (accept nothing (TaskPlace t := A1 ∷ TaskClass t := classOf size ∷ []) [])))
+    (accept nothing (TaskPlace t := STRIP-TAKE ∷ TaskClass t := orderOf size ∷ TaskLost t := 0 ∷ []) [])
+    (accept nothing (TaskPlace t := A1 ∷ TaskClass t := classOf size ∷ TaskLost t := 0 ∷ []) [])))
 
 -- the mark of the unit u, a block of the class c: "11 such a unit, but its mark is clear"; else the mark is cleared
 unfoldable pub freeMarked : View → ℕ → ℕ → ℕ → Outcome
@@ -107,6 +107,7 @@ freeMarked v t u c =
     (TaskPlace t := F1
     ∷ TaskClass t := c
     ∷ TaskUnit t := u
+    ∷ TaskLost t := 0
     ∷ Marks (u / WORD-MARKS) := withClear marks (u % WORD-MARKS)
     ∷ [])
     [])
@@ -161,6 +162,7 @@ lengths lent =
 abbrev pub startEffect : Start → Lent → Effect
 startEffect b lent = record {
   answer = Accepted;
+  lost = 0;
   decided = nothing;
   control = startImage b (length (lent .area) / REGION-BYTES);
   area = lent .area;
@@ -204,7 +206,7 @@ effectIn (start b) lent s = startIn b lent s
 effectIn (allocate t size) lent s = effect (allocateOutcome (lengths lent) (seen (s .control)) t size) s
 effectIn (free t u) lent s = effect (freeOutcome (lengths lent) (seen (s .control)) t u) s
 effectIn (leave t) lent s = effect (leaveOutcome (lengths lent) (seen (s .control)) t) s
-effectIn (step t) lent s = effect (stepOutcome (lengths lent) (seen (s .control)) (Link.link (s .area)) t) s
+effectIn (step t) lent s = stepEffect t (stepOutcome (lengths lent) (seen (s .control)) (Link.link (s .area)) t) s
 
 -- the memories s, lent to a call
 abbrev pub lending : Memories → Lent

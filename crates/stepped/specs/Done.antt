@@ -6,8 +6,8 @@ use Prim.Native.Nat.{ℕ, _*_, _≤_, _<_}
 use lib.ListN.{length}
 use Rattle.limits.specs.Limits.{CONTROL-BYTES, REGIONS, REGION-BYTES, TASKS, CLASSES}
 use Rattle.links.specs.Link.{withLinks}
-use Rattle.control.specs.Layout.{changed}
-use Rattle.control.specs.Answers.{numberOf}
+use Rattle.control.specs.Layout.{TaskLost, seen, changed}
+use Rattle.control.specs.Answers.{numberWith}
 use Rattle.control.specs.declared.answer.Answer.{Answer}
 use Rattle.stepped.specs.Outcome.{Outcome}
 
@@ -38,8 +38,8 @@ pub record DoneIn (o : Outcome) (c a c′ a′ : List ℕ) (r : Answer) : Type 0
   pub control : c′ ≡ changed (o .writes) c
   pub area : a′ ≡ withLinks (o .links) a
 
--- A function that is handed the control memory and the area, and answers by one number.
-pub record NumberIn (o : Outcome) (c a c′ a′ : List ℕ) (r : ℕ) : Type 0 where
-  pub number : r ≡ numberOf (o .answer)
+-- A function of a step of the task t that is handed the control memory and the area, and answers by one number.
+pub record NumberIn (o : Outcome) (t : ℕ) (c a c′ a′ : List ℕ) (r : ℕ) : Type 0 where
+  pub number : r ≡ numberWith (o .answer) (seen c′ (TaskLost t))
   pub control : c′ ≡ changed (o .writes) c
   pub area : a′ ≡ withLinks (o .links) a

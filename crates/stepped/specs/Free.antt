@@ -16,7 +16,7 @@ use Rattle.control.specs.Layout.{GroupCount, TaskPlace, TaskDescriptor, TaskReg
 use Rattle.control.specs.Places.{IDLE, F2, F3-READ, F3-LINK, F3-EXCHANGE, F4-CLEAR}
 use Rattle.control.specs.declared.answer.Answer.the-variants.{Freed}
 use Rattle.control.specs.declared.moves.Push.the-variants.{Release}
-use Rattle.stepped.specs.Outcome.{Outcome, bad, accept, over}
+use Rattle.stepped.specs.Outcome.{Outcome, bad, accept, over, lose}
 use Rattle.stepped.specs.Ranges.{oneTo, isTop, isBlock, isAnchor, hasFirst, hasRoom}
 use Rattle.stepped.specs.Lists.{pushPlace, f5}
 
@@ -141,7 +141,7 @@ module _ (v : View) (link : ℕ → ℕ) (regions t c : ℕ) where
       cond (isAnchor (v (Anchor d)))
       (cond (eqb (v (Anchor d)) word)
       (f3Won d word first g)
-      (accept (anchor-lost d) (TaskPlace t := F3-READ ∷ []) []))
+      (lose v t (anchor-lost d) F3-READ))
       bad
 
   -- "Exchange", by the task's notes

@@ -10,7 +10,7 @@ use Rattle.limits.specs.Limits.{CLASSES}
 use Rattle.fields.specs.Columns.{View, Write, _:=_}
 use Rattle.classes.specs.Classes.{perRegion}
 use Rattle.plain.specs.Moves.{Decided, nothing}
-use Rattle.control.specs.Layout.{CacheCount, GroupCount, TaskPlace, TaskClass, TaskUnit, LEAVING}
+use Rattle.control.specs.Layout.{CacheCount, GroupCount, TaskLost, TaskPlace, TaskClass, TaskUnit, LEAVING}
 use Rattle.control.specs.Places.{IDLE, F2, LEAVE-END}
 use Rattle.control.specs.declared.answer.Answer.the-variants.{Freed}
 use Rattle.stepped.specs.Outcome.{Outcome, bad, accept, over}
@@ -46,7 +46,7 @@ module _ (v : View) (t : ℕ) where
 
   -- "Beginning a request does no step": that of leaving changes the task's own fields alone
   abbrev pub beginLeave : Outcome
-  beginLeave = leaveFrom 0 nothing (TaskUnit t := LEAVING ∷ [])
+  beginLeave = leaveFrom 0 nothing (TaskUnit t := LEAVING ∷ TaskLost t := 0 ∷ [])
 
   -- the last step: "one further step, after all are empty, finishes the request"
   abbrev pub leaveEnd : Outcome

@@ -22,7 +22,7 @@ use Rattle.control.specs.declared.moves.Pop.{Pop}
 use Rattle.control.specs.declared.moves.Pop.the-variants.{Partial, Spare, Region}
 use Rattle.control.specs.declared.moves.Push.{Push}
 use Rattle.control.specs.declared.moves.Push.the-variants.{Retire, Back, Release, Offer}
-use Rattle.stepped.specs.Outcome.{Outcome, bad, accept, over}
+use Rattle.stepped.specs.Outcome.{Outcome, bad, accept, over, lose}
 use Rattle.stepped.specs.Ranges.{oneTo}
 use Rattle.stepped.specs.Leaving.{leaveFrom}
 
@@ -163,7 +163,7 @@ module _ (v : View) (regions t c : ℕ) where
       cond (oneTo items (itemOf word) && leb next items && leb (itemOf (v (Head ℓ))) items)
       (cond (eqb (v (Head ℓ)) word)
       (whenPopped p x (popped ℓ x) (Head ℓ := advancedWord word next ∷ []))
-      (accept (lost ℓ) (TaskPlace t := popPlace p ∷ []) []))
+      (lose v t (lost ℓ) (popPlace p)))
       bad
 
   -- ---- pushes
@@ -202,5 +202,5 @@ module _ (v : View) (regions t c : ℕ) where
       cond (ltb x items && leb (itemOf word) items && leb (itemOf (v (Head ℓ))) items)
       (cond (eqb (v (Head ℓ)) word)
       (whenPushed p (pushed ℓ x) (Head ℓ := advancedWord word (x + 1) ∷ []))
-      (accept (lost ℓ) (TaskPlace t := pushPlace p ∷ []) []))
+      (lose v t (lost ℓ) (pushPlace p)))
       bad

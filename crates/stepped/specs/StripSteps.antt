@@ -15,7 +15,7 @@ use Rattle.strip_tree.specs.TreeMoves.{find, halving, joining, nodeOf, slotOfNo
 use Rattle.strip_tree.specs.SlotStates.{IN-HAND, FREE-BEGUN, LAST-BYTE, orderIn}
 use Rattle.pieces.specs.StripUnits.{stripUnit, slotOfUnit, isStripUnit}
 use Rattle.plain.specs.Moves.{nothing, strip-taken, strip-given, no-strip}
-use Rattle.control.specs.Layout.{FreeNodes, SlotByte, TaskPlace, TaskUnit}
+use Rattle.control.specs.Layout.{FreeNodes, SlotByte, TaskLost, TaskPlace, TaskUnit}
 use Rattle.control.specs.Places.{IDLE, STRIP-GIVE}
 use Rattle.control.specs.declared.answer.Answer.the-variants.{Allocated, Freed, NoStrip}
 use Rattle.stepped.specs.Outcome.{Outcome, refuse, bad, accept, over}
@@ -88,7 +88,9 @@ module _ (v : View) (t : ℕ) where
       cond (eqb x 0) (refuse 10)
       (cond (leb x LAST-BYTE && canBegin s (orderIn x))
       (cond (leb FREE-BEGUN x) (refuse 11)
-      (accept nothing (TaskPlace t := STRIP-GIVE ∷ TaskUnit t := u ∷ SlotByte s := (x + ORDERS) ∷ []) []))
+      (accept nothing
+      (TaskPlace t := STRIP-GIVE ∷ TaskUnit t := u ∷ TaskLost t := 0 ∷ SlotByte s := (x + ORDERS) ∷ [])
+      []))
       bad)
 
   -- the beginning of a free of the unit u from 8,192 up

@@ -55,22 +55,25 @@ fn at(
 ) -> u64
     requires { ⌜ GivenArea (now control) (now area) regions task class × (A1 ≤ place) ⌝ }
     ensures { λ r. ⌜ NumberIn (stepAt (seen (now (control .entry))) (link (now (area .entry))) regions task class place)
-        (now (control .entry)) (now (area .entry)) (now (control .exit)) (now (area .exit)) r ⌝ }
+        task (now (control .entry)) (now (area .entry)) (now (control .exit)) (now (area .exit)) r ⌝ }
 {
     if place == places::A1 {
-        return answer::number(steps_allocate::cache::take(control, area, regions, task, class));
+        let taken = steps_allocate::cache::take(control, area, regions, task, class);
+        return answer::step_number(taken, control, task);
     }
     if place == places::F1 {
-        return answer::number(steps_group::cache::put(control, area, regions, task, class));
+        let put = steps_group::cache::put(control, area, regions, task, class);
+        return answer::step_number(put, control, task);
     }
-    answer::number(later(control, area, regions, task, class, place))
+    let done = later(control, area, regions, task, class, place);
+    answer::step_number(done, control, task)
 }
 
 // One step of a task: 7 where it has no request. Caller: the exported call, after the tests.
 pub fn step(control: &mut [u8], area: &mut [u8], regions: usize, task: usize) -> u64
     requires { ⌜ Control (now control) × (1 ≤ regions) × (regions ≤ REGIONS)
         × (length (now area) ≡ REGION-BYTES * regions) × (task < TASKS) ⌝ }
-    ensures { λ r. ⌜ NumberIn (stepOf (seen (now (control .entry))) (link (now (area .entry))) regions task)
+    ensures { λ r. ⌜ NumberIn (stepOf (seen (now (control .entry))) (link (now (area .entry))) regions task) task
         (now (control .entry)) (now (area .entry)) (now (control .exit)) (now (area .exit)) r ⌝ }
 {
     let place = tasks::task_place(control, task);

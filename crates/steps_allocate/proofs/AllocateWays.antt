@@ -17,7 +17,7 @@ use Rattle.control.specs.declared.answer.Answer.{Answer}
 use Rattle.control.specs.Places.{IDLE, POP-PARTIAL, PUSH-RETIRE, A3-READ, A3-EXCHANGE, A4}
 use Rattle.stepped.specs.Done.{Done, DoneIn}
 use Rattle.stepped.proofs.Doing.{does, does-in}
-use Rattle.stepped.specs.Outcome.{Outcome, bad, accept, over}
+use Rattle.stepped.specs.Outcome.{Outcome, bad, accept, over, lose}
 use Rattle.stepped.specs.Ranges.{isTop, isBlock, isAnchor, hasChain}
 use Rattle.steps_allocate.specs.AnchorWords.{isEmpty, fullWord}
 use Rattle.stepped.specs.Allocate.{a1, a1Take, a3Read, a3ReadOf, a3Exchange, a3ExchangeOf}
@@ -108,7 +108,7 @@ module _ (v : View) (link : ℕ → ℕ) (regions t c : ℕ) where
 
     module _ (a : isAnchor (v (Anchor d)) ≡ true) where
       pub a3ExchangeOf-lost : (v (Anchor d) ≡ word → ⊥)
-          → a3ExchangeOf v link regions t c d word ≡ accept (anchor-lost d) (TaskPlace t := A3-READ ∷ []) []
+          → a3ExchangeOf v link regions t c d word ≡ lose v t (anchor-lost d) A3-READ
       unfolding a3ExchangeOf
       a3ExchangeOf-lost h = rw (a, ne-eqb _ _ h)
 

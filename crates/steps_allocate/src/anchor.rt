@@ -2,6 +2,7 @@
 // lost: read again."
 use classes::table;
 use control::answer::Answer;
+use control::losts;
 use control::notes;
 use control::places;
 use control::regions;
@@ -143,6 +144,7 @@ fn exchange_of(
     }
     if found != word {
         tasks::set_task_place(control, task, places::A3_READ);
+        losts::count(control, task);
         return Answer::Accepted;
     }
     let region = regions::descriptor_region(control, descriptor);

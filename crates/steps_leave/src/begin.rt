@@ -1,6 +1,7 @@
 // The beginning of leaving.
 use crate::next;
 use control::answer::Answer;
+use control::losts;
 use control::notes;
 ghost use Prim.Native.Nat.{_<_};
 ghost use Rattle.limits.specs.Limits.{TASKS};
@@ -18,5 +19,6 @@ pub fn begin(control: &mut [u8], task: usize) -> Answer
         return Answer::Refused(14);
     }
     notes::set_task_unit(control, task, notes::LEAVING);
+    losts::set_task_lost(control, task, 0);
     Answer::Accepted
 }

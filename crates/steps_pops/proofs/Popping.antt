@@ -13,7 +13,7 @@ use Rattle.control.specs.declared.answer.Answer.the-variants.{Accepted}
 use Rattle.control.specs.declared.moves.Pop.{Pop}
 use Rattle.control.specs.declared.moves.Pop.the-variants.{Partial, Spare, Region}
 use Rattle.control.specs.Places.{TO-NEXT, TO-EXCHANGE}
-use Rattle.stepped.specs.Outcome.{bad, accept, over}
+use Rattle.stepped.specs.Outcome.{bad, accept, over, lose}
 use Rattle.stepped.specs.Lists.{howMany, nextField, handField, popPlace, popList, popItems, whenEmpty, whenPopped}
 use Rattle.stepped.specs.Lists.{popRead, popNextOf, popNext, popExchange}
 use Rattle.stepped.specs.Done.{Done}
@@ -122,7 +122,7 @@ module _ (v : View) (regions t c : ℕ) where
             -- a is the place of the head read
             pub exchange-lost : {a : ℕ} → a ≡ popPlace p → v (Head (popList p c)) ≢ v (TaskHead t)
                 → popExchange v regions t c p
-                ≡ accept (lost (popList p c)) (TaskPlace t := a ∷ []) []
+                ≡ lose v t (lost (popList p c)) a
             unfolding popExchange
             exchange-lost d n = rw (d, le-leb _ _ h, le-leb _ _ k, le-leb _ _ l, le-leb _ _ m, ne-eqb _ _ n)
 

@@ -2,6 +2,7 @@
 // its memories and its task; the place tells the reason.
 use control::answer::Answer;
 use control::lists;
+use control::losts;
 use control::moves::Pop;
 use control::notes;
 use control::places;
@@ -113,6 +114,7 @@ pub fn exchange(control: &mut [u8], regions: usize, task: usize, class: usize, p
     }
     if word != noted {
         tasks::set_task_place(control, task, reason::pop_place(pop));
+        losts::count(control, task);
         return Answer::Accepted;
     }
     take(

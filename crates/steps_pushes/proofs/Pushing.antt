@@ -13,7 +13,7 @@ use Rattle.control.specs.declared.answer.Answer.{Answer}
 use Rattle.control.specs.declared.moves.Push.{Push}
 use Rattle.control.specs.declared.moves.Push.the-variants.{Release, Offer}
 use Rattle.control.specs.Places.{TO-NEXT, TO-EXCHANGE}
-use Rattle.stepped.specs.Outcome.{bad, accept}
+use Rattle.stepped.specs.Outcome.{bad, accept, lose}
 use Rattle.stepped.specs.Lists.{howMany, nextField, handField, pushPlace, pushList, pushItems, whenPushed, pushRead}
 use Rattle.stepped.specs.Lists.{pushNext, pushExchange}
 use Rattle.stepped.specs.Done.{Done}
@@ -108,7 +108,7 @@ module _ (v : View) (regions t c : ℕ) (p : Push) where
         -- a is the place of the head read
         pub exchange-lost : {a : ℕ} → a ≡ pushPlace p → v (Head (pushList p c)) ≢ v (TaskHead t)
             → pushExchange v regions t c p
-            ≡ accept (lost (pushList p c)) (TaskPlace t := a ∷ []) []
+            ≡ lose v t (lost (pushList p c)) a
         unfolding pushExchange
         exchange-lost d n = rw (d, lt-ltb _ _ h, le-leb _ _ k, le-leb _ _ m, ne-eqb _ _ n)
 

@@ -2,6 +2,7 @@
 // its memories and its task; the place tells the reason.
 use control::answer::Answer;
 use control::lists;
+use control::losts;
 use control::moves::Push;
 use control::notes;
 use control::places;
@@ -168,6 +169,7 @@ pub fn exchange(control: &mut [u8], regions: usize, task: usize, class: usize, p
     }
     if word != noted {
         tasks::set_task_place(control, task, reason::push_place(push));
+        losts::count(control, task);
         return Answer::Accepted;
     }
     let advanced = heads::advanced(noted, (item + 1) as u32);

@@ -18,7 +18,7 @@ use Rattle.plain.specs.Moves.{nothing, gave, anchor-lost}
 use Rattle.control.specs.Layout.{Anchor, TaskAnchor, GroupFirst, GroupLast, GroupCount, TaskPlace, TaskDescriptor}
 use Rattle.control.specs.Layout.{TaskRegion, TaskState, Map}
 use Rattle.control.specs.Places.{PUSH-OFFER, F1, F2, F3-READ, F3-LINK, F3-EXCHANGE, F4-CLEAR}
-use Rattle.stepped.specs.Outcome.{bad, accept}
+use Rattle.stepped.specs.Outcome.{bad, accept, lose}
 use Rattle.stepped.specs.Ranges.{isAnchor, hasFirst, hasRoom}
 use Rattle.stepped.specs.Leaving.{leaveFrom}
 use Rattle.stepped.specs.Lists.{f5}
@@ -163,7 +163,7 @@ module _ (v : View) (link : ℕ → ℕ) (regions t c : ℕ) where
     anchor-bad h = rw h
 
     pub anchor-changed : isAnchor (v (Anchor d)) ≡ true → (v (Anchor d) ≡ word → ⊥)
-        → f3ExchangeOf v link regions t c d word first g ≡ accept (anchor-lost d) (TaskPlace t := F3-READ ∷ []) []
+        → f3ExchangeOf v link regions t c d word first g ≡ lose v t (anchor-lost d) F3-READ
     unfolding f3ExchangeOf
     anchor-changed h e = rw (h, ne-eqb _ _ e)
 

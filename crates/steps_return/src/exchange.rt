@@ -136,6 +136,7 @@ fn exchange_of(
             return Answer::Refused(14);
         }
         control::tasks::set_task_place(control, task, places::F3_READ);
+        control::losts::count(control, task);
         return Answer::Accepted;
     }
     let due = Due {

@@ -15,7 +15,7 @@ use Rattle.strip_tree.specs.TreeMoves.{find, halving, joining, nodeOf, slotOfNo
 use Rattle.strip_tree.specs.SlotStates.{IN-HAND, FREE-BEGUN, LAST-BYTE, orderIn}
 use Rattle.pieces.specs.StripUnits.{stripUnit, slotOfUnit, isStripUnit}
 use Rattle.plain.specs.Moves.{nothing, strip-taken, strip-given, no-strip}
-use Rattle.control.specs.Layout.{changed, SlotByte, TaskPlace, TaskUnit}
+use Rattle.control.specs.Layout.{changed, SlotByte, TaskLost, TaskPlace, TaskUnit}
 use Rattle.control.specs.Places.{IDLE, STRIP-GIVE}
 use Rattle.control.specs.declared.answer.Answer.the-variants.{Allocated, Freed, NoStrip}
 use Rattle.stepped.specs.Outcome.{refuse, bad, accept, over}
@@ -131,6 +131,8 @@ module _ (v : View) (t : ℕ) where
 
             pub begin-done : x < FREE-BEGUN
                 → beginFreeAt v t u s
-                ≡ accept nothing (TaskPlace t := STRIP-GIVE ∷ TaskUnit t := u ∷ SlotByte s := (x + ORDERS) ∷ []) []
+                ≡ accept nothing
+                (TaskPlace t := STRIP-GIVE ∷ TaskUnit t := u ∷ TaskLost t := 0 ∷ SlotByte s := (x + ORDERS) ∷ [])
+                []
             unfolding beginFreeAt
             begin-done m = rw (← read, ne-eqb _ _ h, le-leb x _ l, ← order, d, lt-leb _ _ m)

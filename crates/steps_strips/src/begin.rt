@@ -32,6 +32,7 @@ fn begin_at(control: &mut [u8], task: usize, unit: usize, slot: usize) -> Answer
     }
     control::tasks::set_task_place(control, task, places::STRIP_GIVE);
     control::notes::set_task_unit(control, task, unit as u16);
+    control::losts::set_task_lost(control, task, 0);
     control::strips::set_slot_byte(control, slot, byte + limits::ORDERS as u8);
     Answer::Accepted
 }

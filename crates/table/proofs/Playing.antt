@@ -1,6 +1,7 @@
 -- The records treated one after the other: what is written and what is still ahead make up the whole output.
 use Prim.Native.Nat.{ℕ, zero, suc, _+_, _*_, _-_, _^_, _≤_, _<_}
 use mathlib.Core.Path.{_≡_, refl, sym, ap, _∙_}
+use mathlib.Core.Bool.{Bool}
 use mathlib.Core.List.{List, _++_, append-assoc}
 use native.Mathlib.Omega.{arith}
 use borrow.Author.Tests.{lt-ltb, le-ltb}
@@ -16,22 +17,23 @@ use Rattle.schedule.specs.Stand.{shown, table}
 use Rattle.schedule.specs.Bytes.{onBytes, together, Does}
 use Rattle.schedule.proofs.Playing.{further}
 use Rattle.text.specs.Texts.{Appended}
-use Rattle.text.specs.Lines.{LINE-BYTES, columnsText, lineText, totalText}
-use Rattle.text.proofs.Digits.{short-line}
+use Rattle.text.specs.Lines.{COLUMNS-BYTES, LINE-BYTES, columnsText, lineText, totalText}
+use Rattle.text.proofs.Digits.{short-columns, short-line}
 use Rattle.table.specs.Output.{TABLE-BYTES, rowsText, tableText, output}
 
--- the text of a line
-abbrev textOf : Line → List ℕ
-textOf l = lineText (l .number) (l .kind) (l .code) (l .value)
+-- the text of a line, with its lost exchanges or without them
+abbrev textOf : Bool → Line → List ℕ
+textOf b l = lineText b (l .number) (l .kind) (l .code) (l .value) (l .lost)
 
 -- the text of the last line
 abbrev lastText : Tally → List ℕ
 lastText y = totalText (y .finished) (y .accepted) (y .others)
 
-module _ (input : List ℕ) where
+-- a table that has the lost exchanges, where b is true, or has not
+module _ (b : Bool) (input : List ℕ) where
   -- the text from the record n at the byte `at` on, for at most f records
   abbrev ahead : ℕ → ℕ → ℕ → Tally → Memories → List ℕ
-  ahead f at n y s = let t = table onBytes f input at n y s in rowsText (t .0) (t .1)
+  ahead f at n y s = let t = table onBytes f input at n y s in rowsText b (t .0) (t .1)
 
   -- behind the last record only the last line is ahead
   ended : (f at n : ℕ) (y : Tally) (s : Memories) → length input ≤ at → ahead f at n y s ≡ lastText y
@@ -43,7 +45,7 @@ module _ (input : List ℕ) where
   treats : (f at n : ℕ) (y : Tally) (s : Memories) → at < length input →
       let x = shown onBytes (entryAt input at n) s in
       ahead (suc f) at n y s
-      ≡ textOf (x .1) ++ ahead f (endOf (recordAt input at) at (length input)) (n + 1) (counted y (x .1 .code)) (x .0)
+      ≡ textOf b (x .1) ++ ahead f (endOf (recordAt input at) at (length input)) (n + 1) (counted y (x .1 .code)) (x .0)
   unfolding table rowsText
   treats f at n y s h = rw (lt-ltb at (length input) h) refl
 
@@ -54,8 +56,8 @@ module _ (input : List ℕ) where
     pub enough : length input - at ≤ fuel
     pub few : n ≤ at
     pub most : n ≤ length input
-    pub room : used ≤ length columnsText + LINE-BYTES * n
-    pub said : output input s₀ ≡ take used out ++ ahead fuel at n y s
+    pub room : used ≤ COLUMNS-BYTES + LINE-BYTES * n
+    pub said : output b input s₀ ≡ take used out ++ ahead fuel at n y s
 
   -- what is used lies within the room for the longest table
   pub within : {s₀ s : Memories} {used at n : ℕ} {y : Tally} {out : List ℕ} → TableAhead s₀ used at n y s out
@@ -64,7 +66,7 @@ module _ (input : List ℕ) where
   within A long room = omega (arith, A .room, A .most, long, room)
 
   -- the column names are written
-  pub begins : {before out : List ℕ} {used : ℕ} {y : Tally} (s : Memories) → Appended before out 0 columnsText used
+  pub begins : {before out : List ℕ} {used : ℕ} {y : Tally} (s : Memories) → Appended before out 0 (columnsText b) used
       → y ≡ noneCounted
       → TableAhead s used 0 0 y s out
   unfolding output tableText
@@ -73,20 +75,21 @@ module _ (input : List ℕ) where
     enough = omega arith;
     few = omega arith;
     most = omega arith;
-    room = omega (arith, w .end);
+    room = omega (arith, w .end, short-columns b);
     said = rw (e, w .text-is) refl;
   }
 
   -- the line of one of the first 100,000 records is short
   pub short : (at n : ℕ) {e : Entry} → e ≡ entryAt input at n → n < 10 ^ 5
       → {c a u c′ a′ u′ : List ℕ} {line : Line} → Does (shown onBytes e) c a u c′ a′ u′ line
-      → line .kind < 256 → line .value < 2 ^ 64 → length (textOf line) ≤ LINE-BYTES
-  short at n {e} is few {line = line} D kind value =
-      short-line (line .number) (line .kind) (line .code) (line .value)
+      → line .kind < 256 → line .lost < 2 ^ 32 → length (textOf b line) ≤ LINE-BYTES
+  short at n {e} is few {line = line} D kind lost =
+      short-line b (line .number) (line .kind) (line .code) (line .value) (line .lost)
       (omega (arith, ap (λ (l : Line). l .number) (D .answer), ap (λ (x : Entry). x .number) is, few))
       (omega (arith, kind))
       (omega (arith, ap (λ (l : Line). l .code) (D .answer)))
-      (omega (arith, value))
+      (omega (arith, ap (λ (l : Line). l .value) (D .answer)))
+      (omega (arith, lost))
 
   -- a line more is written
   module _ {s₀ s : Memories} {used at n : ℕ} {y : Tally} {out : List ℕ} (A : TableAhead s₀ used at n y s out)
@@ -94,12 +97,12 @@ module _ (input : List ℕ) where
     pub goes-on : {e : Entry} → e ≡ entryAt input at n
         → {c a u : List ℕ} {line : Line} → Does (shown onBytes e) (s .control) (s .area) (s .strips) c a u line
         → {out′ : List ℕ} {used′ : ℕ}
-        → Appended out out′ used (textOf line) used′ × (length (textOf line) ≤ LINE-BYTES)
+        → Appended out out′ used (textOf b line) used′ × (length (textOf b line) ≤ LINE-BYTES)
         → {next : ℕ} {z : Tally} → z ≡ counted y (line .code) → next ≡ endOf (e .body) at (length input)
         → TableAhead s₀ used′ next (n + 1) z (together c a u) out′
     goes-on {e} is {c} {a} {u} {line} D {out′} {used′} w {next} {z} counts end = by (A .fuel) (A .enough) (A .said)
       where
-        by : (f : ℕ) → length input - at ≤ f → output input s₀ ≡ take used out ++ ahead f at n y s
+        by : (f : ℕ) → length input - at ≤ f → output b input s₀ ≡ take used out ++ ahead f at n y s
             → TableAhead s₀ used′ next (n + 1) z (together c a u) out′
         by zero l q = absurd (omega arith)
         by (suc f) l q = record {
@@ -115,7 +118,7 @@ module _ (input : List ℕ) where
               rw (end, counts, D .answer, D .control-is, D .area-is, D .strips-is, is)
               (q
               ∙ ap (λ (t : List ℕ). take used out ++ t) (treats f at n y s h)
-              ∙ sym (append-assoc (take used out) (textOf (x .1)) rest)
+              ∙ sym (append-assoc (take used out) (textOf b (x .1)) rest)
               ∙ ap (λ (t : List ℕ). t ++ rest) (sym (rw (D .answer, is) at (w .0 .text-is))));
         }
 
@@ -123,7 +126,7 @@ module _ (input : List ℕ) where
   pub ends : {s₀ s : Memories} {used at n : ℕ} {y : Tally} {before out : List ℕ} → TableAhead s₀ used at n y s out
       → length input ≤ at
       → length out ≡ length before → {last : List ℕ} {r : ℕ} → Appended out last used (lastText y) r
-      → Appended before last 0 (output input s₀) r
+      → Appended before last 0 (output b input s₀) r
   ends {s₀} {s} {used} {at} {n} {y} {before} {out} A h l {last} {r} w =
       let text = w .text-is ∙ sym (A .said ∙ ap (λ (t : List ℕ). take used out ++ t) (ended (A .fuel) at n y s h)) in
       record {

@@ -1,6 +1,7 @@
 -- The laws of a number's decimal text.
 use Prim.Native.Nat.{ℕ, zero, suc, _+_, _/_, _%_, _^_, _≤_, _<_}
 use mathlib.Core.Path.{_≡_, ap, _∙_}
+use mathlib.Core.Bool.{Bool, true, false}
 use mathlib.Core.List.{List, [], _∷_, _++_}
 use native.Mathlib.Omega.{arith}
 use native.Mathlib.Nat.{pow-succ'}
@@ -8,7 +9,7 @@ use native.Mathlib.Decide.{decLt}
 use borrow.Author.Tests.{lt-ltb, le-ltb}
 use lib.ListN.{length, length-append}
 use Rattle.text.specs.Texts.{digits, decimal}
-use Rattle.text.specs.Lines.{LINE-BYTES, lineText}
+use Rattle.text.specs.Lines.{COLUMNS-BYTES, LINE-BYTES, columnsText, lineText}
 
 -- more digits than a number needs change nothing
 enough : (f g n : ℕ) → n < f → n < g → digits f n ≡ digits g n
@@ -58,16 +59,32 @@ short (suc f) k n h = elim (decLt n 10) [
 pub twenty : (n : ℕ) → n < 2 ^ 64 → length (decimal n) ≤ 20
 twenty n h = short (suc n) 19 n (omega arith)
 
+-- the line of column names has at most COLUMNS-BYTES bytes
+pub short-columns : (shown : Bool) → length (columnsText shown) ≤ COLUMNS-BYTES
+short-columns true = omega arith
+short-columns false = omega arith
+
 -- the line of a record of the stand has at most LINE-BYTES bytes
-pub short-line : (number kind code value : ℕ) → number < 10 ^ 5 → kind < 10 ^ 3 → code < 10 ^ 3 → value < 10 ^ 20
-    → length (lineText number kind code value) ≤ LINE-BYTES
+pub short-line : (shown : Bool) (number kind code value lost : ℕ)
+    → number < 10 ^ 5 → kind < 10 ^ 3 → code < 10 ^ 3 → value < 10 ^ 8 → lost < 10 ^ 10
+    → length (lineText shown number kind code value lost) ≤ LINE-BYTES
 unfolding lineText
-short-line number kind code value a b c d =
+short-line true number kind code value lost a b c d e =
     simp length-append
     (omega (
       arith,
       short (suc number) 4 number a,
       short (suc kind) 2 kind b,
       short (suc code) 2 code c,
-      short (suc value) 19 value d,
+      short (suc value) 7 value d,
+      short (suc lost) 9 lost e,
+    ))
+short-line false number kind code value lost a b c d e =
+    simp length-append
+    (omega (
+      arith,
+      short (suc number) 4 number a,
+      short (suc kind) 2 kind b,
+      short (suc code) 2 code c,
+      short (suc value) 7 value d,
     ))

@@ -43,22 +43,38 @@ fn word(out: &mut [u8], at: usize, text: &[u8]) -> usize
     at + i
 }
 
-// The line of column names.
-pub fn columns(out: &mut [u8]) -> usize
+// The line of column names, with that of the lost exchanges or without it.
+pub fn columns(out: &mut [u8], shown: bool) -> usize
     requires { ⌜ LINE-ROOM ≤ length (now out) ⌝ }
-    ensures { λ r. ⌜ Appended (now (out .entry)) (now (out .exit)) 0 columnsText r ⌝ }
+    ensures { λ r. ⌜ Appended (now (out .entry)) (now (out .exit)) 0 (columnsText shown) r ⌝ }
 {
+    if shown {
+        return word(out, 0, b"record kind code value lost\n");
+    }
     word(out, 0, b"record kind code value\n")
 }
 
-// The line of a record.
-pub fn line(out: &mut [u8], number: u64, kind: u64, code: u64, value: u64) -> usize
+// The line of a record, with its lost exchanges or without them.
+pub fn line(
+    out: &mut [u8],
+    number: u64,
+    kind: u64,
+    code: u64,
+    value: u64,
+    lost: u64,
+    shown: bool,
+) -> usize
     requires { ⌜ LINE-ROOM ≤ length (now out) ⌝ }
-    ensures { λ r. ⌜ Appended (now (out .entry)) (now (out .exit)) 0 (lineText number kind code value) r ⌝ }
+    ensures { λ r.
+        ⌜ Appended (now (out .entry)) (now (out .exit)) 0 (lineText shown number kind code value lost) r ⌝ }
 {
     let first = field(out, 0, number, b' ');
     let second = field(out, first, kind, b' ');
     let third = field(out, second, code, b' ');
+    if shown {
+        let fourth = field(out, third, value, b' ');
+        return field(out, fourth, lost, b'\n');
+    }
     field(out, third, value, b'\n')
 }
 

@@ -13,12 +13,12 @@ use Rattle.table.proofs.write.Statement.{statement}
 use Rattle.table.proofs.write.Tie as tie
 
 abbrev Inv-loop : tie.InvT-loop
-Inv-loop control₀ area₀ strips input out₀ used₀ counts₀ number₀ at₀ control area out used counts number at =
-    TableAhead input (together control₀ area₀ strips) used at number counts (together control area strips) out
+Inv-loop control₀ area₀ strips input out₀ shown used₀ counts₀ number₀ at₀ control area out used counts number at =
+    TableAhead shown input (together control₀ area₀ strips) used at number counts (together control area strips) out
     × (length control ≡ length control₀) × (length area ≡ length area₀) × (length out ≡ length out₀)
 
 abbrev μ-loop : tie.MeasureT-loop
-μ-loop control₀ area₀ strips input out₀ used₀ counts₀ number₀ at₀ control area out used counts number at =
+μ-loop control₀ area₀ strips input out₀ shown used₀ counts₀ number₀ at₀ control area out used counts number at =
     length input - at
 
 columns-requires : tie.Need-columns-requires Inv-loop μ-loop
@@ -28,7 +28,7 @@ empty-requires : tie.Need-empty-requires Inv-loop μ-loop
 empty-requires c κs = tt
 
 loop-holds : tie.Need-loop-holds Inv-loop μ-loop
-loop-holds c = (begins _ _ (c .before .before .before .columns .ensures) (c .empty .ensures), refl, refl, refl)
+loop-holds c = (begins _ _ _ (c .before .before .before .columns .ensures) (c .empty .ensures), refl, refl, refl)
 
 numbered-requires : tie.Need-numbered-requires Inv-loop μ-loop
 numbered-requires c κs = search needs
@@ -48,7 +48,7 @@ sub-line c =
     let at-loop = c .before .before .before .before .before .before .before .before .before .before in
     let begun = at-loop .before .before .before .before in
     let start = begun .before .before .before .before .before .before .before in
-    within _ (at-loop .loop .inv .0) (start .pre .1)
+    within _ _ (at-loop .loop .inv .0) (start .pre .1)
     (omega (arith, at-loop .loop .inv .3, begun .columns .ensures .same-length, start .pre .2))
 
 part-line-start : tie.Need-part-line-start Inv-loop μ-loop
@@ -56,7 +56,7 @@ part-line-start c =
     let at-loop = c .before .before .before .before .before .before .before .before .before .before in
     let begun = at-loop .before .before .before .before in
     let start = begun .before .before .before .before .before .before .before in
-    within _ (at-loop .loop .inv .0) (start .pre .1)
+    within _ _ (at-loop .loop .inv .0) (start .pre .1)
     (omega (arith, at-loop .loop .inv .3, begun .columns .ensures .same-length, start .pre .2))
 
 part-line-end : tie.Need-part-line-end Inv-loop μ-loop
@@ -65,28 +65,32 @@ part-line-end c = omega arith
 cast-line : tie.Need-cast-line Inv-loop μ-loop
 cast-line c = search needs
 
+cast-line-2 : tie.Need-cast-line-2 Inv-loop μ-loop
+cast-line-2 c = search needs
+
 line-requires : tie.Need-line-requires Inv-loop μ-loop
 line-requires c κs =
-    let at-loop = c .before .before .before .before .before .before .before .before .before .before .before .before in
+    let at-loop =
+    c .before .before .before .before .before .before .before .before .before .before .before .before .before in
     omega (arith, mid-len (at-loop .loop .used) (length (at-loop .loop .out)) (at-loop .loop .out) (omega arith))
 
 add-used : tie.Need-add-used Inv-loop μ-loop
 add-used c =
-    let treated = c .before .before .before .before .before .before .before .before .before .before in
+    let treated = c .before .before .before .before .before .before .before .before .before .before .before in
     let read = treated .before .before .before in
     let at-loop = read .before .before in
     let start = at-loop .before .before .before .before .before .before .before .before .before .before .before in
     let inv = at-loop .loop .inv in
     let short-is =
-    short (start .args .input .now) (at-loop .loop .at) (at-loop .loop .number) (read .numbered .ensures)
-    (omega (arith, inv .0 .few, start .pre)) (treated .treat-with .ensures .0)
+    short (start .args .shown) (start .args .input .now) (at-loop .loop .at) (at-loop .loop .number)
+    (read .numbered .ensures) (omega (arith, inv .0 .few, start .pre)) (treated .treat-with .ensures .0)
     (omega (arith, treated .treat-with .ok)) (omega (arith, treated .treat-with .ok)) in
     omega (arith, short-is, c .before .before .line2 .ensures .end, inv .0 .room, inv .0 .most, start .pre)
 
 end-requires : tie.Need-end-requires Inv-loop μ-loop
 end-requires c κs =
     let ended = c .before .before .before .before .before .before .before .before in
-    let at-test = ended .before .before .before .before .before .before .before in
+    let at-test = ended .before .before .before .before .before .before .before .before in
     omega (
       arith,
       at-test .loop-test .taken,
@@ -96,7 +100,7 @@ end-requires c κs =
 add-number : tie.Need-add-number Inv-loop μ-loop
 add-number c =
     let ended = c .before .before .before .before .before .before .before .before in
-    let at-test = ended .before .before .before .before .before .before .before .before in
+    let at-test = ended .before .before .before .before .before .before .before .before .before in
     let at-loop = at-test .before in
     omega (
       arith,
@@ -108,7 +112,7 @@ add-number c =
 loop-less : tie.Need-loop-less Inv-loop μ-loop
 loop-less c =
     let ended = c .before .before .before .before .before .before .before .before in
-    let read = ended .before .before .before .before .before .before .before in
+    let read = ended .before .before .before .before .before .before .before .before in
     let at-loop = read .before .before in
     let input =
     at-loop .before .before .before .before .before .before .before .before .before .before .before .args .input .now in
@@ -122,7 +126,7 @@ loop-less c =
 loop-again : tie.Need-loop-again Inv-loop μ-loop
 loop-again c =
     let line = c .before .before .before .before in
-    let treated = line .before .before .before .before .before .before .before .before in
+    let treated = line .before .before .before .before .before .before .before .before .before in
     let read = treated .before .before .before in
     let at-loop = read .before .before in
     let begun = at-loop .before .before .before .before in
@@ -130,7 +134,7 @@ loop-again c =
     let input = start .args .input .now in
     let inv = at-loop .loop .inv in
     let fits =
-    within input (inv .0) (start .pre .1)
+    within _ input (inv .0) (start .pre .1)
     (omega (arith, inv .3, begun .columns .ensures .same-length, start .pre .2)) in
     let line-is = line .line2 in
     let written =
@@ -138,9 +142,9 @@ loop-again c =
     let entry = read .numbered .ensures in
     let done = treated .treat-with .ensures in
     let short-is =
-    short input (at-loop .loop .at) (at-loop .loop .number) entry (omega (arith, inv .0 .few, start .pre)) (done .0)
+    short _ input (at-loop .loop .at) (at-loop .loop .number) entry (omega (arith, inv .0 .few, start .pre)) (done .0)
     (omega (arith, treated .treat-with .ok)) (omega (arith, treated .treat-with .ok)) in (
-      goes-on input (inv .0) (omega arith) entry (done .0) (written, short-is) (done .1) (c .end .ensures),
+      goes-on _ input (inv .0) (omega arith) entry (done .0) (written, short-is) (done .1) (c .end .ensures),
       search (needs, inv .1),
       search (needs, inv .2),
       written .same-length ∙ inv .3,
@@ -199,7 +203,7 @@ returns c =
     let total = c .before .before .total in
     let out = at-loop .loop .out in
     let written = at-part out (total .last .0) _ (at-loop .loop .used) (total .result) (omega arith) (total .ensures) in
-    ends _ (at-loop .loop .inv .0) (omega arith) (at-loop .loop .inv .3 ∙ columns .ensures .same-length) written
+    ends _ _ (at-loop .loop .inv .0) (omega arith) (at-loop .loop .inv .3 ∙ columns .ensures .same-length) written
 
 pub write-spec : {M : Type 1} → statement M
 write-spec =
@@ -216,6 +220,7 @@ write-spec =
     part-line-start
     part-line-end
     cast-line
+    cast-line-2
     line-requires
     add-used
     end-requires

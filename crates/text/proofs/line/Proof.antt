@@ -1,4 +1,4 @@
--- The four numbers one behind the other.
+-- The four or five numbers one behind the other.
 use borrow.Author.Needs.{needs}
 use Rattle.text.specs.Lines.{lineText}
 use Rattle.text.proofs.TextWriting.{both}
@@ -17,18 +17,42 @@ field-requires-3 c κs = search needs
 field-requires-4 : tie.Need-field-requires-4
 field-requires-4 c κs = search needs
 
+field-requires-5 : tie.Need-field-requires-5
+field-requires-5 c κs = search needs
+
 same-length : tie.Need-same-length
 same-length c = search needs
 
 returns : tie.Need-returns
 unfolding lineText
 returns c =
-    let fourth = c .before .before in
-    let third = fourth .before .before .before .before in
+    let fifth = c .before .before in
+    let fourth = fifth .before .before .before .before in
+    let shown = fourth .before .before .if1 .taken in
+    let third = fourth .before .before .before .before .before in
     let second = third .before .before .before .before in
     let first = second .before .before .before .before in
-    both (both (both (first .field .ensures .0) (second .field2 .ensures .0)) (third .field3 .ensures .0))
-    (fourth .field4 .ensures .0)
+    rw shown
+    (both (both (both (first .field .ensures .0) (second .field2 .ensures .0)) (third .field3 .ensures .0))
+    (both (fourth .field4 .ensures .0) (fifth .field5 .ensures .0)))
+
+field-requires-6 : tie.Need-field-requires-6
+field-requires-6 c κs = search needs
+
+same-length-2 : tie.Need-same-length-2
+same-length-2 c = search needs
+
+returns-2 : tie.Need-returns-2
+unfolding lineText
+returns-2 c =
+    let fourth = c .before .before in
+    let not-shown = fourth .before .before .if1 .left in
+    let third = fourth .before .before .before .before .before in
+    let second = third .before .before .before .before in
+    let first = second .before .before .before .before in
+    rw not-shown
+    (both (both (both (first .field .ensures .0) (second .field2 .ensures .0)) (third .field3 .ensures .0))
+    (fourth .field6 .ensures .0))
 
 pub line-spec : {M : Type 1} → statement M
 line-spec =
@@ -38,5 +62,9 @@ line-spec =
     field-requires-2
     field-requires-3
     field-requires-4
+    field-requires-5
     same-length
-    returns)
+    returns
+    field-requires-6
+    same-length-2
+    returns-2)

@@ -27,9 +27,11 @@ returns-5 c = does (idle-is _ _ _ (omega arith)) (c .before .before .strip2 .ens
 
 returns-6 : tie.Need-returns-6
 returns-6 c =
-    let stored = c .before .before in
-    served _ _ _ (omega arith) _ _ (stored .before .before .before .before .set-task-place .ensures)
-    (stored .set-task-class .ensures) (cc)
+    let lost = c .before .before in
+    let class = lost .before .before .before .before in
+    let place = class .before .before .before .before in
+    served _ _ _ (omega arith) _ _ (place .set-task-place .ensures) (class .set-task-class .ensures)
+    (lost .set-task-lost .ensures) (cc)
 
 pub begin-spec : {M : Type 1} → statement M
 begin-spec =
@@ -48,6 +50,7 @@ begin-spec =
     (λ c. search needs)
     strip-requires
     (λ c. search needs)
+    (λ c κs. search needs)
     (λ c κs. search needs)
     (λ c κs. search needs)
     (λ c. search needs)

@@ -12,10 +12,11 @@ returns c = done (too-large _ _ (omega arith) (omega arith)) refl (cc) refl
 
 returns-2 : tie.Need-returns-2
 returns-2 c =
-    let class = c .before .before in
+    let lost = c .before .before in
+    let class = lost .before .before .before .before in
     let place = class .before .before .before .before in
     strip-served _ _ (omega arith) (omega arith) _ _ (place .before .before .order-of .ensures)
-    (place .set-task-place .ensures) (class .set-task-class .ensures)
+    (place .set-task-place .ensures) (class .set-task-class .ensures) (lost .set-task-lost .ensures)
 
 pub strip-spec : {M : Type 1} → statement M
 strip-spec =
@@ -25,6 +26,7 @@ strip-spec =
     (λ c κs. search needs)
     (λ c κs. search needs)
     (λ c. search needs)
+    (λ c κs. search needs)
     (λ c κs. search needs)
     (λ c. search needs)
     returns-2)

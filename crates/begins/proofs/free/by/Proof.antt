@@ -25,6 +25,7 @@ returns-4 c =
     let found = c .before .before in
     let e = parts (found .of .ensures) in
     let tested = found .before in
+    let asked = tested .before .before .before .before in
     done
     (is-empty _ _ _ _ _ (omega arith) (omega arith) _ (tested .before .before .anchor .ensures)
     (passed (tested .before .is-anchor .ensures) (tested .if3 .left))
@@ -36,6 +37,7 @@ returns-5 c =
     let found = c .before .before .before .before .before .before in
     let e = parts (found .of .ensures) in
     let tested = found .before in
+    let asked = tested .before .before .before .before in
     does
     (is-open _ _ _ _ _ (omega arith) (omega arith) _ (tested .before .before .anchor .ensures)
     (passed (tested .before .is-anchor .ensures) (tested .if3 .left))
@@ -48,9 +50,9 @@ by-spec =
     (tie.spec
     (λ c κs. search needs)
     (λ c. search needs)
+    (λ c κs. search needs)
     (λ c. search needs)
     returns
-    (λ c κs. search needs)
     (λ c. search needs)
     returns-2
     (λ c κs. search needs)

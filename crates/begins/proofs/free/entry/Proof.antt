@@ -14,9 +14,8 @@ returns-2 : tie.Need-returns-2
 returns-2 c = done (bad-entry _ _ _ _ _ (omega arith)) refl (cc) refl
 
 returns-3 : tie.Need-returns-3
-returns-3 c = does (by-entry _ _ _ _ _ (λ e. omega arith) (omega arith)) (c .before .before .by .ensures)
+returns-3 c = does (by-entry _ _ _ _ _ _ (omega arith) (omega arith)) (c .before .before .by .ensures)
 
 pub entry-spec : {M : Type 1} → statement M
 entry-spec =
-    tie.close (tie.spec returns returns-2 (λ c. search needs) (λ c. search needs) (λ c κs. search needs)
-    (λ c. search needs) returns-3)
+    tie.close (tie.spec (λ c κs. search needs) returns returns-2 (λ c κs. search needs) (λ c. search needs) returns-3)

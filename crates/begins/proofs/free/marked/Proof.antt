@@ -15,7 +15,8 @@ returns c =
 returns-2 : tie.Need-returns-2
 returns-2 c =
     let marks = c .before .before in
-    let unit = marks .before .before .before .before in
+    let lost = marks .before .before .before .before in
+    let unit = lost .before .before .before .before in
     let class = unit .before .before .before .before in
     let place = class .before .before .before .before in
     let cleared = place .before .before in
@@ -23,7 +24,7 @@ returns-2 c =
     stored _ _ _ _ _ _ (test .before .marks .ensures) (passed (test .test .ensures) (cleared .before .if1 .left))
     (cleared .clear .ensures .value)
     _ (place .set-task-place .ensures) (class .set-task-class .ensures) (unit .set-task-unit .ensures)
-    (marks .set-marks .ensures)
+    (lost .set-task-lost .ensures) (marks .set-marks .ensures)
 
 pub marked-spec : {M : Type 1} → statement M
 marked-spec =
@@ -38,6 +39,7 @@ marked-spec =
     (λ c κs. search needs)
     (λ c κs. search needs)
     (λ c. search needs)
+    (λ c κs. search needs)
     (λ c κs. search needs)
     (λ c κs. search needs)
     (λ c. search needs)

@@ -10,17 +10,18 @@ use Rattle.steps.proofs.step.at.Tie as tie
 
 returns : tie.Need-returns
 returns c =
-    numbers (does-in (at _ _ _ _ _ A1 refl (omega arith)) (lends (c .before .before .before .take .ensures)))
-    (c .number .ensures)
+    numbers (does-in (at _ _ _ _ _ A1 refl (omega arith)) (lends (c .before .before .before .before .take .ensures)))
+    (c .step-number .ensures)
 
 returns-2 : tie.Need-returns-2
 returns-2 c =
     numbers
-    (does-in (at _ _ _ _ _ F1 refl (omega arith)) (c .before .before .before .before .before .put .ensures))
-    (c .number2 .ensures)
+    (does-in (at _ _ _ _ _ F1 refl (omega arith)) (c .before .before .before .before .before .before .put .ensures))
+    (c .step-number2 .ensures)
 
 returns-3 : tie.Need-returns-3
-returns-3 c = numbers (c .before .before .before .before .before .later .ensures) (c .number3 .ensures)
+returns-3 c =
+    numbers (c .before .before .before .before .before .before .later .ensures) (c .step-number3 .ensures)
 
 pub at-spec : {M : Type 1} → statement M
 at-spec =

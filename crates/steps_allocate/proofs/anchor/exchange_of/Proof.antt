@@ -4,7 +4,7 @@ use native.Mathlib.Omega.{arith}
 use mathlib.Core.Path.{refl}
 use Rattle.stepped.specs.Ranges.{isAnchor}
 use Rattle.ranges.proofs.Passed.{failed-at, passed-at}
-use Rattle.stepped.proofs.Doing.{done}
+use Rattle.stepped.proofs.Doing.{done, loses}
 use Rattle.steps_allocate.proofs.AllocateWays.{by, a3ExchangeOf-none, a3ExchangeOf-lost, a3ExchangeOf-region}
 use Rattle.steps_allocate.proofs.AllocateWays.{a3ExchangeOf-won}
 use Rattle.steps_allocate.proofs.anchor.exchange_of.Statement.{statement}
@@ -15,8 +15,9 @@ returns c link = done (a3ExchangeOf-none _ _ _ _ _ _ _ (search (failed-at isAnch
 
 returns-2 : tie.Need-returns-2
 returns-2 c link =
-    done (a3ExchangeOf-lost _ _ _ _ _ _ _ (search (passed-at isAnchor)) (omega arith)) refl
-    (c .before .before .set-task-place .ensures) refl
+    let at-count = c .before .before in
+    loses (a3ExchangeOf-lost _ _ _ _ _ _ _ (search (passed-at isAnchor)) (omega arith)) (omega arith)
+    (at-count .before .before .before .before .set-task-place .ensures) (at-count .count .ensures)
 
 returns-3 : tie.Need-returns-3
 returns-3 c link =
@@ -43,6 +44,7 @@ exchange-of-spec =
     (λ c κs. search needs)
     (λ c. search needs)
     returns
+    (λ c κs. search needs)
     (λ c κs. search needs)
     (λ c. search needs)
     returns-2

@@ -1,4 +1,4 @@
--- The search goes on or refuses; then the unit is written.
+-- The search goes on or refuses; then the unit and the count of lost exchanges are written.
 use borrow.Author.Needs.{needs}
 use borrow.Author.Tests.{not-true, not-false}
 use Rattle.plain.specs.Moves.{nothing}
@@ -11,10 +11,11 @@ returns c = not-gone nothing _ (c .before .before .before .go .ensures) (not-tru
 
 returns-2 : tie.Need-returns-2
 returns-2 c =
-    let stored = c .before .before in
-    let asked = stored .before .before in
+    let lost = c .before .before in
+    let unit = lost .before .before .before .before in
+    let asked = unit .before .before in
     gone nothing _ (asked .before .before .before .go .ensures) (not-false _ (asked .if1 .left))
-    (stored .set-task-unit .ensures)
+    (rw (unit .set-task-unit .ensures) at (lost .set-task-lost .ensures))
 
 pub begin-spec : {M : Type 1} → statement M
 begin-spec =
@@ -23,6 +24,7 @@ begin-spec =
     (λ c κs. search needs)
     (λ c. search needs)
     returns
+    (λ c κs. search needs)
     (λ c κs. search needs)
     (λ c. search needs)
     returns-2)

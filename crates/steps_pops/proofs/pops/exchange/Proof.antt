@@ -2,7 +2,7 @@
 use borrow.Author.Needs.{needs}
 use native.Mathlib.Omega.{arith}
 use mathlib.Core.Path.{refl}
-use Rattle.stepped.proofs.Doing.{done}
+use Rattle.stepped.proofs.Doing.{done, loses}
 use Rattle.steps_pops.proofs.Popping.{noted-none, noted-large, after-large, head-large, exchange-lost}
 use Rattle.steps_pops.proofs.Popping.{exchange-won}
 use Rattle.steps_pops.proofs.pops.exchange.Statement.{statement}
@@ -22,10 +22,11 @@ returns-4 c = done (head-large _ _ _ _ _ (omega arith) (omega arith) (omega arit
 
 returns-5 : tie.Need-returns-5
 returns-5 c =
-    done
+    loses
     (exchange-lost _ _ _ _ _ (omega arith) (omega arith) (omega arith) (omega arith)
-    (c .before .before .before .pop-place .ensures .0) (λ e. omega arith))
-    refl (c .before .before .set-task-place .ensures) refl
+    (c .before .before .before .before .before .before .before .pop-place .ensures .0) (λ e. omega arith))
+    (omega arith) (c .before .before .before .before .before .before .set-task-place .ensures)
+    (c .before .before .count .ensures)
 
 returns-6 : tie.Need-returns-6
 returns-6 c =
@@ -55,6 +56,7 @@ exchange-spec =
     (λ c κs. search needs)
     (λ c. search needs)
     returns-4
+    (λ c κs. search needs)
     (λ c κs. search needs)
     (λ c κs. search needs)
     (λ c. search needs)

@@ -3,7 +3,7 @@
 use borrow.Author.Needs.{needs}
 use native.Mathlib.Omega.{arith}
 use mathlib.Core.Path.{refl}
-use Rattle.stepped.proofs.Doing.{done}
+use Rattle.stepped.proofs.Doing.{done, loses}
 use Rattle.steps_pushes.proofs.Pushing.{pushed-large, noted-large, head-large, exchange-lost, exchange-won}
 use Rattle.steps_pushes.proofs.pushes.exchange.Statement.{statement}
 use Rattle.steps_pushes.proofs.pushes.exchange.Tie as tie
@@ -19,9 +19,11 @@ returns-3 c = done (head-large _ _ _ _ _ (omega arith) (omega arith) (omega arit
 
 returns-4 : tie.Need-returns-4
 returns-4 c =
-    done (exchange-lost _ _ _ _ _ (omega arith) (omega arith) (omega arith)
-    (c .before .before .before .push-place .ensures .0) (λ e. omega arith)) refl
-    (c .before .before .set-task-place .ensures) refl
+    loses
+    (exchange-lost _ _ _ _ _ (omega arith) (omega arith) (omega arith)
+    (c .before .before .before .before .before .before .before .push-place .ensures .0) (λ e. omega arith))
+    (omega arith) (c .before .before .before .before .before .before .set-task-place .ensures)
+    (c .before .before .count .ensures)
 
 returns-5 : tie.Need-returns-5
 returns-5 c =
@@ -48,6 +50,7 @@ exchange-spec =
     (λ c κs. search needs)
     (λ c. search needs)
     returns-3
+    (λ c κs. search needs)
     (λ c κs. search needs)
     (λ c κs. search needs)
     (λ c. search needs)

@@ -2,7 +2,7 @@
 use borrow.Author.Needs.{needs}
 use native.Mathlib.Omega.{arith}
 use mathlib.Core.Path.{refl}
-use Rattle.stepped.proofs.Doing.{done, does}
+use Rattle.stepped.proofs.Doing.{done, does, loses}
 use Rattle.stepped.specs.Ranges.{isAnchor}
 use Rattle.ranges.proofs.Passed.{failed-at, passed-at}
 use Rattle.steps_return.proofs.ReturningWays.{anchor-bad, anchor-changed, anchor-noted}
@@ -17,11 +17,12 @@ returns c =
 returns-2 : tie.Need-returns-2
 returns-2 c =
     λ link.
-    let asked = c .before .before .before .before in
+    let placed = c .before .before .before .before .before .before in
+    let asked = placed .before .before in
     let anchor = asked .before .before .before .anchor .ensures in
-    done (anchor-changed _ link _ _ _ _ _ _ _ (passed-at isAnchor anchor (asked .before .is-anchor .ensures)
-    (asked .if2 .left)) (omega arith)) refl
-    (c .before .before .set-task-place .ensures) refl
+    loses (anchor-changed _ link _ _ _ _ _ _ _ (passed-at isAnchor anchor (asked .before .is-anchor .ensures)
+    (asked .if2 .left)) (omega arith)) (omega arith) (placed .set-task-place .ensures)
+    (c .before .before .count .ensures)
 
 returns-3 : tie.Need-returns-3
 returns-3 c =
@@ -38,6 +39,7 @@ exchange-of-spec =
     (λ c κs. search needs)
     (λ c. search needs)
     returns
+    (λ c κs. search needs)
     (λ c κs. search needs)
     (λ c. search needs)
     returns-2

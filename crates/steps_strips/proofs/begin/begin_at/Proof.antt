@@ -36,7 +36,8 @@ returns-4 c =
 returns-5 : tie.Need-returns-5
 returns-5 c =
     let at-set-slot-byte = c .before .before in
-    let at-set-task-unit = at-set-slot-byte .before .before .before .before in
+    let at-set-task-lost = at-set-slot-byte .before .before .before .before in
+    let at-set-task-unit = at-set-task-lost .before .before .before .before in
     let at-set-task-place = at-set-task-unit .before .before .before .before in
     let at-4 = at-set-task-place .before .before in
     let at-3 = at-4 .before in
@@ -47,7 +48,8 @@ returns-5 c =
     (at-order-in .order-in .ensures .0) (sym (at-3 .before .divides .ensures) ∙ not-false _ (at-3 .if3 .left))
     (at-4 .if4 .left)) refl
     (rw (at-set-task-place .set-task-place .ensures) at
-    (rw (at-set-task-unit .set-task-unit .ensures) at (at-set-slot-byte .set-slot-byte .ensures)))
+    (rw (at-set-task-unit .set-task-unit .ensures) at
+    (rw (at-set-task-lost .set-task-lost .ensures) at (at-set-slot-byte .set-slot-byte .ensures))))
     refl
 
 pub begin-at-spec : {M : Type 1} → statement M
@@ -67,6 +69,7 @@ begin-at-spec =
     returns-4
     (λ c κs. search needs)
     (λ c. search needs)
+    (λ c κs. search needs)
     (λ c κs. search needs)
     (λ c. search needs)
     (λ c. search needs)
