@@ -1,4 +1,6 @@
 // The control memory: its fields, what a call answers, and the reasons of the list moves.
+#![tactic(auto)]
+
 pub mod answer;
 pub mod caches;
 pub mod layout;

@@ -1,1 +1,2 @@
 // The three demands, restated of the exported functions: definitions and laws. It has no code.
+#![tactic(auto)]

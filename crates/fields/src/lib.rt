@@ -3,6 +3,8 @@
 // Every access of the two lent memories goes through these eight functions. Each asks that the number lies in the
 // slice; the callers are the getters and setters of the control memory, at the places of its layout, and the
 // functions that read and write a block's link.
+#![tactic(auto)]
+
 ghost use Rattle.std.specs.Prelude.{◌≡◌, ◌+◌, ◌≤◌, length};
 ghost use Rattle.fields.specs.Little.{get_le, set_le};
 

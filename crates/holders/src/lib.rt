@@ -1,6 +1,8 @@
 // The form by holder: for each class the blocks in hand, in each task's cache, with each task's request, and in the
 // chains, added up over the regions that are open in the class. The numbers are gathered in an array of this function's
 // own and written last, for a call that is refused may change no byte of the row.
+#![tactic(auto)]
+
 ghost use Rattle.std.specs.Prelude.{◌≡◌, true, ◌+◌, ◌*◌, ◌≤◌, ◌<◌, length, get_or};
 ghost use Rattle.limits.specs.Limits.{REGIONS, TASKS, CLASSES};
 ghost use Rattle.links.specs.Link.{link};

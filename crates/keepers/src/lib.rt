@@ -1,6 +1,8 @@
 // The region's keepers: for each region of the area the first that applies of a block in hand, a cached block, a
 // running request, and the list of spare regions. All that is read is tested first. The keepers are gathered in an
 // array and written last: the last region may have none, and a call that is refused may change no byte of the row.
+#![tactic(auto)]
+
 ghost use Rattle.std.specs.Prelude.{◌≡◌, true, ◌*◌, ◌≤◌, ◌<◌, length};
 ghost use Rattle.limits.specs.Limits.{REGIONS, CLASSES};
 ghost use Rattle.links.specs.Link.{link};

@@ -1,4 +1,5 @@
 // How many there are of each thing, by name, for the code: the numbers of specs/Limits.antt.
+#![tactic(auto)]
 
 // Control memory is so many bytes.
 pub const CONTROL_BYTES: usize = 8192;

@@ -1,4 +1,6 @@
 // The link in a free block: its first four bytes, low byte first, in the area.
+#![tactic(auto)]
+
 ghost use Rattle.std.specs.Prelude.{◌≡◌, ◌+◌, ◌*◌, ◌≤◌, ◌<◌, length};
 ghost use Rattle.limits.specs.Limits.{UNIT_BYTES, REGION_BYTES, REGION_UNITS, REGIONS};
 ghost use Rattle.links.specs.Link.{link, with_link};

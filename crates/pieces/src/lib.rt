@@ -1,1 +1,2 @@
 // Definitions and laws only: the pieces of the strips' memory in the plain pool.
+#![tactic(auto)]

@@ -1,6 +1,8 @@
 // The functions that firmware calls. Each takes the three memories as byte slices, and answers one number: the code in
 // the low 8 bits, the value in the next 24, and where a step ends a request its lost exchanges in the high 32. Of the
 // strips' memory only the length is asked. No call asks anything of its caller: any bytes and any numbers are answered.
+#![tactic(auto)]
+
 ghost use Rattle.std.specs.Prelude.{length};
 ghost use Rattle.plain.specs.Calls.{start, allocate as allocated, free as freed, leave as left};
 ghost use Rattle.plain.specs.Calls.{step as stepped};

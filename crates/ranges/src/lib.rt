@@ -1,4 +1,6 @@
 // The tests whose failure is 14, on values that have been read. Nothing here reads or writes memory.
+#![tactic(auto)]
+
 ghost use Rattle.std.specs.Prelude.{◌≡◌, ◌<◌};
 ghost use Rattle.limits.specs.Limits.{CLASSES};
 ghost use Rattle.stepped.specs.Ranges.{is_block, is_top, is_anchor, has_chain, has_first, has_room};

@@ -1,5 +1,7 @@
 // The blocks of the tasks' caches, counted by region; each count, top and link is tested by its range. And the lowest
 // block of a region in a cache that has passed these tests. Nothing here writes memory.
+#![tactic(auto)]
+
 ghost use Rattle.std.specs.Prelude.{◌≡◌, true, ◌+◌, ◌*◌, ◌≤◌, ◌<◌, length, get_or};
 ghost use Rattle.limits.specs.Limits.{REGIONS, REGION_BYTES, CLASSES};
 ghost use Rattle.classes.specs.Classes.{per_region};

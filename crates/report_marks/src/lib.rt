@@ -1,6 +1,8 @@
 // "Blocks in hand are counted from the marks": the ones of a region's eight mark words, each masked to the first units
 // of the class's blocks. The lowest of these blocks is at the lowest set bit of the first such word that is not 0.
 // Nothing here writes memory.
+#![tactic(auto)]
+
 ghost use Rattle.std.specs.Prelude.{◌≡◌, ◌<◌};
 ghost use Rattle.limits.specs.Limits.{REGIONS, CLASSES, WORD_MARKS};
 ghost use Rattle.classes.specs.Classes.{units};

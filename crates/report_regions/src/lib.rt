@@ -1,6 +1,8 @@
 // Whether a region is open, in which class, and how many blocks its chain has. Each of the first functions makes the
 // tests of one read, in the order of the reads: the map entry, the descriptor's region and anchor, its class. Nothing
 // here writes memory.
+#![tactic(auto)]
+
 pub mod spares;
 
 ghost use Rattle.std.specs.Prelude.{◌≡◌, ◌<◌, ◌≤◌};

@@ -1,5 +1,7 @@
 // "with running requests": what a task has under way beside its caches, by its place. Each value is tested by its range
 // at that place. Nothing here writes memory.
+#![tactic(auto)]
+
 pub mod one_region;
 
 ghost use Rattle.std.specs.Prelude.{◌≡◌, ◌+◌, ◌≤◌, ◌<◌, get_or};

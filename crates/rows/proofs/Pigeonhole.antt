@@ -1,5 +1,5 @@
 -- The pigeonhole law, for rows in which an item may stand more than once.
-use mathlib.Core.Path.{◌≡◌, ap}
+use mathlib.Core.Path.{◌≡◌, ap, sym, subst}
 use mathlib.Core.List.{List, [], ◌∷◌, ◌++◌}
 use Prim.Native.Nat.{ℕ, ◌≤◌, ◌<◌}
 use native.Mathlib.Omega.{arith}
@@ -30,5 +30,5 @@ pigeonhole-full r s h e v = elim (order? (count v r) (count v s)) [
 ]
   where
     one_more : count v r < count v s → (u : ℕ) → Equality u v → count u (v ∷ r) ≤ count u s
-    one_more l u (same d) = rw d (omega (arith, when-same v 1))
+    one_more l u (same d) = subst (λ w. count w (v ∷ r) ≤ count w s) (sym d) (omega (arith, l, when-same v 1))
     one_more l u (other d) = omega (arith, h u, when-other u v 1 d)

@@ -1,5 +1,7 @@
 // The stand's work: the records of a schedule, the calls on the stand's three memories, the treatment of each record,
 // and of all for a report, and the tally.
+#![tactic(auto)]
+
 pub mod lend;
 pub mod play;
 pub mod record;

@@ -1,6 +1,8 @@
 // The stock sheet: for each class and region the blocks in hand, in caches, with running requests, and in the chain.
 // The numbers are gathered in an array of this function's own and written last, for a call that is refused may change
 // no byte of the row.
+#![tactic(auto)]
+
 ghost use Rattle.std.specs.Prelude.{◌≡◌, ◌+◌, ◌*◌, ◌≤◌, ◌<◌, length, get_or};
 ghost use Rattle.limits.specs.Limits.{REGIONS, CLASSES};
 ghost use Rattle.links.specs.Link.{link};

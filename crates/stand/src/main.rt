@@ -1,5 +1,7 @@
 // The stand: it reads a schedule from standard input and writes its table to standard output. This program only reads,
 // calls and writes; it reads no more than the 65,536 bytes of its buffer.
+#![tactic(auto)]
+
 ghost use Rattle.std.specs.Prelude.{◌≡◌, ◌≤◌, length};
 ghost use Rattle.schedule.specs.Records.{INPUT_BYTES};
 ghost use Rattle.table.specs.Output.{TABLE_BYTES, Plays};

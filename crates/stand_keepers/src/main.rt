@@ -2,6 +2,8 @@
 // two bytes, the codes of the last record's answer and of the keepers' answer, and then the keepers of four regions.
 // The first code tells whether the schedule ended with 13, which the keepers explain. This program only reads, calls
 // and writes; it reads no more than the 65,536 bytes of its buffer.
+#![tactic(auto)]
+
 ghost use Rattle.std.specs.Prelude.{◌≡◌, ◌≤◌, length};
 ghost use Rattle.schedule.specs.Records.{INPUT_BYTES};
 ghost use Rattle.schedule.specs.Bytes.{after_all, last_of, started_part};

@@ -1,6 +1,8 @@
 // The stock sheet on the stand: it reads a schedule from standard input, plays it, and writes to standard output one
 // byte, the code of the sheet's answer, and then the sheet. This program only reads, calls and writes; it reads no more
 // than the 65,536 bytes of its buffer.
+#![tactic(auto)]
+
 ghost use Rattle.std.specs.Prelude.{◌≤◌, length};
 ghost use Rattle.schedule.specs.Records.{INPUT_BYTES};
 ghost use Rattle.schedule.specs.Bytes.{after_all, started_part};

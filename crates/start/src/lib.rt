@@ -1,4 +1,6 @@
 // What a start leaves in the control memory, every byte of it. Only a start loops.
+#![tactic(auto)]
+
 ghost use Rattle.std.specs.Prelude.{◌≡◌, ◌*◌, ◌<◌, ◌≤◌, length, replicate};
 ghost use Rattle.limits.specs.Limits.{UNITS, TASKS, REGIONS, DESCRIPTORS};
 ghost use Rattle.control.specs.Layout.{CACHES, Control, DescriptorNext, RegionNext, TopOfCache};

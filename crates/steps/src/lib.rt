@@ -1,4 +1,6 @@
 // One step of a task: the step list by place.
+#![tactic(auto)]
+
 mod allocate;
 mod free;
 mod last;

@@ -1,4 +1,6 @@
 // The tree of the free pieces of the strips' memory, by value: its search, halving and joining.
+#![tactic(auto)]
+
 pub mod find;
 pub mod halve;
 pub mod join;

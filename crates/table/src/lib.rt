@@ -1,4 +1,6 @@
 // The table of a schedule, as the bytes that the program writes.
+#![tactic(auto)]
+
 ghost use Rattle.std.specs.Prelude.{◌≤◌, length};
 ghost use Rattle.schedule.specs.Records.{INPUT_BYTES};
 ghost use Rattle.schedule.specs.Bytes.{StandMemories, together};

@@ -1,5 +1,7 @@
 // The text of the stand's table, written into bytes that the caller lends. Each function writes from the byte `at` on,
 // or from the first, and answers where its text ends.
+#![tactic(auto)]
+
 ghost use Rattle.std.specs.Prelude.{◌+◌, ◌≤◌, length};
 ghost use Rattle.text.specs.Texts.{decimal as decimalText, Appended};
 ghost use Rattle.text.specs.Lines.{FIELD_BYTES, LINE_ROOM, field_text, columns_text, line_text, total_text};

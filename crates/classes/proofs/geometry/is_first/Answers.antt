@@ -1,0 +1,9 @@
+-- `classes::geometry::is_first` meets its contract: the product does not overflow, and the factor tells a first unit by
+-- it.
+use borrow.Author.Rules.{rules}
+use native.Mathlib.Omega.{arith}
+use Rattle.classes.proofs.Factors.{told, small}
+use Rattle.classes.proofs.geometry.is_first.Goals as goal
+
+pub returns : goal.returns
+returns c = told _ _ _ c.factor.ensures

@@ -1,9 +1,0 @@
--- The list is the one of the reason.
-use borrow.Author.Rules.{rules}
-use Rattle.steps_pops.proofs.pops.head.Statement.{statement}
-use Rattle.steps_pops.proofs.pops.head.Tie as tie
-
-pub head_spec : {M : Type 1} → statement M
-head_spec =
-    tie.close (tie.spec (λ c κs. search rules) (λ c κs. search rules)
-    (λ c. rw c.before.pop-list.ensures.0 at c.head.ensures))
