@@ -170,7 +170,7 @@ module _ {area : ℕ} {m : Mem} {t : ℕ} {k : ℕ → List ℕ} where
   -- Step 1: the block goes to the cache, or the cache is full.
   pub f1-inv : (c u : ℕ) → Turn area m t (task_of (working (f1 c u)) k) → KeepsInvariant area (f1_step t k c u m)
   f1-inv c u w = either (KeepsInvariant area) (dec_lt (length (k c)) (per_region c)) _ _
-      (λ e. within w _ (record {
+      (λ e. within w (task_of idle (update k c (u ∷ k c))) (record {
         blocks = λ v. omega (arith, total-update CLASSES (row_weight v) k c (u ∷ k c) (place_holds w));
         block_classes = λ f v. omega (
           arith,

@@ -122,7 +122,7 @@ module _ {area : ℕ} {m : Mem} {t c : ℕ} {z : Purpose} {y d : ℕ} {g : List 
         closed = tt;
       })
       (f5-holds k (lengths w) n.state c z d (place_holds w).0 (omega (arith, (place_holds w).1)))
-      (f5-note _ _ _ k n.state c z d)
+      (f5-note m.row m.won m.map k n.state c z d)
 
   -- n blocks: EMPTY, and the region is no longer open, but held by the task.
   to-empty : AsNoted (m.descriptor d) n → (h : length joined ≡ per_region c)

@@ -1,5 +1,5 @@
 -- The invariant after a start.
-use mathlib.Core.Path.{◌≡◌, refl, sym, ap, ◌∙◌}
+use mathlib.Core.Path.{◌≡◌, refl, sym, ap, subst, ◌∙◌}
 use Prim.Native.Nat.{ℕ, zero, suc, ◌+◌, ◌≤◌, ◌<◌}
 use native.Mathlib.Omega.{arith}
 use native.Mathlib.Decide.{ℕ_discrete}
@@ -34,7 +34,7 @@ rising-from : (n i d : ℕ) → i ≤ d → count d (rising n i) ≡ below d (i 
 unfolding rising
 rising-from zero i d h = sym (below-no d (i + 0) (omega arith))
 rising-from (suc n) i d h = elim (same? d i) [
-  | same e ↦ rw e (omega (
+  | same e ↦ subst (λ x. count x (rising (suc n) i) ≡ below x (i + suc n)) (sym e) (omega (
     arith,
     when-same i 1,
     rising-before n (suc i) i (omega arith),

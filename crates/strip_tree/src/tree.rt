@@ -10,7 +10,7 @@ pub const FIRST_WORD_ORDER: usize = 2;
 // The first word of the tree in which the whole memory is one free piece.
 pub const WHOLE_FREE: u64 = 2;
 
-#[derive(Drop)]
+#[derive(Clone, Copy)]
 pub struct Tree {
     pub a: u64,
     pub b: u64,
