@@ -1,0 +1,21 @@
+-- The spare descriptors are chained from the last down.
+use Prim.Native.Nat.{◌-◌}
+use native.Mathlib.Omega.{arith}
+use borrow.Author.Rules.{rules}
+use Rattle.limits.specs.Limits.{DESCRIPTORS}
+use Rattle.control.specs.Layout.{DescriptorNext}
+use Rattle.stepped.specs.Start.{next_up}
+use Rattle.start.proofs.StartImage.{Filling, filling-begins, filling-goes, filling-ends}
+use Rattle.start.proofs.chain_descriptors.Goals as goal
+
+pub loop-i-preserved : goal.loop-i-preserved
+loop-i-preserved c =
+    filling-goes c.loop-i.invariant (omega arith) c.next_up.ensures
+    c.set_descriptor_next.ensures
+
+pub loop-i-init : goal.loop-i-init
+loop-i-init c =
+    filling-begins (search rules)
+
+pub returns : goal.returns
+returns c = filling-ends c.loop-i.invariant (omega arith)
