@@ -2,7 +2,7 @@
 // reason says on which list, and what follows.
 
 // The pops: of the class's partial list (allocate, step 2), of a spare descriptor (step 5), of a spare region (step 6).
-#[derive(Drop)]
+#[derive(Clone, Copy)]
 pub enum Pop {
     Partial,
     Spare,
@@ -11,7 +11,7 @@ pub enum Pop {
 
 // The pushes: of a descriptor found EMPTY (allocate, step 3), of a descriptor for which there is no region (step 6), of
 // a region that has emptied (free, step 4), of a descriptor that was FULL (step 5).
-#[derive(Drop)]
+#[derive(Clone, Copy)]
 pub enum Push {
     Retire,
     Back,
