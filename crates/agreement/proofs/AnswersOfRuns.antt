@@ -16,7 +16,6 @@ use Rattle.plain.specs.Steps.{pop_list, push_list}
 use Rattle.plain.specs.Calls as Plain
 use Rattle.plain.specs.Calls.{Pool, Start, unstarted, Call, start, allocate, free, leave, step, Lengths}
 use Rattle.plain.specs.Codes.{AtMost}
-use Rattle.plain.specs.Held.{held}
 use Rattle.plain.proofs.CallAnswers.{most}
 use Rattle.stepped.specs.Outcome.{Memories}
 use Rattle.agreement.specs.Events.{Event, write, stepped, whole, Recent, Near, class_there}

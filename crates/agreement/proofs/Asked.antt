@@ -1,13 +1,12 @@
 -- A task that is at work is at what it has asked for last, after every event.
 use mathlib.Core.Path.{◌≡◌, refl, sym, ap, subst, subst⁻¹}
 use mathlib.Core.Bool.{cond}
-use mathlib.Core.List.{List, ◌∷◌}
+use mathlib.Core.List.{◌∷◌}
 use Prim.Native.Nat.{ℕ, zero, suc, ◌≤◌}
 use native.Mathlib.Omega.{arith}
 use native.Mathlib.Decide.{ℕ_discrete, dec_lt}
 use borrow.Author.Tests.{eq-eqb, ne_eqb}
 use lib.Dec.{eqb}
-use lib.ListN.{length}
 use Rattle.limits.specs.Limits.{LARGEST_SIZE}
 use Rattle.rows.specs.Branch.{both}
 use Rattle.rows.specs.Update.{update}

@@ -12,7 +12,7 @@ use Rattle.plain.specs.Requests.{allocation, freeing, strip_allocation, strip_fr
 use Rattle.control.specs.Places.{A1, F1, STRIP_TAKE, STRIP_GIVE, LEAVE_END}
 use Rattle.agreement.specs.Contents.{Contents, Slot}
 use Rattle.agreement.specs.Relation.{PlaceRelated, r_idle, r_working}
-use Rattle.agreement.specs.Asked.{Asked, asked}
+use Rattle.agreement.specs.Asked.{Asked}
 use Rattle.agreement.specs.AtWhatAsked.{AsAsked, AtWhatAsked}
 use Rattle.agreement.proofs.WorkKinds.{Works, allocates, frees, takes, gives_back, leaves, ends-leaving, works}
 use Rattle.pieces.specs.Pieces.{Pieces}

@@ -1,6 +1,6 @@
 -- How the beginnings of requests and a start end, in every state: by which numbers they are refused, and that a refused
 -- one leaves every byte.
-use Prim.Native.Nat.{ℕ, ◌+◌, ◌-◌, ◌/◌, ◌%◌, ◌≤◌, ◌<◌}
+use Prim.Native.Nat.{ℕ, ◌-◌, ◌/◌, ◌%◌, ◌≤◌, ◌<◌}
 use mathlib.Core.Path.{◌≡◌, refl, sym, ap₂}
 use mathlib.Core.Logic.{◌≢◌}
 use mathlib.Core.Bool.{true}
@@ -20,10 +20,10 @@ use Rattle.plain.specs.Moves.{Decided, nothing}
 use Rattle.control.specs.Layout.{Anchor, Marks, TaskPlace, DescriptorRegion, DescriptorClass}
 use Rattle.control.specs.Layout.{Map, Regions}
 use Rattle.control.specs.Places.{IDLE, PLACES}
-use Rattle.plain.specs.Calls.{start, Start, Lengths}
+use Rattle.plain.specs.Calls.{Start, Lengths}
 use Rattle.control.specs.declared.answer.Answer.{Answer}
 use Rattle.control.specs.declared.answer.Answer.TheVariants.{Accepted, Allocated, Freed, NoDescriptor, NoRegion}
-use Rattle.control.specs.declared.answer.Answer.TheVariants.{Refused}
+use Rattle.control.specs.declared.answer.Answer.TheVariants.{NoStrip, Refused}
 use Rattle.stepped.specs.Outcome.{Outcome, refuse, accept, Memories, effect, memories_after}
 use Rattle.stepped.specs.Ranges.{is_anchor}
 use Rattle.stepped.specs.Calls as Calls
@@ -36,7 +36,6 @@ use Rattle.agreement.specs.Ends.{IsEnd, BegunOutcome}
 use Rattle.stepped.specs.Calls.{Lent}
 use Rattle.agreement.proofs.Ways.{branch, tests}
 use Rattle.agreement.proofs.Ways.{accepted-no, more, among-tests, among-start-tests, start-tests}
-use Rattle.agreement.proofs.Ways.{refused}
 use Rattle.limits.specs.Limits.{UNITS, LARGEST_STRIP}
 use Rattle.pieces.specs.StripUnits.{slot_of_unit, is_strip_unit}
 use Rattle.pieces.proofs.StripSizes.{rounds}
@@ -53,6 +52,7 @@ begins-no-end ns (Allocated u) b i = b
 begins-no-end ns Freed b i = b
 begins-no-end ns NoDescriptor b i = b
 begins-no-end ns NoRegion b i = b
+begins-no-end ns NoStrip b i = b
 begins-no-end ns (Refused n) b i = i
 
 -- an outcome that writes nothing where it is refused leaves the memories as they were

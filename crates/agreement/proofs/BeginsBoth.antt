@@ -11,7 +11,6 @@ use lib.Dec.{eqb, ltb}
 use Rattle.limits.specs.Limits.{REGION_UNITS, CLASSES, DESCRIPTORS, LARGEST_SIZE, LARGEST_STRIP, WORD_MARKS}
 use Rattle.rows.specs.Branch.{if, both}
 use Rattle.fields.specs.Columns.{View, Write, ◌:=◌, assigned}
-use Rattle.links.specs.Link.{link}
 use Rattle.words.specs.Anchor.{anchor_of}
 use Rattle.words.specs.Anchor as Words
 use Rattle.words.specs.Mark.{bit_at, is_set, with_clear}
@@ -39,15 +38,14 @@ use Rattle.stepped.specs.Outcome.{Outcome, refuse, accept}
 use Rattle.stepped.specs.Ranges.{is_anchor}
 use Rattle.stepped.specs.Calls as Stepped
 use Rattle.agreement.proofs.TaskBlocks.{re-slot}
-use Rattle.agreement.specs.Contents.{TaskCaches, Slot, Contents, slot_of, contents_of}
-use Rattle.agreement.specs.Relation
-use Rattle.agreement.specs.Relation.{CachesRelated, PlaceRelated, r_idle, r_a1, r_f1, SlotRelated, Related}
+use Rattle.agreement.specs.Contents.{Slot, Contents, slot_of, contents_of}
+use Rattle.agreement.specs.Relation.{PlaceRelated, r_idle, r_a1, r_f1, Related}
 use Rattle.agreement.specs.Relation.{r_working, r_strip_take, WorkRelated}
 use Rattle.agreement.proofs.BothPass.{both_true}
 use Rattle.agreement.proofs.Slots.{to_request}
 use Rattle.agreement.proofs.Sets.{set_slot, set_mark}
 use Rattle.agreement.proofs.AssignedContents.{becomes, mark-written}
-use Rattle.agreement.proofs.TurnInBoth.{quiet, mine}
+use Rattle.agreement.proofs.TurnInBoth.{quiet}
 use Rattle.agreement.proofs.TurnChanges.{marking}
 use Rattle.agreement.proofs.NotedAnchors.{anchor-tested}
 use Rattle.stepped.proofs.Conjunction.{left-true, right-true}

@@ -16,7 +16,7 @@ use Rattle.rows.proofs.Branch.{if_no}
 use Rattle.rows.proofs.Update.{update_same}
 use Rattle.fields.specs.Columns.{View, ◌:=◌}
 use Rattle.words.specs.Head.{word, next_tag}
-use Rattle.classes.specs.Classes.{units, block, per_region}
+use Rattle.classes.specs.Classes.{units, per_region}
 use Rattle.classes.specs.Sizes.{class_of, choice}
 use Rattle.classes.specs.Geometry.{unit_of}
 use Rattle.classes.specs.declared.size.Choice.TheVariants.{Class, Strip, Refused}
@@ -36,7 +36,7 @@ use Rattle.stepped.specs.Calls.{Lent, lengths}
 use Rattle.stepped.specs.Calls as Stepped
 use Rattle.agreement.specs.Events.{call, whole, Premises}
 use Rattle.agreement.specs.Reached.{starting}
-use Rattle.agreement.proofs.BenchSizes.{Served, strip, served, sizes, sizes-hold}
+use Rattle.agreement.proofs.BenchSizes.{Served, served, sizes, sizes-hold}
 use Rattle.agreement.proofs.Undisturbed.{brief, finishing, task_answers, Finishes, told, opens}
 use Rattle.agreement.proofs.AnswersOfRuns.{stepped_answers, whole_answers, answered-from-start, WritesHeld, short}
 use Rattle.limits.specs.Limits.{LARGEST_STRIP, WHOLE_ORDER, ORDERS}
@@ -48,7 +48,6 @@ use Rattle.pieces.specs.StripSizes.{order_of}
 use Rattle.pieces.specs.StripUnits.{strip_unit}
 use Rattle.pieces.proofs.StripSizes.{rounds}
 use Rattle.plain.specs.State.{Work, strip-take}
-use Rattle.plain.specs.Requests.{allocation}
 use Rattle.plain.specs.Steps.{strip_take_step, step_at}
 use Rattle.plain.specs.Calls.{first_place}
 use Rattle.control.specs.Places.{STRIP_TAKE}

@@ -2,7 +2,7 @@
 use mathlib.Core.Path.{◌≡◌}
 use mathlib.Core.Bool.{cond}
 use mathlib.Core.List.{List, [], ◌∷◌, map}
-use Prim.Native.Nat.{ℕ, suc, ◌-◌, ◌<◌}
+use Prim.Native.Nat.{ℕ, suc, ◌<◌}
 use lib.Dec.{eqb}
 use lib.ListN.{replicate}
 use Rattle.fields.specs.Columns.{View, assigned}
@@ -20,14 +20,13 @@ use Rattle.stepped.specs.Calls.{Lent, lengths}
 use Rattle.stepped.specs.Calls as Stepped
 use Rattle.agreement.specs.Events.{Event, call}
 use Rattle.agreement.specs.Reached.{starting}
-use Rattle.agreement.proofs.BenchSizes.{Served, bytes, strip, number, sizes}
+use Rattle.agreement.proofs.BenchSizes.{Served, bytes, strip, number}
 use Rattle.agreement.proofs.Undisturbed.{brief, finishing}
 use Rattle.agreement.proofs.AnswersOfRuns.{stepped_answers}
 use Rattle.pieces.specs.StripSizes.{strip_bytes}
 use Rattle.plain.specs.State.{Place, idle}
 use Rattle.plain.specs.Requests.{Request, allocation, freeing, strip_allocation, strip_freeing, leaving, request_at}
 use Rattle.control.specs.Places.{STRIP_TAKE}
-use Rattle.agreement.proofs.Undisturbed.{last}
 
 -- ---- the table
 

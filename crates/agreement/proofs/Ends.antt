@@ -1,5 +1,5 @@
 -- How a call ends, whatever the two memories hold.
-use Prim.Native.Nat.{ℕ, ◌+◌, ◌-◌, ◌<◌}
+use Prim.Native.Nat.{ℕ, ◌+◌, ◌<◌}
 use mathlib.Core.Path.{◌≡◌, refl, sym, ap, subst, ◌∙◌}
 use mathlib.Core.Logic.{◌≢◌, ◌⊎◌, ⊎_map, ⊎_elim, inr, ◌↔◌}
 use mathlib.Core.List.{List, [], ◌∷◌}

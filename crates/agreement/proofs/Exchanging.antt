@@ -43,7 +43,7 @@ use Rattle.agreement.proofs.Sets.{set_anchor, set_slot}
 use Rattle.agreement.proofs.AssignedContents.{anchor-written}
 use Rattle.agreement.proofs.TaskBlocks.{re-slot, unit-fits}
 use Rattle.agreement.proofs.Both.{Both, decide, meet, miss, pass}
-use Rattle.agreement.proofs.Turns.{At, goes, loses}
+use Rattle.agreement.proofs.Turns.{At, loses}
 use Rattle.agreement.proofs.FollowingBoth.{five}
 use Rattle.agreement.proofs.TurnWrites.{OwnWrites, anchor-exchanged}
 use Rattle.agreement.proofs.NotedAnchors.{SameAnchor, anchor-word-same, same-anchor-word, re-note, anchor-tested}

@@ -12,7 +12,6 @@ use Rattle.fields.specs.Columns.{Field, View, Write, ◌:=◌, assign, assigned}
 use Rattle.fields.specs.Little.{Bytes}
 use Rattle.words.specs.Anchor.{FULL}
 use Rattle.plain.specs.Calls.{Call, Start, start, allocate, free, leave, step, Lengths, StartTested}
-use Rattle.plain.specs.Calls as Plain
 use Rattle.control.specs.Layout.{seen, changed, TaskPlace, TaskState}
 use Rattle.control.proofs.Fields.{seen-changed}
 use Rattle.stepped.specs.Outcome.{Memories, Outcome, Effect}

@@ -8,7 +8,6 @@ use Rattle.limits.specs.Limits.{TASKS, CLASSES}
 use Rattle.words.specs.declared.anchor.Anchor.{Anchor}
 use Rattle.words.specs.declared.head.Head.{Head}
 use Rattle.rows.specs.Counting.{count}
-use Rattle.rows.specs.Comparisons.{same}
 use Rattle.rows.specs.Update.{update}
 use Rattle.rows.proofs.Counting.{count-append}
 use Rattle.rows.proofs.Linked.{linked-frame}
@@ -16,7 +15,7 @@ use Rattle.rows.proofs.Totals.{total-one}
 use Rattle.rows.proofs.Update.{update-all₂}
 use Rattle.rows.proofs.Weights.{when-same}
 use Rattle.links.specs.Link.{link}
-use Rattle.plain.specs.State.{Mem, Note, Phase, Work, Place, working, Task, region, Purpose}
+use Rattle.plain.specs.State.{Mem, Note, Phase, Work, Place, working, Task, Purpose}
 use Rattle.plain.specs.Noted.{Noted, unnoted, pop_noted, push_noted, anchor_noted, entry_noted, noted}
 use Rattle.plain.specs.Held.{holds_descriptor, holds_region, under_way, own_blocks}
 use Rattle.plain.specs.HolderWeights.{block_weight, row_weight}

@@ -12,7 +12,7 @@ use Rattle.links.specs.Link.{link}
 use Rattle.classes.specs.Geometry.{region_of, is_first}
 use Rattle.classes.proofs.BlockUnits.{first_block, block-aligned}
 use Rattle.plain.specs.State.{strip-take, strip-give, working, Mem, leave-end, Place}
-use Rattle.plain.specs.Requests.{allocation, freeing, strip_allocation, strip_freeing, frees_strip, leaving}
+use Rattle.plain.specs.Requests.{strip_allocation, frees_strip}
 use Rattle.plain.specs.Calls.{Pool, Lengths}
 use Rattle.control.specs.Layout.{SlotByte, TaskUnit, TaskPlace, TaskClass, Regions, seen}
 use Rattle.control.specs.Places.{A1, STRIP_TAKE}
@@ -26,7 +26,6 @@ use Rattle.agreement.specs.Reached.{History, Reached}
 use Rattle.agreement.specs.Asked.{Asked, nothing_yet, for_bytes, for_free, asked, for_leave}
 use Rattle.agreement.specs.AtWhatAsked.{StripServes, AsAsked}
 use Rattle.agreement.specs.Handed.{AlignedBlock, StripHanded, StripGiven, Gives, EndsWith16, AllEmpty}
-use Rattle.agreement.proofs.WorkKinds.{takes}
 use Rattle.agreement.proofs.GivesAsked.{gives, gives_none, gives-strip, gives_left, hands-strip}
 use Rattle.agreement.proofs.Ways.{TakesTop, TakesStrip}
 use Rattle.agreement.proofs.Ends.{ends_by, no_strip}

@@ -6,9 +6,8 @@ use mathlib.Core.List.{List, ◌∷◌}
 use native.Mathlib.Omega.{arith}
 use lib.ListN.{length}
 use Rattle.limits.specs.Limits.{TASKS, DESCRIPTORS}
-use Rattle.rows.specs.Counting.{count}
 use Rattle.fields.specs.Columns.{View}
-use Rattle.words.specs.Anchor.{FULL, anchor_of}
+use Rattle.words.specs.Anchor.{anchor_of}
 use Rattle.classes.specs.Classes.{per_region}
 use Rattle.plain.specs.State.{State, EMPTY, PARTIAL, Mem}
 use Rattle.plain.specs.State as Plain

@@ -7,7 +7,6 @@ use Rattle.limits.specs.Limits.{TASKS, DESCRIPTORS, TAGS, SPARE_REGIONS, DESCRIP
 use Rattle.words.specs.declared.head.Head.{Head}
 use Rattle.rows.specs.Counting.{count}
 use Rattle.rows.specs.Linked.{Linked, ends, links}
-use Rattle.rows.specs.Comparisons.{same}
 use Rattle.rows.proofs.Totals.{total-one}
 use Rattle.rows.proofs.Weights.{below-is, when-same}
 use Rattle.words.specs.Head.{head_of}

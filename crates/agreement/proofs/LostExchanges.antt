@@ -6,10 +6,10 @@ use mathlib.Core.Bool.{Bool, true, false, cond, ◌&&◌, false≢true}
 use mathlib.Core.List.{List, [], ◌∷◌}
 use native.Mathlib.Omega.{arith}
 use native.Mathlib.Decide.{dec_lt}
-use borrow.Author.Tests.{eq-eqb, ne_eqb, le-leb, lt-leb, lt-ltb, le-ltb, eqb-true}
+use borrow.Author.Tests.{ne_eqb, le-leb, lt-leb, lt-ltb, eqb-true}
 use lib.Dec.{eqb}
 use lib.ListN.{length}
-use Rattle.limits.specs.Limits.{CONTROL_BYTES, REGIONS, REGION_BYTES, TASKS}
+use Rattle.limits.specs.Limits.{CONTROL_BYTES, REGION_BYTES, TASKS}
 use Rattle.fields.specs.Columns.{View, assigned}
 use Rattle.fields.specs.Little.{Bytes}
 use Rattle.links.specs.Link.{link}
@@ -24,8 +24,7 @@ use Rattle.control.specs.declared.answer.Answer.TheVariants.{Accepted, Allocated
 use Rattle.control.specs.declared.answer.Answer.TheVariants.{NoStrip, Refused}
 use Rattle.control.specs.declared.answer.Answer as Declared
 use Rattle.control.proofs.Fields.{seen-changed}
-use Rattle.stepped.specs.Outcome.{Memories, Outcome, refuse, Effect, effect}
-use Rattle.stepped.specs.Start.{start_image}
+use Rattle.stepped.specs.Outcome.{Memories, Outcome, Effect}
 use Rattle.stepped.specs.Calls as Calls
 use Rattle.stepped.specs.Calls.{Tested, Lent, lengths, start_effect, effect_in}
 use Rattle.stepped.proofs.CallTests.{passed, start-passed}

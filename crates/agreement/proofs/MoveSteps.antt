@@ -25,7 +25,7 @@ use Rattle.control.specs.declared.answer.Answer.{Answer}
 use Rattle.stepped.specs.Outcome.{Outcome, accept, over}
 use Rattle.stepped.specs.Lists.{Items, how_many, next_field}
 use Rattle.agreement.specs.Contents.{Slot, slot_of, contents_of}
-use Rattle.agreement.specs.Relation.{wrap, HeadNoted, nexts, PlaceRelated, Related}
+use Rattle.agreement.specs.Relation.{wrap, HeadNoted, PlaceRelated, Related}
 use Rattle.agreement.proofs.ListMoves.{ListOf, descriptors, spare-regions}
 use Rattle.agreement.proofs.Slots.{to_place, to_head}
 use Rattle.agreement.proofs.Sets.{with_slots, set_slot, set_head}

@@ -13,7 +13,7 @@ use Rattle.words.specs.declared.anchor.Anchor.{Anchor}
 use Rattle.classes.specs.Classes.{per_region}
 use Rattle.classes.specs.Geometry.{BlockOf, unit_of}
 use Rattle.classes.proofs.BlockUnits.{block_at, index_below, region-is}
-use Rattle.plain.specs.State.{State, state_number, Place, Note, Mem, region, Work, working}
+use Rattle.plain.specs.State.{State, state_number, Place, Note, Mem, Work, working}
 use Rattle.plain.specs.Held.{owed, class_at, under_way, holds_descriptor, holds_region, own_blocks}
 use Rattle.plain.specs.Blocks.{blocks_from}
 use Rattle.plain.specs.TaskHolds.{Together}

@@ -1,18 +1,17 @@
 -- From the relation to what is compared of the strips.
-use mathlib.Core.Path.{◌≡◌, refl, sym, ap, subst, subst⁻¹, ◌∙◌}
-use mathlib.Core.Bool.{Bool, true, false, cond, ◌&&◌, false≢true}
-use mathlib.Core.List.{List}
+use mathlib.Core.Path.{◌≡◌, refl, sym, subst, subst⁻¹, ◌∙◌}
+use mathlib.Core.Bool.{Bool, true, false, cond, ◌&&◌}
 use Prim.Native.Nat.{ℕ, zero, suc, ◌+◌, ◌≤◌, ◌<◌}
 use native.Mathlib.Omega.{arith}
 use borrow.Author.Tests.{le-leb, lt-leb}
 use lib.Dec.{eqb, leb}
-use Rattle.limits.specs.Limits.{TASKS, SLOTS, UNITS, BOTH_UNITS, WHOLE_ORDER}
-use Rattle.rows.specs.Comparisons.{Order, before, after, order?, Equality, same, other, same?}
+use Rattle.limits.specs.Limits.{TASKS, SLOTS, UNITS, BOTH_UNITS}
+use Rattle.rows.specs.Comparisons.{Equality, same, other, same?}
 use Rattle.rows.specs.Totals.{total}
 use Rattle.rows.proofs.Totals.{total-only, total-zero}
-use Rattle.pieces.specs.Pieces.{free, held, begun, Pieces}
+use Rattle.pieces.specs.Pieces.{free, held, begun}
 use Rattle.pieces.specs.Strips.{StripStart, nowhere, here, strip_starts}
-use Rattle.pieces.specs.PieceRows.{Piece, pieces_row, having_slot, NoneToJoin}
+use Rattle.pieces.specs.PieceRows.{pieces_row, having_slot, NoneToJoin}
 use Rattle.pieces.specs.StripUnits.{strip_unit, slot_of_unit}
 use Rattle.pieces.proofs.PieceRows.{once}
 use Rattle.pieces.proofs.Strips.{none_left}
@@ -27,7 +26,7 @@ use Rattle.plain.specs.State.{Mem}
 use Rattle.plain.specs.Requests.{frees_strip}
 use Rattle.plain.specs.Invariant.{StripsHold}
 use Rattle.control.specs.Places.{STRIP_GIVE}
-use Rattle.agreement.specs.Contents.{Contents, Slot}
+use Rattle.agreement.specs.Contents.{Contents}
 use Rattle.agreement.specs.Relation.{Related}
 use Rattle.agreement.specs.Observe.{task_freeing, frees_slot, pieces_in}
 use Rattle.agreement.proofs.WorkKinds.{frees-there, there-frees}

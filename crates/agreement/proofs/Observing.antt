@@ -23,7 +23,6 @@ use Rattle.plain.specs.Calls.{rising, Opens, opens?}
 use Rattle.words.specs.Anchor as Words
 use Rattle.plain.specs.ByState.{if_open, IfOpen}
 use Rattle.plain.specs.Blocks.{count_block}
-use Rattle.plain.specs.Held.{held}
 use Rattle.plain.specs.HolderWeights.{row_weight, inside_weight, chain_weight, block_weight}
 use Rattle.plain.specs.Invariant.{Invariant, OpenDescriptor}
 use Rattle.plain.proofs.Blocks.{block-counts, counts-block}

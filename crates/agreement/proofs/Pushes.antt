@@ -43,7 +43,7 @@ use Rattle.agreement.proofs.Both.{Both, pass}
 use Rattle.agreement.proofs.Turns.{At, loses}
 use Rattle.agreement.proofs.ListMoves.{push-later, ListOf, pushed-list}
 use Rattle.agreement.proofs.HeldItems.{HoldsItem, push-holds}
-use Rattle.agreement.proofs.MoveSteps.{list-of, Won, kept, moves, notes, exchanges}
+use Rattle.agreement.proofs.MoveSteps.{list-of, Won, kept, notes, exchanges}
 use Rattle.agreement.proofs.Nexts.{next-set, held_below, writes-next}
 use Rattle.agreement.proofs.PushLeads.{advanced, leads-to, leads-five, leads-six}
 

@@ -49,7 +49,7 @@ reached = over_runs HoldsThere
     (λ s₁ U. record {
       tied = unstarted-tied U;
       found = λ k. absurd (omega (arith, U.tasks));
-      asks = unstarted-asked _;
+      asks = unstarted-asked (λ t. asked t []);
       counts = λ k. absurd (omega (arith, U.tasks));
     })
     (λ s₁ s b lent T. record {

@@ -1,10 +1,9 @@
 -- How one call keeps the bytes of the stepped run tied to the plain pool.
 use mathlib.Core.Path.{◌≡◌, refl, sym, subst, ◌∙◌}
-use Prim.Native.Nat.{ℕ, ◌*◌, ◌≤◌}
+use Prim.Native.Nat.{ℕ, ◌≤◌}
 use native.Mathlib.Omega.{arith}
 use native.Mathlib.Decide.{ℕ_discrete, dec_lt}
-use lib.ListN.{length}
-use Rattle.limits.specs.Limits.{CONTROL_BYTES, REGION_BYTES}
+use Rattle.limits.specs.Limits.{CONTROL_BYTES}
 use Rattle.rows.proofs.Branch.{if_yes, if_no}
 use Rattle.fields.specs.Columns.{Field, View, Has, assigned}
 use Rattle.fields.proofs.Layouts.{length-written, bytes-written}

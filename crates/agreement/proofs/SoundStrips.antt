@@ -1,9 +1,9 @@
 -- Every write of a strip's step, and of the beginning of its free, is to a field of the layout, its value fits there,
 -- and it is to no other task's place, whatever the memories hold.
-use Prim.Native.Nat.{ℕ, ◌+◌, ◌-◌, ◌%◌, ◌^◌, ◌≤◌, ◌<◌}
-use mathlib.Core.Path.{◌≡◌, refl, sym}
-use mathlib.Core.Bool.{Bool, true, cond, ◌&&◌}
-use mathlib.Core.List.{[], ◌∷◌}
+use Prim.Native.Nat.{ℕ, ◌-◌, ◌%◌, ◌≤◌, ◌<◌}
+use mathlib.Core.Path.{◌≡◌, refl}
+use mathlib.Core.Bool.{true, ◌&&◌}
+use mathlib.Core.List.{◌∷◌}
 use native.Mathlib.Omega.{arith}
 use borrow.Author.Tests.{eqb-true, leb-true, ltb-true, leb-false}
 use lib.Dec.{eqb, leb, ltb}
@@ -14,7 +14,7 @@ use Rattle.strip_tree.specs.declared.tree.Tree.{Tree}
 use Rattle.strip_tree.specs.declared.find.Found.{Found}
 use Rattle.strip_tree.specs.declared.find.Found.TheVariants.{At, Nothing}
 use Rattle.strip_tree.specs.Trees.{without_free}
-use Rattle.strip_tree.specs.TreeMoves.{find, joining, node_of, slot_of_node, can_begin}
+use Rattle.strip_tree.specs.TreeMoves.{find, joining, node_of, can_begin}
 use Rattle.strip_tree.specs.SlotStates.{FREE_BEGUN, LAST_BYTE, order_in}
 use Rattle.strip_tree.proofs.Found.{finds, in-level}
 use Rattle.strip_tree.proofs.Powers.{slot-below}
@@ -26,7 +26,7 @@ use Rattle.stepped.specs.StripSteps as Strips
 use Rattle.stepped.specs.StripSteps.{tree_of, tree_writes}
 use Rattle.stepped.proofs.Conjunction.{both}
 use Rattle.agreement.proofs.Both.{Fitting}
-use Rattle.agreement.proofs.SoundMoves.{Owns, Fit, none, test}
+use Rattle.agreement.proofs.SoundMoves.{Fit, none, test}
 use Rattle.agreement.proofs.Ways.{branch}
 
 -- the words of a tree whose words are small fit

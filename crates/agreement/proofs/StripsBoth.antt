@@ -2,12 +2,12 @@
 use mathlib.Core.Path.{◌≡◌, refl, sym, ap, subst, subst⁻¹, ◌∙◌}
 use mathlib.Core.Bool.{true, ◌&&◌}
 use mathlib.Core.List.{List, [], ◌∷◌}
-use Prim.Native.Nat.{ℕ, ◌+◌, ◌-◌, ◌%◌, ◌≤◌, ◌<◌}
+use Prim.Native.Nat.{ℕ, ◌+◌, ◌-◌, ◌%◌, ◌<◌}
 use native.Mathlib.Omega.{arith}
 use native.Mathlib.Decide.{dec_lt}
 use borrow.Author.Tests.{eq-eqb, ne_eqb, le-leb, lt-leb, lt-ltb, ltb-true}
 use lib.Dec.{eqb, leb, ltb}
-use Rattle.limits.specs.Limits.{CLASSES, ORDERS, SLOTS, SLOT_UNITS, UNITS, BOTH_UNITS, WHOLE_ORDER}
+use Rattle.limits.specs.Limits.{ORDERS, SLOTS, SLOT_UNITS, UNITS, BOTH_UNITS, WHOLE_ORDER}
 use Rattle.rows.specs.Update.{update}
 use Rattle.fields.specs.Columns.{View, ◌:=◌, assigned}
 use Rattle.pieces.specs.Pieces.{free, held, begun, Pieces}
@@ -21,10 +21,9 @@ use Rattle.strip_tree.specs.Trees.{without_free}
 use Rattle.strip_tree.specs.TreeMoves.{find, halving, joining, node_of, slot_of_node, can_begin}
 use Rattle.strip_tree.specs.SlotStates.{IN_HAND, FREE_BEGUN, LAST_BYTE, order_in}
 use Rattle.strips_agreement.specs.TreeFollows.{Follows}
-use Rattle.strips_agreement.specs.StripsAgree.{TakenAgrees, TakeAgrees, HeldAgrees, BegunAgrees, StartAgrees}
+use Rattle.strips_agreement.specs.StripsAgree.{TakeAgrees, BegunAgrees, StartAgrees}
 use Rattle.strips_agreement.proofs.StripsAgree.{take-agrees, start-agrees}
 use Rattle.plain.specs.State.{Place, idle, strip-take, strip-give, working, Mem, Task, set_task, set_strips}
-use Rattle.plain.specs.Moves.{going, nothing}
 use Rattle.plain.specs.Requests.{frees_strip}
 use Rattle.plain.specs.Steps as Steps
 use Rattle.plain.specs.Calls as Plain
@@ -32,12 +31,12 @@ use Rattle.plain.specs.Invariant.{StripsHold}
 use Rattle.plain.proofs.PlaceAlone.{task_of, place_holds}
 use Rattle.control.specs.Layout.{SlotByte, TaskPlace, TaskClass, TaskUnit}
 use Rattle.control.specs.Places.{IDLE, STRIP_GIVE}
-use Rattle.stepped.specs.Outcome.{Outcome, refuse}
+use Rattle.stepped.specs.Outcome.{refuse}
 use Rattle.stepped.specs.Calls as Stepped
 use Rattle.stepped.specs.StripSteps as Strips
 use Rattle.stepped.specs.StripSteps.{tree_of, tree_writes}
-use Rattle.agreement.specs.Contents.{Contents, slot_of, contents_of}
-use Rattle.agreement.specs.Relation.{CachesRelated, SlotRelated, Related, r_idle, r_working, r_strip_give}
+use Rattle.agreement.specs.Contents.{slot_of, contents_of}
+use Rattle.agreement.specs.Relation.{Related, r_idle, r_working, r_strip_give}
 use Rattle.agreement.proofs.BothPass.{both_true}
 use Rattle.agreement.proofs.Slots.{to_place, to_request}
 use Rattle.agreement.proofs.AssignedContents.{slot-written, strip-written}

@@ -15,7 +15,6 @@ use Rattle.links.specs.Link.{link}
 use Rattle.words.specs.Anchor.{FULL}
 use Rattle.plain.specs.State.{Place, Mem}
 use Rattle.plain.specs.Held.{class_at, under_way}
-use Rattle.stepped.specs.Calls.{lengths}
 use Rattle.plain.proofs.Turn.{task_holds}
 use Rattle.control.specs.Layout.{CacheTop, CacheCount, TaskUnit, TaskPlace, TaskClass, TaskDescriptor}
 use Rattle.control.specs.Layout.{TaskState}
@@ -34,7 +33,6 @@ use Rattle.agreement.proofs.NumbersInRange.{numbers-at}
 use mathlib.Core.Path.{ap, subst⁻¹}
 use Prim.Native.Nat.{suc}
 use Rattle.limits.specs.Limits.{ORDERS, SLOTS}
-use Rattle.pieces.specs.Pieces.{free, begun}
 use Rattle.pieces.specs.StripUnits.{strip_unit, slot_of_unit, is_strip_unit}
 use Rattle.strip_tree.specs.SlotStates.{FREE_BEGUN}
 use Rattle.strips_agreement.specs.StripsAgree.{StartAgrees}

@@ -8,7 +8,7 @@ use Rattle.limits.specs.Limits.{TASKS, DESCRIPTORS, MOST_BLOCKS, SPARE_REGIONS, 
 use Rattle.words.specs.declared.anchor.Anchor.{Anchor}
 use Rattle.words.specs.declared.head.Head.{Head}
 use Rattle.rows.specs.Counting.{count}
-use Rattle.rows.specs.Linked.{Linked, links}
+use Rattle.rows.specs.Linked.{Linked}
 use Rattle.rows.specs.Update.{update}
 use Rattle.rows.specs.Totals.{total}
 use Rattle.rows.proofs.Totals.{total-one}

@@ -8,7 +8,7 @@ use native.Mathlib.Omega.{arith}
 use lib.ListN.{length}
 use Rattle.limits.specs.Limits.{REGIONS, REGION_BYTES, TASKS, DESCRIPTORS}
 use Rattle.rows.specs.Counting.{count}
-use Rattle.rows.specs.Linked.{LinksAgree, links}
+use Rattle.rows.specs.Linked.{LinksAgree}
 use Rattle.rows.specs.Comparisons.{other, same, same?}
 use Rattle.rows.specs.Totals.{total}
 use Rattle.rows.specs.Weights.{one}
