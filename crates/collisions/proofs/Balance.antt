@@ -2,7 +2,7 @@
 use mathlib.Core.Path.{◌≡◌, refl, ap, ◌∙◌}
 use mathlib.Core.Bool.{Bool, true, false, cond}
 use mathlib.Core.List.{List, [], ◌∷◌}
-use Prim.Native.Nat.{ℕ, zero, suc, ◌+◌, ◌*◌, ◌-◌, ◌≤◌, ◌<◌}
+use Prim.Native.Nat.{ℕ, suc, ◌+◌, ◌*◌, ◌-◌, ◌≤◌, ◌<◌}
 use native.Mathlib.Omega.{arith}
 use native.Mathlib.Nat.{mul-add}
 use Rattle.rows.specs.Update.{update}
@@ -12,7 +12,7 @@ use Rattle.rows.proofs.Totals.{total-update, total-zero, total-most}
 use Rattle.plain.specs.Moves.{Decided, nothing, found_empty, popped, pushed, lost, anchor-empty, took, gave}
 use Rattle.plain.specs.Moves.{anchor-lost, strip-taken, strip-given, no_strip}
 use Rattle.agreement.specs.LostExchanges.{is_lost, lost_among}
-use Rattle.collisions.specs.Accesses.{Word, head, Access, reads, wins, loses, no_word, access_by}
+use Rattle.collisions.specs.Accesses.{head, Access, reads, wins, loses, no_word, access_by}
 use Rattle.collisions.specs.Collisions.{is_won, won_among, FewLost, EachPaid, PaidBy}
 use Rattle.collisions.proofs.Statuses.{Status, unread, fresh, stale, Statuses, spoil, after, statuses, Fits}
 use Rattle.collisions.proofs.Winners.{stale-paid}

@@ -1,4 +1,5 @@
 -- Lost exchanges are paid for by won ones.
+pub mod Recorded
 pub mod Statuses
 pub mod Winners
 pub mod Balance

@@ -112,10 +112,10 @@ Unnoted p = note_at p ≡ none
 
 pub leaves-unnoted : {k : ℕ → List ℕ} {c n : ℕ} {w : Work} → LeavesTo k c n w → Unnoted (working w)
 leaves-unnoted (to_end h) = refl
-leaves-unnoted (to-cache j l b some h) = refl
+leaves-unnoted (to-cache j l b n h) = refl
 
 returned-unnoted : {k : ℕ → List ℕ} {c : ℕ} {z : Purpose} {w : Work} → ReturnLeads k c z w → Unnoted (working w)
-returned-unnoted (to-group some) = refl
+returned-unnoted (to-group n) = refl
 returned-unnoted (to_one u e) = refl
 returned-unnoted (to-next e h) = leaves-unnoted h
 

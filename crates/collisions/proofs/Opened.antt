@@ -4,12 +4,12 @@
 use mathlib.Core.Path.{◌≡◌, refl, ap}
 use mathlib.Core.Logic.{◌≢◌}
 use mathlib.Core.List.{List}
-use Prim.Native.Nat.{ℕ, ◌≤◌, ◌<◌}
+use Prim.Native.Nat.{ℕ, ◌<◌}
 use native.Mathlib.Omega.{arith}
 use Rattle.limits.specs.Limits.{TASKS, DESCRIPTORS}
 use Rattle.rows.proofs.Weights.{when-same, below-max}
 use Rattle.rows.proofs.Totals.{total-two}
-use Rattle.plain.specs.State.{State, EMPTY, Phase, read, next, exchange, Place, a7, working, Mem}
+use Rattle.plain.specs.State.{State, EMPTY, Phase, read, next, exchange, a7, working, Mem}
 use Rattle.plain.specs.ByState.{if_open}
 use Rattle.plain.specs.Held.{held}
 use Rattle.plain.specs.HolderWeights.{descriptor_weight}
@@ -19,7 +19,7 @@ use Rattle.plain.proofs.Turn.{Turn}
 use Rattle.plain.proofs.PlaceAlone.{task_of, turn_at, note_holds}
 use Rattle.plain.proofs.Owners.{owner}
 use Rattle.plain.proofs.AnchorExchange.{spare-empty}
-use Rattle.collisions.specs.Accesses.{Word, head, anchor}
+use Rattle.collisions.specs.Accesses.{anchor}
 use Rattle.collisions.proofs.Notes.{phase_note, note_of, note_at, NotNoted}
 
 -- a word of a list is no anchor

@@ -1,10 +1,10 @@
 -- One call of a task in the plain pool: its access fits the statuses, and the notes of all tasks stand to theirs again.
-use mathlib.Core.Path.{◌≡◌, refl, sym, ap, subst, subst⁻¹, ◌∙◌}
+use mathlib.Core.Path.{◌≡◌, ap, subst⁻¹, ◌∙◌}
 use mathlib.Core.Logic.{◌≢◌}
 use Prim.Native.Nat.{ℕ, ◌<◌}
 use Rattle.rows.specs.Update.{update}
 use Rattle.rows.proofs.Update.{update_same, update_other}
-use Rattle.plain.specs.State.{Descriptor, Place, Task, Mem}
+use Rattle.plain.specs.State.{Descriptor, Task, Mem}
 use Rattle.collisions.specs.Accesses.{Word, head, anchor, Access, reads, wins, loses, no_word}
 use Rattle.collisions.proofs.Statuses.{Status, unread, fresh, stale, Statuses, spoil, after, Fits}
 use Rattle.collisions.proofs.Notes.{TaskNote, none, note_at, Stands, SameBut, NotNoted, stands_same}
@@ -45,6 +45,13 @@ none-noted : (n : TaskNote) → NotNoted (λ v. ⊥) n
 none-noted none = tt
 none-noted (TaskNote.some b) = λ f. f
 
+-- another task's note, where its status is set for the task t alone
+others_same : {m x : Mem} (t : ℕ) (g : Statuses) (s : Status) → SameBut (λ v. ⊥) m x → (u : ℕ) → u ≢ t
+    → Stands m (note_at (m.task u).place) (g u) → Stands x (note_at (m.task u).place) (update g t s u)
+others_same {m} {x} t g s S u d h =
+    let n = note_at (m.task u).place in
+    subst⁻¹ (Stands x n) (update_other g t s u d) (stands_same S n (g u) (none-noted n) h)
+
 module _ {N : ℕ} {m : Mem} {t : ℕ} {g : Statuses} {x : Mem} (T : Task) (e : x.task ≡ update m.task t T) where
   -- the access k, by what is shown of the new place, and of the others' old ones
   turned : (k : Access) → Fits N g k → Stands x (note_at T.place) (after k g t)
@@ -66,13 +73,6 @@ module _ {N : ℕ} {m : Mem} {t : ℕ} {g : Statuses} {x : Mem} (T : Task) (e : 
       → Stands x (note_at (m.task u).place) (after k g u)) → Turned N m t g x k
   unnoted-by k f o h = turned k f (subst⁻¹ (λ (n : TaskNote). Stands x n (after k g t)) o tt) h
 
-  -- another task's note, where its status is set for the task t alone
-  others_same : (s : Status) → SameBut (λ v. ⊥) m x → (u : ℕ) → u ≢ t → Stands m (note_at (m.task u).place) (g u)
-      → Stands x (note_at (m.task u).place) (update g t s u)
-  others_same s S u d h =
-      let n = note_at (m.task u).place in
-      subst⁻¹ (Stands x n) (update_other g t s u d) (stands_same S n (g u) (none-noted n) h)
-
   -- A call that reads no word and exchanges none: the task's note is the one that it had, ..
   pub quiet : SameBut (λ v. ⊥) m x → Stands x (note_at T.place) (g t) → Turned N m t g x no_word
   quiet S o =
@@ -88,12 +88,12 @@ module _ {N : ℕ} {m : Mem} {t : ℕ} {g : Statuses} {x : Mem} (T : Task) (e : 
       → Turned N m t g x (reads t w)
   reading w l S o =
       turned (reads t w) l (subst⁻¹ (Stands x (note_at T.place)) (update_same g t (fresh w)) o)
-      (λ u d b h. others_same (fresh w) S u d h)
+      (λ u d b h. others_same t g (fresh w) S u d h)
 
   -- A lost exchange.
   pub losing : (w : Word) → t < N → g t ≡ stale w → SameBut (λ v. ⊥) m x → Unnoted T.place
       → Turned N m t g x (loses t w)
-  losing w l s S o = unnoted-by (loses t w) (l, s) o (λ u d b h. others_same unread S u d h)
+  losing w l s S o = unnoted-by (loses t w) (l, s) o (λ u d b h. others_same t g unread S u d h)
 
   -- A won exchange.
   pub winning : (w : Word) → t < N → SameBut (λ v. v ≡ w) m x → Unnoted T.place → Turned N m t g x (wins t w)

@@ -1,12 +1,12 @@
 -- A word that another task has exchanged since a task's read has its winner: on lists of accesses alone.
-use mathlib.Core.Path.{◌≡◌, sym, ap, subst, ◌∙◌}
+use mathlib.Core.Path.{◌≡◌, ap, ◌∙◌}
 use mathlib.Core.Logic.{◌≢◌}
 use mathlib.Core.List.{List, [], ◌∷◌, ◌++◌}
 use Prim.Native.Nat.{ℕ}
 use native.Mathlib.Omega.{arith}
 use Rattle.collisions.specs.Accesses.{Word, Access, reads, wins}
 use Rattle.collisions.specs.Collisions.{NoRead, NoReads, Paid}
-use Rattle.collisions.proofs.Statuses.{Status, unread, fresh, stale, statuses, Becomes, kept, was_read, spoiled}
+use Rattle.collisions.proofs.Statuses.{Status, fresh, stale, statuses, Becomes, kept, was_read, spoiled}
 use Rattle.collisions.proofs.Statuses.{cleared, becomes}
 
 module _ (t : ℕ) (w : Word) where

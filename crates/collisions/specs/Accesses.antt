@@ -11,7 +11,7 @@ use Rattle.control.specs.Layout.{Map, TaskPlace, TaskClass, TaskDescriptor, Task
 use Rattle.control.specs.Places.{POP_PARTIAL, POP_SPARE, POP_REGION, PUSH_RETIRE, PUSH_BACK, PUSH_RELEASE, PUSH_OFFER}
 use Rattle.control.specs.Places.{A3_READ, F3_READ}
 use Rattle.agreement.specs.Events.{Event, call, write, write_strip}
-use Rattle.agreement.specs.Reached.{Happened, History}
+use Rattle.collisions.specs.Recorded.{Record}
 
 -- "on the same word" (the request for collisions): the head of the list ℓ, or the anchor of the descriptor d
 pub data Word : Type 0 where
@@ -88,7 +88,8 @@ event_access v (call k lent) y = call_access v k y
 event_access v (write at b) y = no_word
 event_access v (write_strip at b) y = no_word
 
--- what the events of a history do, the latest first
-abbrev pub accesses : History → List Access
+-- what the events of a run do, the latest first
+abbrev pub accesses : Record → List Access
 accesses [] = []
-accesses (x ∷ h) = event_access (seen x.memories.control) x.event x.answer ∷ accesses h
+accesses (x ∷ q) =
+    event_access (seen x.memories.control) x.happened.event x.happened.answer ∷ accesses q

@@ -6,8 +6,8 @@ use Rattle.plain.specs.Moves.{Decided, nothing, found_empty, popped, pushed, los
 use Rattle.plain.specs.Moves.{anchor-lost, strip-taken, strip-given, no_strip, Answer}
 use Rattle.plain.specs.Calls.{Call, start, allocate, free, leave, step}
 use Rattle.agreement.specs.Events.{Event, call, write, write_strip}
-use Rattle.agreement.specs.Reached.{History}
 use Rattle.agreement.specs.LostExchanges.{lost_among}
+use Rattle.collisions.specs.Recorded.{Record}
 use Rattle.collisions.specs.Accesses.{Word, Access, reads, wins, loses, no_word, accesses}
 
 -- ---- "from a start up to the next"
@@ -28,13 +28,13 @@ tasks_in (write at b) y n = n
 tasks_in (write_strip at b) y n = n
 
 -- "With T tasks": those of the last accepted start of a history, whose latest event is the first; 0 before any start
-abbrev pub started_tasks : History → ℕ
+abbrev pub started_tasks : Record → ℕ
 started_tasks [] = 0
-started_tasks (x ∷ h) = tasks_in x.event x.answer (started_tasks h)
+started_tasks (x ∷ h) = tasks_in x.happened.event x.happened.answer (started_tasks h)
 
 -- what has happened since the last accepted start after a call that answered y, where q is that with the call itself:
 -- nothing, if the call is such a start
-abbrev pub since_by : Call → Answer → History → History
+abbrev pub since_by : Call → Answer → Record → Record
 since_by (start b) y q = cond (eqb y.code 0) [] q
 since_by (allocate t size) y q = q
 since_by (free t u) y q = q
@@ -42,15 +42,15 @@ since_by (leave t) y q = q
 since_by (step t) y q = q
 
 -- the same of an event
-abbrev pub since_in : Event → Answer → History → History
+abbrev pub since_in : Event → Answer → Record → Record
 since_in (call k lent) y q = since_by k y q
 since_in (write at b) y q = q
 since_in (write_strip at b) y q = q
 
 -- "from a start up to the next": what has happened in a history since its last accepted start
-abbrev pub since_start : History → History
+abbrev pub since_start : Record → Record
 since_start [] = []
-since_start (x ∷ h) = since_in x.event x.answer (x ∷ since_start h)
+since_start (x ∷ h) = since_in x.happened.event x.happened.answer (x ∷ since_start h)
 
 -- ---- "the lost exchanges number at most (T − 1) times the won ones"
 
@@ -75,9 +75,9 @@ won_among [] = 0
 won_among (e ∷ es) = cond (is_won e) (suc (won_among es)) (won_among es)
 
 -- what the events of a history have decided, the latest first
-abbrev pub decided_in : History → List Decided
+abbrev pub decided_in : Record → List Decided
 decided_in [] = []
-decided_in (x ∷ h) = x.answer.decided ∷ decided_in h
+decided_in (x ∷ h) = x.happened.answer.decided ∷ decided_in h
 
 -- "With T tasks, in every schedule from a start up to the next, the lost exchanges number at most (T − 1) times the won
 -- ones."
@@ -126,6 +126,6 @@ EachPaid (x ∷ h) = PaidBy x h × EachPaid h
 -- ---- both
 
 -- the two sentences, of the events of a run behind its last accepted start
-pub record CollisionsPaid (h : History) : Type 0 where
+pub record CollisionsPaid (h : Record) : Type 0 where
   pub few : FewLost (started_tasks h) (decided_in (since_start h))
   pub each : EachPaid (accesses (since_start h))
