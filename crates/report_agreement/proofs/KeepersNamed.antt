@@ -1,16 +1,16 @@
 -- The keeper that is read of each region is the plain pool's: the first of the four that is true, with the lowest task
 -- and unit; and there always is one.
-use mathlib.Core.Path.{◌≡◌, refl, sym, ap, subst, ◌∙◌}
-use mathlib.Core.Logic.{◌⊎◌, ⊎_elim, inl, inr}
-use mathlib.Core.Bool.{Bool, true, false, true≢false}
+use mathlib.Core.Path.{◌≡◌, refl, sym, ap, ◌∙◌}
+use mathlib.Core.Logic.{⊎_elim, inl, inr}
+use mathlib.Core.Bool.{Bool, true, true≢false}
 use mathlib.Core.List.{List}
-use Prim.Native.Nat.{ℕ, zero, suc, ◌+◌, ◌≤◌, ◌<◌}
+use Prim.Native.Nat.{ℕ, zero, suc, ◌≤◌, ◌<◌}
 use native.Mathlib.Omega.{arith}
 use borrow.Author.Tests.{lt-ltb, le-ltb, le-leb, leb-true, ltb-true}
 use lib.Dec.{ltb, leb}
 use lib.ListN.{length}
 use Rattle.limits.specs.Limits.{REGIONS, UNITS, TASKS, CLASSES, SPARE_REGIONS}
-use Rattle.rows.specs.Comparisons.{before, after, order?, holds, fails, true?}
+use Rattle.rows.specs.Comparisons.{before, after, order?}
 use Rattle.rows.specs.Counting.{count}
 use Rattle.rows.proofs.Totals.{total-found}
 use Rattle.fields.specs.Columns.{View}
@@ -28,12 +28,11 @@ use Rattle.reports.proofs.FirstPassing.{first-is}
 use Rattle.report_marks.specs.InHand.{lowest_in_hand}
 use Rattle.report_caches.specs.CacheRows.{lowest_cached}
 use Rattle.report_requests.specs.OneRegion.{has_blocks, has_region}
-use Rattle.report_regions.specs.declared.Opened.TheVariants.{Closed, Open}
 use Rattle.report_regions.specs.Opened.{opened_of}
 use Rattle.report_regions.proofs.OpenBounds.{class-below}
 use Rattle.keepers.specs.declared.Keeper.{Keeper}
 use Rattle.keepers.specs.Keepers.{first_request, spare_or, request_keeper, cache_keeper, hand_keeper, closed_keeper}
-use Rattle.keepers.specs.Keepers.{nobody, keeper_by, keeper_of}
+use Rattle.keepers.specs.Keepers.{nobody, keeper_of}
 use Rattle.report_agreement.specs.KeepersTell.{HandHas, CacheHas, HasRegion, RequestHas, Keeps, in-hand}
 use Rattle.report_agreement.specs.KeepersTell.{in-cache, in-request, spare}
 use Rattle.report_agreement.proofs.RegionsTold.{told, region-told}
@@ -45,7 +44,7 @@ use Rattle.report_agreement.proofs.CachesKept as Caches
 use Rattle.report_agreement.proofs.RequestsKept.{has-running, running-told}
 use Rattle.report_agreement.proofs.RegionsHeld.{held-told}
 use Rattle.report_agreement.proofs.SparesKept.{spares-told}
-use Rattle.report_agreement.proofs.SomeKeeper.{spare-or-held, SomeBlock, handed, cached, running, some_block}
+use Rattle.report_agreement.proofs.SomeKeeper.{spare-or-held, handed, cached, running, some_block}
 
 -- the keeper k of the region r, by what it names
 abbrev pub Named : Mem → ℕ → Keeper → Type 0

@@ -1,14 +1,13 @@
 -- "Under the premises of the two runs one always applies, and it is proved to be true of the pool": the keepers are
 -- filled in, and tell the plain pool.
-use mathlib.Core.Path.{◌≡◌, sym, ap, subst, ◌∙◌}
-use mathlib.Core.Bool.{true}
+use mathlib.Core.Path.{◌≡◌, ap, ◌∙◌}
 use mathlib.Core.List.{List}
 use Prim.Native.Nat.{ℕ, suc, ◌+◌, ◌*◌, ◌≤◌, ◌<◌}
 use native.Mathlib.Omega.{arith}
 use borrow.Author.Tests.{le-leb}
 use lib.Dec.{leb}
 use lib.ListN.{length, get_or}
-use Rattle.limits.specs.Limits.{REGIONS, UNITS, TASKS}
+use Rattle.limits.specs.Limits.{REGIONS}
 use Rattle.fields.specs.Little.{get_le}
 use Rattle.links.specs.Link.{link}
 use Rattle.plain.specs.State.{Mem}

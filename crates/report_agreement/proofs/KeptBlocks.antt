@@ -1,18 +1,17 @@
 -- The blocks of one region in the plain pool: in a user's hands, in caches and with requests. Each is a block of the
 -- class in which the region is open; of a region that is not open there is none.
-use mathlib.Core.Path.{◌≡◌, sym, ap, subst, ◌∙◌}
-use Prim.Native.Nat.{ℕ, suc, ◌+◌, ◌≤◌, ◌<◌}
+use mathlib.Core.Path.{◌≡◌, ap, subst}
+use Prim.Native.Nat.{ℕ, suc, ◌≤◌, ◌<◌}
 use native.Mathlib.Omega.{arith}
 use Rattle.limits.specs.Limits.{TASKS, CLASSES, DESCRIPTORS}
 use Rattle.rows.specs.Counting.{count}
-use Rattle.rows.specs.Totals.{total}
 use Rattle.rows.proofs.Weights.{when-same}
 use Rattle.rows.proofs.Totals.{total-one, total-found}
 use Rattle.classes.specs.Geometry.{region_of, BlockOf}
 use Rattle.plain.specs.State.{Mem}
 use Rattle.plain.specs.Blocks.{count_block}
 use Rattle.plain.specs.ByState.{if_open}
-use Rattle.plain.specs.Held.{class_at, under_way}
+use Rattle.plain.specs.Held.{class_at}
 use Rattle.plain.specs.HolderWeights.{row_weight, inside_weight, inside_class_weight}
 use Rattle.plain.specs.Invariant.{Invariant}
 use Rattle.plain.proofs.Homes.{Home, home}

@@ -1,7 +1,7 @@
 -- The list of spare regions that is read is the plain pool's row.
 use mathlib.Core.Path.{◌≡◌, refl, sym, ap, ◌∙◌}
 use mathlib.Core.Bool.{true}
-use mathlib.Core.List.{List, [], ◌∷◌}
+use mathlib.Core.List.{List, ◌∷◌}
 use Prim.Native.Nat.{ℕ, zero, suc, ◌-◌, ◌≤◌, ◌<◌}
 use native.Mathlib.Omega.{arith}
 use borrow.Author.Tests.{eq-eqb, ne_eqb, le-leb}
@@ -12,7 +12,7 @@ use Rattle.rows.specs.Comparisons.{same, other, same?}
 use Rattle.rows.specs.Counting.{count}
 use Rattle.rows.specs.Linked.{Linked, ends, links}
 use Rattle.rows.proofs.Counting.{count-first}
-use Rattle.rows.proofs.Weights.{when-same, when-other, below-is}
+use Rattle.rows.proofs.Weights.{when-other, below-is}
 use Rattle.fields.specs.Columns.{View}
 use Rattle.plain.specs.State.{Mem}
 use Rattle.plain.specs.Invariant.{Invariant}
@@ -30,10 +30,10 @@ module _ (v : View) (regions : ℕ) where
   list-passes {f} zero (ends e) l h = eq-eqb f 0 e
   list-passes zero (links e L) l h = absurd (omega arith)
   list-passes {f} (suc n) (ends e) l h = rw (eq-eqb f 0 e)
-  list-passes (suc n) (links {u = u} {r = q} e L) l h =
+  list-passes {f = f} (suc n) (links {u = u} {r = q} e L) l h =
       let s : suc u - 1 ≡ u = omega arith in
       rw (e, ne_eqb (suc u) 0 (λ z. omega arith), le-leb (suc u) regions (h u (count-first u q)), s)
-      (list-passes n L (omega arith) (λ x g. h x (omega arith)))
+      (list-passes {f = v (RegionNext u)} n L (omega arith) (λ x g. h x (omega arith)))
 
   -- and tells whether a region is in the row
   list_tells : {f : ℕ} {q : List ℕ} (r n : ℕ) → Linked (λ r. v (RegionNext r)) suc 0 f q → length q ≤ n
@@ -42,7 +42,7 @@ module _ (v : View) (regions : ℕ) where
   list_tells r zero (ends e) l = refl
   list_tells r zero (links e L) l = absurd (omega arith)
   list_tells {f} r (suc n) (ends e) l = rw (eq-eqb f 0 e)
-  list_tells r (suc n) (links {u = u} {r = q} e L) l =
+  list_tells {f = f} r (suc n) (links {u = u} {r = q} e L) l =
       let s : suc u - 1 ≡ u = omega arith in
       elim (same? u r) [
         | same z ↦
@@ -50,7 +50,7 @@ module _ (v : View) (regions : ℕ) where
             (sym (le-leb 1 (count r (u ∷ q)) (omega (arith, ap (λ (x : ℕ). count x (u ∷ q)) z, count-first u q))))
         | other d ↦ (let n-more : count r (u ∷ q) ≡ count r q = omega (arith, when-other r u 1 (λ y. d (sym y))) in
             rw (e, ne_eqb (suc u) 0 (λ y. omega arith), s, ne_eqb u r d)
-            (list_tells r n L (omega arith) ∙ ap (leb 1) (sym n-more)))
+            (list_tells {f = v (RegionNext u)} r n L (omega arith) ∙ ap (leb 1) (sym n-more)))
       ]
 
 module _ {regions : ℕ} {m : Mem} (v : View) (area : List ℕ) (R : Related regions (contents_of v area) m)
