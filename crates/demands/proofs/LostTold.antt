@@ -13,7 +13,7 @@ use Rattle.links.specs.Link.{link}
 use Rattle.plain.specs.Moves.{Answer}
 use Rattle.plain.specs.Calls.{Pool, Call, Start, start, allocate, free, leave, step, unstarted, Lengths}
 use Rattle.control.specs.Layout.{seen, changed, Tasks, Regions, TaskLost}
-use Rattle.control.specs.Answers.{CODES, code_of, lost_told, code_in, lost_in}
+use Rattle.control.specs.Answers.{CODES, lost_told, code_in, lost_in}
 use Rattle.control.specs.declared.answer.Answer as Declared
 use Rattle.control.specs.declared.answer.Answer.TheVariants.{Accepted, Allocated, Freed, NoDescriptor, NoRegion}
 use Rattle.control.specs.declared.answer.Answer.TheVariants.{NoStrip, Refused}
@@ -24,14 +24,14 @@ use Rattle.stepped.specs.Ranges.{one_to}
 use Rattle.reports.specs.Rows.{BYTES_OF_NUMBER, numbers_to}
 use Rattle.reports.specs.Reports.{report_refusal, answered, report_of, report_on, Answers}
 use Rattle.agreement.specs.Ends.{IsEnd}
-use Rattle.agreement.specs.Events.{whole, Premise, Premises, Unstarted}
+use Rattle.agreement.specs.Events.{Premise, Premises, Unstarted}
 use Rattle.agreement.specs.Reached.{History, happened, Reached, from_unstarted, by_event}
 use Rattle.agreement.specs.LostExchanges.{lost_in_request}
 use Rattle.agreement.proofs.Ends.{step-ends, ends_by}
 use Rattle.agreement.proofs.Reaching.{reached-tied, reached-counted}
 use Rattle.agreement.proofs.Ways.{branch, start-tests}
 use Rattle.demands.specs.AnswerKinds.{ends_request}
-use Rattle.demands.specs.Acts.{Act, on_own, on_other, write, write_strip, Contract, OtherLength, Happens}
+use Rattle.demands.specs.Acts.{Act, on_own, on_other, write, write_strip, Contract, Happens}
 use Rattle.demands.specs.Acts.{AllHappen, event_of_call, event_of_act, events_of_acts}
 use Rattle.demands.specs.LostTold.{LostTold, AlongHistory}
 use Rattle.demands.proofs.NumberTells.{told, effect-none, end-told}

@@ -24,8 +24,10 @@ pub along-acts : (P : Act → Memories → Pool → Type 0) → WhereverActs P �
     → Reached h s p → (acts : List Act) → AllHappen acts s → Premises (events_of_acts acts s) p
     → AlongActs P acts s p
 along-acts P f R [] run premises = tt
-along-acts P f {h} {s} {p} R (a ∷ rest) run premises =
-    (f h s p R a run.0 premises.0, along-acts P f (by-act R a run.0 premises.0) rest run.1 premises.1)
+along-acts P f {h} {s} {p} R (a ∷ rest) run premises = (
+  f h s p R a run.0 premises.0,
+  along-acts P f {h = happened (event_of_act a s) s p ∷ h} (by-act R a run.0 premises.0) rest run.1 premises.1,
+)
 
 -- The same of what speaks of the history that ends with the act.
 pub along-history : (P : Act → History → Type 0)
@@ -36,5 +38,5 @@ pub along-history : (P : Act → History → Type 0)
 along-history P f R [] run premises = tt
 along-history P f {h} {s} {p} R (a ∷ rest) run premises = (
   f h s p R a run.0 premises.0,
-  along-history P f (by-act R a run.0 premises.0) rest run.1 premises.1,
+  along-history P f {h = happened (event_of_act a s) s p ∷ h} (by-act R a run.0 premises.0) rest run.1 premises.1,
 )

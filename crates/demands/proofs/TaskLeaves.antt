@@ -2,12 +2,11 @@
 -- run has come, what each of its steps does and what it leaves when it finishes.
 use mathlib.Core.Path.{◌≡◌, refl, sym, ap, subst, subst⁻¹, ◌∙◌}
 use mathlib.Core.Bool.{false≢true}
-use mathlib.Core.List.{List, [], ◌∷◌}
+use mathlib.Core.List.{[], ◌∷◌}
 use Prim.Native.Nat.{ℕ, ◌≤◌, ◌<◌}
 use native.Mathlib.Omega.{arith}
 use native.Mathlib.Decide.{dec_lt}
 use Rattle.rows.proofs.Branch.{if_yes}
-use borrow.Author.Tests.{eq-eqb}
 use lib.Dec.{ltb, eqb}
 use lib.ListN.{length}
 use Rattle.limits.specs.Limits.{TASKS, CLASSES}
@@ -16,8 +15,8 @@ use Rattle.control.specs.Layout.{seen, changed, TaskPlace, TaskUnit, TaskLost, C
 use Rattle.control.specs.Answers.{code_in}
 use Rattle.control.specs.declared.answer.Answer.TheVariants.{Accepted}
 use Rattle.fields.specs.Columns.{View, ◌:=◌}
-use Rattle.links.specs.Link.{link, with_links}
-use Rattle.plain.specs.State.{Place, Work, idle, working}
+use Rattle.links.specs.Link.{with_links}
+use Rattle.plain.specs.State.{Place, idle, working}
 use Rattle.plain.specs.Moves.{Answer}
 use Rattle.plain.specs.Steps.{step_of}
 use Rattle.plain.specs.Requests.{Request, allocation, freeing, strip_allocation, strip_freeing, leaving, request_at}
@@ -35,7 +34,7 @@ use Rattle.agreement.specs.Contents.{contents_of}
 use Rattle.agreement.specs.Reached.{History, Reached, by_event}
 use Rattle.agreement.specs.Asked.{for_leave, asked}
 use Rattle.agreement.specs.AtWhatAsked.{AsAsked, AtWhatAsked}
-use Rattle.agreement.specs.Relation.{PlaceRelated, r_idle, r_working}
+use Rattle.agreement.specs.Relation.{PlaceRelated, r_idle}
 use Rattle.agreement.proofs.Ways.{accepted-no, tests, branch}
 use Rattle.agreement.proofs.BeginningEnds.{leave_ends}
 use Rattle.agreement.proofs.Reaching.{reached-tied, reached-asked}
