@@ -10,23 +10,6 @@ returns-then-order-wanted t c =
     rw (← halve-done (tree_with c.args.a c.args.b c.args.c c.args.d) c.args.order c.args.wanted c.args.node (omega arith))
     c.set_tree.ensures
 
-pub overflow_mul-lower : goal.overflow_mul-lower
-overflow_mul-lower t c =
-    record { fits = omega (arith, twice c.args.order (omega arith), most c.args.order (omega arith)) }
-
-pub overflow_add-result : goal.overflow_add-result
-overflow_add-result t c =
-    record { fits = omega (arith, twice c.args.order (omega arith), most c.args.order (omega arith)) }
-
-pub mark-requires : goal.mark-requires
-mark-requires t c =
-    omega (
-      arith,
-      raised c.args.order (omega arith) (omega arith),
-      twice (c.args.order - 1) (omega arith),
-      most (c.args.order - 1) (omega arith),
-    )
-
 pub halve_low-requires : goal.halve_low-requires
 halve_low-requires t c = (
   omega arith,

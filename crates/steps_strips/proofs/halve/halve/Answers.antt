@@ -5,14 +5,6 @@ use Rattle.strip_tree.proofs.Powers.{shifted_down, down-shifted}
 use Rattle.strip_tree.proofs.Finding.{halve-through}
 use Rattle.steps_strips.proofs.halve.halve.Goals as goal
 
--- UNMATCHED same-length
-same_length : tie.Need-same-length
-same_length c = search rules
-
--- UNMATCHED same-length-2
-same-length-2 : tie.Need-same-length-2
-same-length-2 c = search rules
-
 pub returns-then-wanted-ge-FIRST_WORD_ORDER : goal.returns-then-wanted-ge-FIRST_WORD_ORDER
 returns-then-wanted-ge-FIRST_WORD_ORDER c =
     rw (← c.halve_high-a.ensures c.args.t.b c.args.t.c c.args.t.d) c.set_tree.ensures
@@ -28,10 +20,6 @@ halve_low-requires-2 c =
       },
       omega arith,
     )
-
--- UNMATCHED same-length-3
-same-length-3 : tie.Need-same-length-3
-same-length-3 c = search rules
 
 pub returns : goal.returns
 returns c =

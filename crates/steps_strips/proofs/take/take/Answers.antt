@@ -13,15 +13,15 @@ returns-then-class-ge-ORDERS c = done (order-large _ _ _ (omega arith)) refl ref
 pub take_at-requires : goal.take_at-requires
 take_at-requires c =
     let x = finds c.tree-t.result c.args.class _ _ (omega arith)
-    (sym c.find.ensures ∙ c.node-1.given.1) in
+    (sym c.find.ensures ∙ c.in-At.is) in
     (search rules, search rules, c.tree-t.ensures, in-level _ _ _ _ x, x.enough)
 
 pub returns-in-At : goal.returns-in-At
 returns-in-At c =
     does (take-one _ _ _ _ c.tree-t.ensures (omega arith) _ c.find.ensures _ _
-    c.node-1.given.1) c.take_at.ensures
+    c.in-At.is) c.take_at.ensures
 
 pub returns-in-Nothing : goal.returns-in-Nothing
 returns-in-Nothing c =
     done (take_none _ _ _ _ c.tree-t.ensures (omega arith) _ c.find.ensures
-    c.enum_told-1.given.1) refl c.set_task_place.ensures refl
+    c.in-Nothing.is) refl c.set_task_place.ensures refl
