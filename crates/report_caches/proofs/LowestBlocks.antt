@@ -1,5 +1,5 @@
 -- The lowest block of a region in a cache that is in its range: what is left of the row gives the whole's.
-use mathlib.Core.Path.{◌≡◌, refl, sym, ap, ◌∙◌}
+use mathlib.Core.Path.{◌≡◌, refl, sym, ap, subst, ◌∙◌}
 use mathlib.Core.Logic.{◌≢◌}
 use mathlib.Core.Bool.{true}
 use mathlib.Core.List.{List, [], ◌∷◌}
@@ -140,7 +140,8 @@ lowest-of r (u ∷ q) low =
     named : (x : ℕ) → x ≡ lower_of r u low → x < low → (region_of x ≡ r) × (1 ≤ count x (u ∷ q))
     named x e h = elim (same? (region_of u) r) [
       | same z ↦ elim (order? u low) [
-        | before l ↦ (let f : x ≡ u = e ∙ lower-there r u low z l in rw f (z, count-first u q))
+        | before l ↦ (let f : x ≡ u = e ∙ lower-there r u low z l in
+            subst (λ w. (region_of w ≡ r) × (1 ≤ count w (u ∷ q))) (sym f) (z, count-first u q))
         | after l ↦ absurd (omega (arith, e, lower-behind r u low z l))
       ]
       | other d ↦ absurd (omega (arith, e, lower-elsewhere r u low d))
