@@ -17,7 +17,7 @@ use words::anchor;
 use words::anchor::Anchor;
 
 // What is read of a region.
-#[derive(Drop)]
+#[derive(Clone, Copy)]
 pub enum Opened {
     // The region is not open.
     Closed,
