@@ -83,7 +83,7 @@ pub fn of_region(control: &[u8], regions: usize, region: usize) -> Opened
 
 // What is read of all regions of the area: the class in which each is open, 13 where it is not, and how many blocks its
 // chain has. `fits` is false where a value that was read is out of its range, and then the others say nothing.
-#[derive(Drop)]
+#[derive(Clone, Copy)]
 pub struct OpenRegions {
     pub fits: bool,
     pub classes: [u8; limits::REGIONS],
