@@ -2,7 +2,7 @@
 use mathlib.Core.Path.{◌≡◌, refl, sym, ap, ◌∙◌}
 use mathlib.Core.Bool.{Bool, true, false, false≢true}
 use mathlib.Core.List.{List}
-use Prim.Native.Nat.{ℕ, suc, ◌+◌, ◌*◌, ◌/◌, ◌%◌, ◌≤◌, ◌<◌}
+use Prim.Native.Nat.{ℕ, ◌+◌, ◌*◌, ◌/◌, ◌%◌, ◌≤◌, ◌<◌}
 use native.Mathlib.Omega.{arith}
 use borrow.Author.Tests.{le-leb}
 use lib.Dec.{leb}
@@ -17,7 +17,7 @@ use Rattle.reports.specs.Reports.{Gathered}
 use Rattle.reports.proofs.Passing.{one_more, one-fails}
 use Rattle.reports.proofs.Rows.{numbers_are}
 use Rattle.keepers.specs.declared.Keeper.{Keeper}
-use Rattle.keepers.specs.Keepers.{keeper_of, KEEPER_NUMBERS, TASK_WEIGHT, number_of, keeper_number, read_in_range}
+use Rattle.keepers.specs.Keepers.{keeper_of, KEEPER_NUMBERS, TASK_WEIGHT, keeper_number, read_in_range}
 use Rattle.keepers.specs.Keepers.{are_kept}
 use Rattle.keepers.specs.Filling.{KeepersFilled}
 
