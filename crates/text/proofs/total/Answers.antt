@@ -1,0 +1,11 @@
+-- The word and the three numbers one behind the other.
+use Rattle.text.specs.Lines.{total_text}
+use Rattle.text.proofs.TextWriting.{both}
+use Rattle.text.proofs.total.Goals as goal
+
+pub returns : goal.returns
+unfolding total_text
+returns c =
+    both
+    (both (both c.word-start.ensures c.field-first.ensures.0) c.field-second.ensures.0)
+    c.field.ensures.0
