@@ -6,8 +6,9 @@ ghost use Rattle.std.specs.Prelude.{◌≡◌, ◌≤◌, length};
 ghost use Rattle.schedule.specs.Records.{INPUT_BYTES};
 ghost use Rattle.table.specs.Output.{TABLE_BYTES, Plays};
 
-use libc::{STDIN_FILENO, STDOUT_FILENO};
 use schedule::lend;
+use std::io;
+use std::io::Write;
 
 // Zeros for the table of the longest input.
 fn room() -> [u8; table::TABLE_BYTES]
@@ -28,10 +29,10 @@ fn play(input: &[u8], out: &mut [u8]) -> usize
     table::write(&mut control, &mut area, &strips, input, out, false)
 }
 
-fn main() {
+fn main(rt: HostRuntime) -> io::Result<()> {
     let mut out = room();
-    let mut input = io::large_buffer();
-    let n = io::read_full(STDIN_FILENO, &mut input);
-    let length = play(&input[..n], &mut out);
-    io::write_all(STDOUT_FILENO, &out[..length]);
+    let mut records = [0u8; input::MOST_BYTES];
+    let n = input::read_full(&mut rt.stdin(), &mut records)?;
+    let length = play(&records[..n], &mut out);
+    rt.stdout().write_all(&out[..length])
 }

@@ -10,8 +10,9 @@ ghost use Rattle.reports.specs.Reports.{Answers};
 ghost use Rattle.holders.specs.Form.{form_of};
 
 use control::answer;
-use libc::{STDIN_FILENO, STDOUT_FILENO};
 use schedule::{lend, play};
+use std::io;
+use std::io::Write;
 
 // Plays the schedule on three memories that are zero at first, and has the form of the pool that it leaves put into
 // the row. The form is lent the part of the area that the pool was started with.
@@ -28,12 +29,12 @@ fn form_after(input: &[u8], row: &mut [u8]) -> u64
     pool::pool_holders(&control, &area[..n], &strips, row)
 }
 
-fn main() {
+fn main(rt: HostRuntime) -> io::Result<()> {
     let mut row = [0u8; holders::FORM_BYTES];
-    let mut input = io::large_buffer();
-    let n = io::read_full(STDIN_FILENO, &mut input);
-    let answer = form_after(&input[..n], &mut row);
+    let mut records = [0u8; input::MOST_BYTES];
+    let n = input::read_full(&mut rt.stdin(), &mut records)?;
+    let answer = form_after(&records[..n], &mut row);
     let code = [(answer % answer::CODES) as u8];
-    io::write_all(STDOUT_FILENO, &code);
-    io::write_all(STDOUT_FILENO, &row);
+    rt.stdout().write_all(&code)?;
+    rt.stdout().write_all(&row)
 }

@@ -11,8 +11,9 @@ ghost use Rattle.reports.specs.Reports.{Answers};
 ghost use Rattle.keepers.specs.Keepers.{keepers_of};
 
 use control::answer;
-use libc::{STDIN_FILENO, STDOUT_FILENO};
 use schedule::{lend, play};
+use std::io;
+use std::io::Write;
 
 // The keepers of the regions of the stand's area. Those of regions that the pool was not started with stay zero.
 const ROW_BYTES: usize = keepers::KEEPER_BYTES * lend::STAND_REGIONS;
@@ -41,15 +42,15 @@ fn keepers_after(input: &[u8], row: &mut [u8]) -> BothAnswers
     BothAnswers { last, report }
 }
 
-fn main() {
+fn main(rt: HostRuntime) -> io::Result<()> {
     let mut row = [0u8; ROW_BYTES];
-    let mut input = io::large_buffer();
-    let n = io::read_full(STDIN_FILENO, &mut input);
-    let answers = keepers_after(&input[..n], &mut row);
+    let mut records = [0u8; input::MOST_BYTES];
+    let n = input::read_full(&mut rt.stdin(), &mut records)?;
+    let answers = keepers_after(&records[..n], &mut row);
     let codes = [
         (answers.last % answer::CODES) as u8,
         (answers.report % answer::CODES) as u8,
     ];
-    io::write_all(STDOUT_FILENO, &codes);
-    io::write_all(STDOUT_FILENO, &row);
+    rt.stdout().write_all(&codes)?;
+    rt.stdout().write_all(&row)
 }
