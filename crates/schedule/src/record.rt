@@ -28,7 +28,7 @@ const TASK_AT: usize = 1;
 
 const NUMBER_AT: usize = 2;
 
-#[derive(Drop)]
+#[derive(Clone, Copy)]
 pub enum Record {
     // Tasks and regions.
     Start(u8, u8),
@@ -47,7 +47,7 @@ pub enum Record {
 }
 
 // A record with what its line repeats: its number, from 0, and its kind byte.
-#[derive(Drop)]
+#[derive(Clone, Copy)]
 pub struct Entry {
     pub number: u64,
     pub kind: u8,

@@ -4,7 +4,7 @@ ghost use Rattle.schedule.specs.Tally.{none_counted, counted};
 
 use std::num;
 
-#[derive(Drop)]
+#[derive(Clone, Copy)]
 pub struct Tally {
     pub finished: u64,
     pub accepted: u64,
