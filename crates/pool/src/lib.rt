@@ -1,6 +1,7 @@
-// The functions that firmware calls. Each takes the three memories as byte slices, and answers one number: the code in
-// the low 8 bits, the value in the next 24, and where a step ends a request its lost exchanges in the high 32. Of the
-// strips' memory only the length is asked. No call asks anything of its caller: any bytes and any numbers are answered.
+// The functions that firmware calls, from C by crates/pool_c, which exports each under its name. Each takes the three
+// memories as byte slices, and answers one number: the code in the low 8 bits, the value in the next 24, and where a
+// step ends a request its lost exchanges in the high 32. Of the strips' memory only the length is asked. No call asks
+// anything of its caller: any bytes and any numbers are answered.
 #![tactic(auto)]
 
 ghost use Rattle.std.specs.Prelude.{length};
@@ -16,8 +17,7 @@ use control::{answer, started};
 use steps::step;
 
 // Begins a new run with so many tasks, on any bytes: it fills the control memory, and leaves the others as they are.
-#[unsafe(no_mangle)]
-pub extern "C" fn pool_start(control: &mut [u8], area: &[u8], strips: &[u8], tasks: u64) -> u64
+pub fn pool_start(control: &mut [u8], area: &[u8], strips: &[u8], tasks: u64) -> u64
     ensures { Ensures (start (record { tasks = tasks })) control.old area.now strips.now
         control.new area.now strips.now result }
 {
@@ -48,8 +48,7 @@ pub extern "C" fn pool_start(control: &mut [u8], area: &[u8], strips: &[u8], tas
 }
 
 // Begins an allocation of so many bytes for a task, of a block or of a strip. It does no step.
-#[unsafe(no_mangle)]
-pub extern "C" fn pool_begin_allocate(
+pub fn pool_begin_allocate(
     control: &mut [u8],
     area: &[u8],
     strips: &[u8],
@@ -68,14 +67,7 @@ pub extern "C" fn pool_begin_allocate(
 
 // Begins the free of the block or strip at this unit, by any task: the mark of a block is cleared, and the byte of a
 // strip's slot says that its free has begun. It does no step.
-#[unsafe(no_mangle)]
-pub extern "C" fn pool_begin_free(
-    control: &mut [u8],
-    area: &[u8],
-    strips: &[u8],
-    task: u64,
-    unit: u64,
-) -> u64
+pub fn pool_begin_free(control: &mut [u8], area: &[u8], strips: &[u8], task: u64, unit: u64) -> u64
     ensures { Ensures (freed task unit) control.old area.now strips.now
         control.new area.now strips.now result }
 {
@@ -88,8 +80,7 @@ pub extern "C" fn pool_begin_free(
 }
 
 // Begins leaving: the steps of the request give back all that the task has cached, class by class. It does no step.
-#[unsafe(no_mangle)]
-pub extern "C" fn pool_begin_leave(control: &mut [u8], area: &[u8], strips: &[u8], task: u64) -> u64
+pub fn pool_begin_leave(control: &mut [u8], area: &[u8], strips: &[u8], task: u64) -> u64
     ensures { Ensures (left task) control.old area.now strips.now
         control.new area.now strips.now result }
 {
@@ -101,8 +92,7 @@ pub extern "C" fn pool_begin_leave(control: &mut [u8], area: &[u8], strips: &[u8
 }
 
 // One step of the request that a task has in hand.
-#[unsafe(no_mangle)]
-pub extern "C" fn pool_step(control: &mut [u8], area: &mut [u8], strips: &[u8], task: u64) -> u64
+pub fn pool_step(control: &mut [u8], area: &mut [u8], strips: &[u8], task: u64) -> u64
     ensures { Ensures (stepped task) control.old area.old strips.now
         control.new area.new strips.now result }
 {
@@ -117,18 +107,17 @@ pub extern "C" fn pool_step(control: &mut [u8], area: &mut [u8], strips: &[u8], 
 // The tests 1, 4, 2 of a report: those of a call of task 0, which every started pool has. Callers: the reports below.
 fn report_tests(control: &[u8], area: &[u8], strips: &[u8]) -> u8
     ensures { TestsAre (record {
-      control = length control.entry.now;
+      control = length control.now;
       area = length area.now;
       strips = length strips.now;
     })
-        (seen control.entry.now) 0 result }
+        (seen control.now) 0 result }
 {
     tests::tests(control, area.len(), strips.len(), 0)
 }
 
 // The stock sheet: where the small blocks are, for each class and region, in the lent row. It changes nothing else.
-#[unsafe(no_mangle)]
-pub extern "C" fn pool_sheet(control: &[u8], area: &[u8], strips: &[u8], sheet: &mut [u8]) -> u64
+pub fn pool_sheet(control: &[u8], area: &[u8], strips: &[u8], sheet: &mut [u8]) -> u64
     ensures { SheetEnsures control.now area.now strips.now
         sheet.old sheet.new result }
 {
@@ -141,8 +130,7 @@ pub extern "C" fn pool_sheet(control: &[u8], area: &[u8], strips: &[u8], sheet: 
 }
 
 // The form by holder: how many small blocks of each class each holder has, in the lent row. It changes nothing else.
-#[unsafe(no_mangle)]
-pub extern "C" fn pool_holders(control: &[u8], area: &[u8], strips: &[u8], form: &mut [u8]) -> u64
+pub fn pool_holders(control: &[u8], area: &[u8], strips: &[u8], form: &mut [u8]) -> u64
     ensures { HoldersEnsures control.now area.now strips.now
         form.old form.new result }
 {
@@ -155,13 +143,7 @@ pub extern "C" fn pool_holders(control: &[u8], area: &[u8], strips: &[u8], form:
 }
 
 // The region's keepers: who keeps each region of the area, in the lent row. It changes nothing else.
-#[unsafe(no_mangle)]
-pub extern "C" fn pool_keepers(
-    control: &[u8],
-    area: &[u8],
-    strips: &[u8],
-    keepers: &mut [u8],
-) -> u64
+pub fn pool_keepers(control: &[u8], area: &[u8], strips: &[u8], keepers: &mut [u8]) -> u64
     ensures { KeepersEnsures control.now area.now strips.now
         keepers.old keepers.new result }
 {
