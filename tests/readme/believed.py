@@ -12,7 +12,7 @@ STATEMENTS = ('crates/demands/proofs/Demands.antt', 'crates/demands/proofs/Endin
               'crates/demands/proofs/HandedOut.antt', 'crates/demands/proofs/StockSheet.antt',
               'crates/demands/proofs/SheetByHolder.antt', 'crates/demands/proofs/RegionKeepers.antt',
               'crates/demands/proofs/LostTold.antt')
-IMPORT = re.compile(r'^(?:unfoldable )?(?:pub )?use Rattle·(\w+)(?:·specs)?\.specs\.(\w+)', re.M)
+IMPORT = re.compile(r'^(?:unfoldable )?(?:pub )?use Rattle\.(\w+)\.specs\.(\w+)', re.M)
 
 
 def path_of(crate, name):

@@ -7,7 +7,8 @@ import tempfile
 
 from documents import README, read
 
-WORDS = {'check', 'dev', 'staticlib', 'must-fail', 'ci', 'prove', 'fmt', 'doc', 'version', 'try', 'goals'}
+WORDS = {'check', 'ci', 'must-fail', 'run', 'lib', 'test', 'try', 'all', 'verdict', 'fmt', 'tidy', 'expand', 'plant', 'lemma',
+         'new', 'seed', 'names', 'selftest', 'doc', 'version', 'help'}
 STEPS = 'crates/plain/specs/Steps.antt'
 # The edits of the tour, in their order.
 EDITS = ['crates/plain/must-fail/one_block_for_all.edit',
@@ -22,7 +23,7 @@ def code():
 
 def known():
     """Every rt WORD [CRATE] has a word of the toolchain and a crate of crates.txt."""
-    crates = re.findall(r'^(\w+):', read('crates.txt'), re.M)
+    crates = re.findall(r'^(\w+)(?: staticlib)?:', read('crates.txt'), re.M)
     result = []
     for line in code():
         words = line.split()

@@ -17,7 +17,7 @@ NUMBER = r'((?:\d{1,3}(?:,\d{3})+|\d+)(?:\.\d+)?(?!\d|[.,]\d))'  # 174, 9,001 or
 
 def printed(command):
     """What the source prints, as a number; `library` is the library's file to it. NAME of FILE is a defined number."""
-    constant = re.fullmatch(r'([A-Z0-9-]+) of (\S+\.antt)', command)
+    constant = re.fullmatch(r'([A-Z0-9_]+) of (\S+\.antt)', command)
     if constant:
         return float(value(constant.group(1), named(LIMITS, constant.group(2))))
     done = subprocess.run(['bash', '-o', 'pipefail', '-c', command], capture_output=True, text=True, check=False,

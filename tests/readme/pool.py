@@ -16,21 +16,21 @@ KEEPERS = 'crates/keepers/specs/Keepers.antt'
 LOSTS = 'crates/control/specs/Losts.antt'
 PICTURE = 'docs/pictures/memories.svg'
 # The rows of the table of numbers, and the constants of the header, by the names of the definitions.
-ROWS = {'tasks': 'TASKS', 'bytes of the control memory': 'CONTROL-BYTES', 'regions of the area': 'REGIONS',
-        'bytes of a region': 'REGION-BYTES', 'bytes of a unit': 'UNIT-BYTES', 'units of a region': 'REGION-UNITS',
-        "bytes of the strips' memory": 'STRIPS-BYTES', 'bytes of a slot': 'SLOT-BYTES',
-        "slots of the strips' memory": 'SLOTS', 'units of a slot': 'SLOT-UNITS', 'orders of strips': 'ORDERS',
+ROWS = {'tasks': 'TASKS', 'bytes of the control memory': 'CONTROL_BYTES', 'regions of the area': 'REGIONS',
+        'bytes of a region': 'REGION_BYTES', 'bytes of a unit': 'UNIT_BYTES', 'units of a region': 'REGION_UNITS',
+        "bytes of the strips' memory": 'STRIPS_BYTES', 'bytes of a slot': 'SLOT_BYTES',
+        "slots of the strips' memory": 'SLOTS', 'units of a slot': 'SLOT_UNITS', 'orders of strips': 'ORDERS',
         'classes of blocks': 'CLASSES', 'descriptors': 'DESCRIPTORS', 'lists': 'LISTS', 'tags of a head word': 'TAGS'}
-CONSTANTS = {'POOL_CONTROL_BYTES': 'CONTROL-BYTES', 'POOL_REGION_BYTES': 'REGION-BYTES', 'POOL_REGIONS_MOST': 'REGIONS',
-             'POOL_TASKS_MOST': 'TASKS', 'POOL_BLOCK_MOST': 'LARGEST-SIZE', 'POOL_UNIT_BYTES': 'UNIT-BYTES',
-             'POOL_ALIGNMENT': 'ALIGNMENT', 'POOL_STRIPS_BYTES': 'STRIPS-BYTES', 'POOL_STRIP_LEAST': 'SLOT-BYTES',
-             'POOL_STRIP_FIRST': 'UNITS', 'POOL_CLASSES': 'CLASSES', 'POOL_SHEET_BYTES': 'SHEET-BYTES',
-             'POOL_FORM_BYTES': 'FORM-BYTES', 'POOL_KEEPER_BYTES': 'KEEPER-BYTES', 'POOL_LOST_MOST': 'MOST-LOST'}
+CONSTANTS = {'POOL_CONTROL_BYTES': 'CONTROL_BYTES', 'POOL_REGION_BYTES': 'REGION_BYTES', 'POOL_REGIONS_MOST': 'REGIONS',
+             'POOL_TASKS_MOST': 'TASKS', 'POOL_BLOCK_MOST': 'LARGEST_SIZE', 'POOL_UNIT_BYTES': 'UNIT_BYTES',
+             'POOL_ALIGNMENT': 'ALIGNMENT', 'POOL_STRIPS_BYTES': 'STRIPS_BYTES', 'POOL_STRIP_LEAST': 'SLOT_BYTES',
+             'POOL_STRIP_FIRST': 'UNITS', 'POOL_CLASSES': 'CLASSES', 'POOL_SHEET_BYTES': 'SHEET_BYTES',
+             'POOL_FORM_BYTES': 'FORM_BYTES', 'POOL_KEEPER_BYTES': 'KEEPER_BYTES', 'POOL_LOST_MOST': 'MOST_LOST'}
 # The sentences on the order of the tests, and the lists of tests that make them up. 14 comes between, where it is read.
-ORDERS = {'a start': ['startTests'], 'the beginning of an allocation': ['callTests', 'idleTests', 'sizeTests'],
-          'the beginning of a free': ['callTests', 'idleTests', 'unitTests'],
-          'the beginning of leaving': ['callTests', 'idleTests', 'searchTests'],
-          'a step': ['callTests', 'requestTests']}
+ORDERS = {'a start': ['start_tests'], 'the beginning of an allocation': ['call_tests', 'idle_tests', 'size_tests'],
+          'the beginning of a free': ['call_tests', 'idle_tests', 'unit_tests'],
+          'the beginning of leaving': ['call_tests', 'idle_tests', 'search_tests'],
+          'a step': ['call_tests', 'request_tests']}
 
 
 def number_of(cell):
@@ -63,7 +63,7 @@ def classes():
     rows = {row[0]: list(map(int, row[1:])) for row in table}
     due = list(range(value('CLASSES', named(LIMITS))))
     result = [] if rows['class'] == due else [f'{POOL}: the classes {rows["class"]} are told; they are {due}']
-    for name, definition in (('block, bytes', 'blockSizes'), ('n', 'blockCounts')):
+    for name, definition in (('block, bytes', 'block_sizes'), ('n', 'block_counts')):
         due = row_of(definition)
         if rows.get(name) != due:
             result.append(f'{POOL}: {name}: {rows.get(name)} is told; {CLASSES} has {due}')
@@ -82,8 +82,8 @@ def waste():
     """The quarter limit is told for the sizes of its law, and its failure for the largest size that a law names."""
     law = re.search(r'^pub quarter : \(s : ℕ\) → (\d+) ≤ s → s ≤ (\S+) →', read(SIZES), re.M)
     first, last = law.groups()
-    failing = max(map(int, re.findall(r'^pub not-at-\d+ : 4 \* \(block \(classOf (\d+)\)', read(SIZES), re.M)))
-    block = min(size for size in row_of('blockSizes') if failing <= size)
+    failing = max(map(int, re.findall(r'^pub not-at-\d+ : 4 \* \(block \(class_of (\d+)\)', read(SIZES), re.M)))
+    block = min(size for size in row_of('block_sizes') if failing <= size)
     return unsaid(f'For every size from {first} to {value(last, named(LIMITS))}, less than a quarter',
                   f'At {failing} it is not less: {block - failing} of {block} bytes are a quarter')
 
@@ -118,14 +118,14 @@ def bench():
 def drawn():
     """Each region of a picture has the blocks, and what is left over behind them, of its class."""
     text = squeezed(re.sub(r'<[^>]*>', ' ', read(PICTURE)))
-    counts = dict(zip(row_of('blockSizes'), row_of('blockCounts')))
+    counts = dict(zip(row_of('block_sizes'), row_of('block_counts')))
     told = re.findall(r'(\d+)-byte class n = (\d+) .*?blocks 0 to (\d+), of (\d+) units each'
                       r'(?:; the last (\d+) units are no block)?', text)
     known, result = named(LIMITS), []
     for numbers in told:
         size, n, last, units, left = (int(number or 0) for number in numbers)
-        due = size // value('UNIT-BYTES', known)
-        if (n, last, units, left) != (counts[size], n - 1, due, value('REGION-UNITS', known) - n * due):
+        due = size // value('UNIT_BYTES', known)
+        if (n, last, units, left) != (counts[size], n - 1, due, value('REGION_UNITS', known) - n * due):
             result.append(f'{PICTURE}: {size}-byte class: {n} blocks, the last {last}, {units} units, {left} left over')
     return result if told else [f'{PICTURE} has no region of a class']
 
@@ -154,6 +154,6 @@ def regions():
             result.append(f'{POOL}: {row[1]}')
     terms, sum_told = re.search(r'though only ([\d+ ]+) = (\d+) bytes are held', read(POOL)).groups()
     blocks = [int(term) for term in terms.split('+')]
-    if sum(blocks) != int(sum_told) or len(set(blocks) & set(row_of('blockSizes'))) != len(blocks):
+    if sum(blocks) != int(sum_told) or len(set(blocks) & set(row_of('block_sizes'))) != len(blocks):
         result.append(f'{POOL}: {terms} = {sum_told}')
     return result or ([] if tables_by(POOL, 'example') else [f'{POOL} has no table of examples'])

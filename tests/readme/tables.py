@@ -23,7 +23,7 @@ def only(one, other, where_one, where_other):
 
 def crates():
     told = [name for row in tables_by(README, 'crate', 'crates') for name in re.findall(r'`([^`]+)`', visible(row[0]))]
-    there = re.findall(r'^(\w+):', read('crates.txt'), re.M)
+    there = re.findall(r'^(\w+)(?: staticlib)?:', read('crates.txt'), re.M)
     twice = [f'{name}: twice in {README}' for name in sorted(set(told)) if told.count(name) > 1]
     return only(told, there, README, 'crates.txt') + twice
 
@@ -59,7 +59,7 @@ def codes():
 
 def named(*paths):
     """The numbers that the files define by names in capitals, as they are written."""
-    return dict(found for path in paths for found in re.findall(r'^([A-Z][A-Z0-9-]*) = (.+)$', read(path), re.M))
+    return dict(found for path in paths for found in re.findall(r'^([A-Z][A-Z0-9_]*) = (.+)$', read(path), re.M))
 
 
 def value(expression, known):
@@ -68,11 +68,6 @@ def value(expression, known):
     if len(words) >= 3:
         return OPERATIONS[words[-2]](value(' '.join(words[:-2]), known), value(words[-1], known))
     return int(expression) if expression.isdigit() else value(known[expression], known)
-
-
-def constant(name, gap):
-    """The name of a column, as heads or taskHeads, in capitals."""
-    return re.sub(r'([A-Z])', gap + r'\1', name).upper()
 
 
 def columns():
@@ -84,18 +79,17 @@ def columns():
 def layout():
     """The document's rows are the columns with their fields; the code's constants are their first bytes."""
     known = named(LIMITS, LAYOUT)
-    fields = {column: field for field, column in re.findall(r'^(\w+) = fieldOf (\w+)', read(LAYOUT), re.M)}
+    fields = {column: field for field, column in re.findall(r'^(\w+) = field_of (\w+)', read(LAYOUT), re.M)}
     there = [(name, fields.get(name), *numbers) for name, *numbers in columns()]
     told = [(row[0].strip('`'), row[1].strip('`'), *(int(cell.replace(',', '')) for cell in row[2:5]))
             for row in tables_by(LAYOUT_DOCUMENT, 'column')]
     result = only(told, there, LAYOUT_DOCUMENT, LAYOUT)
     if not there or [row[0] for row in told] != [row[0] for row in there]:
         result.append(f'{LAYOUT_DOCUMENT}: the columns are not those of {LAYOUT} in their order')
-    due = {constant(name, '_'): start for name, _, start, _, _ in there}
+    due = {name.upper(): start for name, _, start, _, _ in there}
     for name, number in re.findall(r'^pub const (\w+): \w+ = ([\d_]+);', read(CONSTANTS), re.M):
         number = int(number.replace('_', ''))
-        other = name.replace('_', '-')
-        expected = due.pop(name) if name in due else value(other, known) if other in known else None
+        expected = due.pop(name) if name in due else value(name, known) if name in known else None
         if number != expected:
             result.append(f'{CONSTANTS}: {name} is {number}; {LAYOUT} has {expected}')
     return result + [f'{CONSTANTS}: there is no {name}' for name in due]
@@ -108,7 +102,7 @@ def gaps():
     told = [byte for first, last in re.findall(r'(\d+) to (\d+)', stretches)
             for byte in range(int(first), int(last) + 1)]
     taken = {byte for _, start, width, count in columns() for byte in range(start, start + width * count)}
-    outside = set(range(value('CONTROL-BYTES', named(LIMITS)))) - taken
+    outside = set(range(value('CONTROL_BYTES', named(LIMITS)))) - taken
     twice = [f'{LAYOUT_DOCUMENT}: a byte is in two gaps'] * (len(told) != len(set(told)))
     return [f'{LAYOUT_DOCUMENT}: byte {byte} is told as a gap, or is one, and not both'
             for byte in sorted(set(told) ^ outside)] + twice
@@ -124,5 +118,5 @@ def places():
         due = [due[0] + step for step in range(3)] if len(due) == 1 and len(numbers) == 3 else due
         if numbers != due:
             result.append(f'{LAYOUT_DOCUMENT}: {row[1]}: {numbers} is told; {PLACES} has {due}')
-    return result + only(told, [name for name in known if name not in ('PLACES', 'TO-NEXT', 'TO-EXCHANGE')],
+    return result + only(told, [name for name in known if name not in ('PLACES', 'TO_NEXT', 'TO_EXCHANGE')],
                          LAYOUT_DOCUMENT, PLACES)

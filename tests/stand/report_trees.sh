@@ -77,9 +77,9 @@ program_of_its_own() {
     answers "$title without its program and without rt" \
         "stand: target/bin/stand_$report is not built, and the Rattle toolchain (rt) is not installed" 'status 1'
     make_filled old
-    make_rt 'echo "rt: one proved (3 s)"; [ "$*" = "check stand_'"$report"'" ]'
+    make_rt "$one"'; [ "$* ${PWD##*/}" = "run stand_'"$report"'" ]'
     tried there "--$report" "$tree/one.bytes"
-    { printf '%s\n' "$proving" 'rt: one proved (3 s)' && "${filled}_table"; } >"$out/due"
+    { printf '%s\n' "$proving" "$one_proved" && "${filled}_table"; } >"$out/due"
     compare "an old program of $title is proved and built first"
     rm -f "$place/bin/rt"
     tried there "$tree/one.bytes"

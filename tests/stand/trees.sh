@@ -9,14 +9,14 @@ tree=$place/tree
 
 # A folder with the commands that ./stand needs and no other, so that rt is not found.
 mkdir "$place/bin"
-for command in awk bash cat cut dirname find od readlink touch tr wc; do
+for command in awk bash cat cp cut dirname find mkdir od readlink touch tr wc; do
     ln -s "$(command -v "$command")" "$place/bin/$command"
 done
 
 # Makes the tree anew: sources of today and no program.
 make_tree() {
     if [ -e "$tree" ]; then chmod -R u+rwX "$tree" && rm -rf "$tree"; fi
-    mkdir -p "$tree/crates/one" "$tree/tools"
+    mkdir -p "$tree"/crates/{one,stand,stand_lost,stand_sheet,stand_holders,stand_keepers} "$tree/tools"
     cp stand "$tree/stand"
     cp -r tools/stand "$tree/tools/stand"
     echo 'fn one() {}' >"$tree/crates/one/lib.rt"
@@ -26,18 +26,20 @@ make_tree() {
     rm -f "$place/bin/rt"
 }
 
-# Gives the tree a program, the shell commands of the first argument. It is newer than the sources unless 'old' is said.
-# Its name is stand unless another is given.
+# Gives the tree a program, the shell commands of the first argument, as rt has left it in the crate's folder and as it
+# was put in its place. It is newer than the sources unless 'old' is said. Its name is stand unless another is given.
 make_fake() {
-    local fake=$tree/target/bin/${3-stand}
-    mkdir -p "$tree/target/bin"
+    local name=${3-stand}
+    local fake=$tree/target/bin/$name built=$tree/crates/$name/out/$name
+    mkdir -p "$tree/target/bin" "${built%/*}"
     printf '#!/bin/sh\n%s\n' "$1" >"$fake"
     chmod 755 "$fake"
+    cp -p "$fake" "$built"
     find "$tree/crates" "$tree/crates.txt" -exec touch -t 202001020000 {} +
     [ "${2-new}" = new ] || touch -t 202001010000 "$fake"
 }
 
-# Gives the tree an rt, the shell commands of the argument.
+# Gives the tree an rt, the shell commands of the argument. It works in the program's crate.
 make_rt() {
     printf '#!/bin/sh\n%s\n' "$1" >"$place/bin/rt"
     chmod 755 "$place/bin/rt"
@@ -56,6 +58,9 @@ shown=("$tree/one.txt, read as text" 'record kind code value  meaning           
 proving='stand: proving and building what is missing, at most some minutes; a line tells each crate that is done'
 old='stand: target/bin/stand is older than its sources'
 missing='stand: target/bin/stand is not built'
+# What rt prints of a crate that it has proved, and what the script says of it.
+one='echo "crate one: modules loaded=0 checked=57"; echo "logic=proved functions=2"'
+one_proved='stand: one is proved'
 
 # ---- which program is played ----
 
@@ -87,10 +92,10 @@ answers 'without rt and without a program' \
 # ---- proving and building ----
 
 make_tree && make_fake 'echo an old program' old
-make_rt 'echo "rt: one proved (3 s)"; echo "rt: two proved (unchanged since it was last proved)"
-    [ "$*" = "check stand" ] && [ -e crates.txt ] && printf "#!/bin/sh\n%s\n" '"'$plays'"' >target/bin/stand'
+make_rt "$one"'; echo "library two: modules loaded=7 checked=0"
+    [ "$* ${PWD##*/}" = "run stand" ] && [ -e ../../crates.txt ] && printf "#!/bin/sh\n%s\n" '"'$plays'"' >out/stand'
 tried there "$tree/one.bytes"
-answers 'an old program is proved and built first' "$proving" 'rt: one proved (3 s)' "${played[@]}"
+answers 'an old program is proved and built first' "$proving" "$one_proved" "${played[@]}"
 rm -f "$place/bin/rt"
 tried there "$tree/one.bytes"
 answers 'and then is new' "${played[@]}"
@@ -107,15 +112,16 @@ tried there "$tree/one.bytes"
 answers 'a program that rt left as it was counts as new' "${played[@]}"
 
 make_tree && make_fake "$plays" old
-make_rt 'echo "rt: one proved (3 s)"; echo "rt: two is not proved" >&2; printf "the end"; exit 4'
+make_rt "$one"'; echo "rt: two is not proved" >&2; printf "the end"; exit 4'
 tried there "$tree/one.txt"
-answers 'where rt fails nothing is played' "$proving" 'rt: one proved (3 s)' \
-    'rt: one proved (3 s)' 'rt: two is not proved' 'the end' 'stand: it was not proved and built' 'status 1'
+answers 'where rt fails nothing is played' "$proving" "$one_proved" \
+    'crate one: modules loaded=0 checked=57' 'logic=proved functions=2' 'rt: two is not proved' 'the end' \
+    'stand: it was not proved and built' 'status 1'
 make_tree
 make_rt 'echo "rt: ok"'
 tried there "$tree/one.txt"
 answers 'where rt leaves no program' "$proving" 'rt: ok' 'stand: it was not proved and built' 'status 1'
-make_rt 'touch called'
+make_rt 'touch ../../called'
 tried there --text < <(echo stop)
 if [ -e "$tree/called" ]; then echo 'rt was called' >>"$out/wrote"; fi
 answers 'wrong text is refused before anything is proved' \
@@ -146,9 +152,9 @@ tried there --lost "$tree/one.txt"
 answers '--lost without its program and without rt' \
     'stand: target/bin/stand_lost is not built, and the Rattle toolchain (rt) is not installed' 'status 1'
 make_fake 'cat >/dev/null; printf "record kind code value lost\n0 1 0 0 4294967295\ntotal 0 1 0\n"' old stand_lost
-make_rt 'echo "rt: one proved (3 s)"; [ "$*" = "check stand_lost" ]'
+make_rt "$one"'; [ "$* ${PWD##*/}" = "run stand_lost" ]'
 tried there --lost "$tree/one.bytes"
-answers 'an old program of --lost is proved and built first' "$proving" 'rt: one proved (3 s)' \
+answers 'an old program of --lost is proved and built first' "$proving" "$one_proved" \
     'record kind code value lost' '0 1 0 0 4294967295' 'total 0 1 0' 'status 0'
 rm -f "$place/bin/rt"
 tried there --lost "$tree/one.txt"
@@ -226,6 +232,10 @@ not_writable() {
     tried by_another "$tree/one.bytes"
     answers 'the same where a file further in is not' \
         "$old, and target cannot be written: it is played as it is" "${played[@]}"
+    chmod -R a+rwX "$tree/target"
+    tried by_another "$tree/one.bytes"
+    answers 'the same where target is writable and crates are not' \
+        "$old, and crates cannot be written: it is played as it is" "${played[@]}"
 
     make_tree && chmod -R a-w "$tree"
     tried by_another "$tree/one.txt"
