@@ -1,0 +1,16 @@
+-- The tests, then the keepers.
+use native.Mathlib.Omega.{arith}
+use Prim.Native.Nat.{◌*◌}
+use Rattle.keepers.specs.Keepers.{KEEPER_NUMBERS}
+use Rattle.pool.proofs.Calling.{control_is}
+use Rattle.pool.proofs.Reporting.{on-refused, on-answers, given-report}
+use borrow.Author.Rules.{rules}
+use Rattle.pool.proofs.pool_keepers.Goals as goal
+
+pub returns-then-refused-ne0 : goal.returns-then-refused-ne0
+returns-then-refused-ne0 c = on-refused _ _ _ _ _ c.report_tests-refused.ensures _ (λ e. omega arith)
+
+pub returns : goal.returns
+returns c =
+    on-answers _ _ _ _ _ c.report_tests-refused.ensures (λ k. KEEPER_NUMBERS * k) _ (omega arith)
+    c.regions-regions.ensures c.write.ensures
