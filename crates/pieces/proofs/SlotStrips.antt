@@ -1,12 +1,11 @@
 -- The strip that a slot is in starts at its place, and has the slot.
 use mathlib.Core.Path.{◌≡◌, refl, sym, ap, ◌∙◌}
-use Prim.Native.Nat.{ℕ, suc, ◌+◌, ◌-◌, ◌≤◌, ◌<◌}
+use Prim.Native.Nat.{ℕ, ◌+◌, ◌-◌, ◌≤◌, ◌<◌}
 use native.Mathlib.Omega.{arith}
-use borrow.Author.Tests.{lt-ltb, le-ltb}
 use Rattle.rows.specs.Comparisons.{Order, before, after, order?}
 use Rattle.pieces.specs.Pieces.{slots_in, PieceState, free, held, begun, Pieces, whole, halves}
 use Rattle.pieces.specs.Strips.{here, strip_starts}
-use Rattle.pieces.specs.StripSlots.{SlotHolds, vacant, within, slot_holds}
+use Rattle.pieces.specs.StripSlots.{within, slot_holds}
 use Rattle.pieces.proofs.FreePieces.{lower, upper}
 use Rattle.pieces.proofs.StripStarting.{in-lower, in-upper}
 

@@ -4,7 +4,7 @@ use mathlib.Core.Logic.{◌≢◌}
 use Prim.Native.Nat.{ℕ, zero, suc, ◌+◌, ◌≤◌, ◌<◌}
 use native.Mathlib.Omega.{arith}
 use native.Mathlib.Decide.{ℕ_discrete, dec_lt}
-use Rattle.limits.specs.Limits.{WHOLE_ORDER, TASKS, CLASSES, DESCRIPTORS, LARGEST_SIZE, LARGEST_STRIP, SLOTS}
+use Rattle.limits.specs.Limits.{TASKS, CLASSES, DESCRIPTORS, LARGEST_SIZE, LARGEST_STRIP}
 use Rattle.rows.specs.Comparisons.{Equality, same, other, same?}
 use Rattle.rows.specs.Branch.{both}
 use Rattle.rows.specs.Weights.{when, one}
@@ -13,16 +13,14 @@ use Rattle.rows.specs.Totals.{total}
 use Rattle.rows.proofs.Weights.{when-same, when-other, when-max, when-zero, weight-update}
 use Rattle.rows.proofs.Totals.{total-le, total-one}
 use Rattle.classes.specs.Geometry.{region_of, BlockOf}
-use Rattle.classes.specs.Sizes.{class_of}
 use Rattle.classes.proofs.Sizes.{is_class}
-use Rattle.pieces.specs.Pieces.{free, held, begun, Pieces}
+use Rattle.pieces.specs.Pieces.{free, held, begun}
 use Rattle.pieces.specs.Strips.{StripStart, nowhere, here, strip_starts, free_begun}
-use Rattle.pieces.specs.StripSizes.{order_of}
 use Rattle.pieces.proofs.PieceLengths.{some}
 use Rattle.pieces.proofs.StripGiving.{strip-fits}
 use Rattle.pieces.proofs.StripSizes.{rounds}
-use Rattle.plain.specs.State.{idle, a1, f1, strip-take, strip-give, Work, Task, Mem, working, set_strips}
-use Rattle.plain.specs.Calls.{begin_allocate, first_place, Opens, opens?, First, first?, free_in, free_entry}
+use Rattle.plain.specs.State.{idle, f1, strip-give, Task, Mem, working}
+use Rattle.plain.specs.Calls.{begin_allocate, Opens, opens?, First, first?, free_in, free_entry}
 use Rattle.plain.specs.Calls.{free_strip_at, begin_leave}
 use Rattle.plain.specs.Steps.{at_place}
 use Rattle.plain.specs.Blocks.{count_block}

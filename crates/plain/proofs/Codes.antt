@@ -13,14 +13,14 @@ use Rattle.rows.proofs.Update.{update_same, update_all}
 use Rattle.classes.specs.Classes.{per_region}
 use Rattle.classes.specs.Geometry.{region_of}
 use Rattle.plain.specs.State.{State, EMPTY, PARTIAL, FULL, Phase, read, next, exchange, Pop, partial, spare}
-use Rattle.plain.specs.State.{region, Push, retire, back, release, offer, Place, idle, a1, popping, pushing, a4}
-use Rattle.plain.specs.State.{a8, f3-read, f3-link, f4-clear, strip-take, strip-give, leave-end, Task, Mem, Work}
+use Rattle.plain.specs.State.{region, Push, retire, back, release, offer, idle, a1, popping, pushing, a4}
+use Rattle.plain.specs.State.{a8, f3-read, f3-link, f4-clear, strip-take, strip-give, leave-end, Task, Mem}
 use Rattle.plain.specs.State.{working}
 use Rattle.plain.specs.State.{Note, Purpose}
 use Rattle.pieces.specs.Strips.{StripTaken, none_found, strip_at, take_strip}
 use Rattle.plain.specs.Moves.{Decided, nothing, lost, Answer, going, finished_by, refused}
-use Rattle.plain.specs.Steps.{pop_list, push_list, f6, f5, moving, when_popped, as_noted?, cached, pop_read, pop_take}
-use Rattle.plain.specs.Steps.{push_put, a1_step, a3_read, closed, f2_step, f3_read, f3_won, step_at, at_work, pop_step}
+use Rattle.plain.specs.Steps.{pop_list, push_list, as_noted?, cached, pop_read, pop_take}
+use Rattle.plain.specs.Steps.{push_put, a1_step, a3_read, f2_step, f3_read, f3_won, step_at, at_work, pop_step}
 use Rattle.plain.specs.Steps.{push_step, a3_exchange, a7_step, a8_step, f1_step, f3_exchange, strip_take_step}
 use Rattle.plain.specs.Codes.{StepCode, under-way, no_request, no_descriptor, no_region, finishes, WayBack, stays}
 use Rattle.plain.specs.Codes.{comes, StepFacts, no_stretch}

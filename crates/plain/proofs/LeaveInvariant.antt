@@ -1,5 +1,5 @@
 -- The tasks that leave: what a step and a beginning make of the caches that they have emptied.
-use mathlib.Core.Path.{◌≡◌, refl, sym, ap, subst, subst⁻¹, ◌∙◌}
+use mathlib.Core.Path.{◌≡◌, refl, ap, subst, subst⁻¹, ◌∙◌}
 use mathlib.Core.Logic.{◌≢◌}
 use mathlib.Core.List.{List, ◌∷◌, ◌++◌, []}
 use Prim.Native.Nat.{ℕ, zero, suc, ◌+◌, ◌≤◌, ◌<◌}
@@ -28,8 +28,8 @@ use Rattle.plain.specs.Steps.{when_working, when_pushed, Result}
 use Rattle.plain.specs.Moves.{Decided}
 use Rattle.plain.specs.Calls.{opens?, first?, free_entry, free_strip_at, strip_unit?, begin_allocate, begin_free}
 use Rattle.plain.specs.Calls.{begin_leave, start_mem}
-use Rattle.plain.specs.Requests.{Request, allocation, freeing, strip_allocation, strip_freeing, leaving}
-use Rattle.plain.specs.Requests.{return_request, pop_request, push_request, request_at, StillAt, OwnRequest}
+use Rattle.plain.specs.Requests.{Request}
+use Rattle.plain.specs.Requests.{return_request, pop_request, request_at, StillAt}
 use Rattle.plain.specs.Leaving.{EmptyFrom, LeavesTo, to_end, to-cache, ReturnLeads, to-group, to_one, to-next}
 use Rattle.plain.specs.Leaving.{empty_by, empty_below, LeavesHold}
 use Rattle.plain.specs.Held.{held_at}

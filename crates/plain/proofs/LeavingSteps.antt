@@ -17,10 +17,10 @@ use Rattle.plain.specs.State.{f2}
 use Rattle.plain.specs.State.{f3-read, f3-link, f3-exchange, f4-clear, strip-take, strip-give, leave-end, Place}
 use Rattle.plain.specs.State.{working, Task, Mem, Purpose}
 use Rattle.plain.specs.Moves.{Decided, going}
-use Rattle.plain.specs.Steps.{Result, push_list, when_pushed, as_noted?, push_step, f2_step, f3_read, f3_won, step_at}
+use Rattle.plain.specs.Steps.{Result, push_list, as_noted?, push_step, f2_step, f3_read, f3_won, step_at}
 use Rattle.plain.specs.Steps.{step_of, when_working}
 use Rattle.plain.specs.Requests.{Request, allocation, freeing, strip_allocation, strip_freeing, leaving}
-use Rattle.plain.specs.Requests.{pop_request, push_request, request_at, StillAt, StripsStay, HandsStay, OwnRequest}
+use Rattle.plain.specs.Requests.{pop_request, push_request, request_at, StillAt, OwnRequest}
 use Rattle.plain.specs.Leaving.{EmptyFrom, empty_below, LeavesHold, LeavingGoes, still, over, LeavingStep}
 use Rattle.plain.proofs.CallTests.{either}
 use Rattle.plain.proofs.Requests.{own-request}

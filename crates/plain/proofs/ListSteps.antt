@@ -125,7 +125,7 @@ module _ {area : ℕ} {m : Mem} {t : ℕ} {k : ℕ → List ℕ} where
         regions = λ x. omega arith;
         unmapped = λ x. omega arith;
       }) (f5-holds k (lengths w) s c z d (place_holds w).0 (place_holds w).1) (f5-note (update m.row SPARE_REGIONS (r ∷ m.row SPARE_REGIONS))
-          (update m.won SPARE_REGIONS (m.won SPARE_REGIONS + 1)) m.map k s c z d)
+      (update m.won SPARE_REGIONS (m.won SPARE_REGIONS + 1)) m.map k s c z d)
   put_inv (offer c z d) φ w =
       let o = place_holds w in
       let q = m.row c in

@@ -6,7 +6,7 @@ use native.Mathlib.Omega.{arith}
 use Rattle.limits.specs.Limits.{WHOLE_ORDER, TASKS}
 use Rattle.rows.specs.Comparisons.{Equality, same, other, same?}
 use Rattle.rows.proofs.Update.{update_same, update_other}
-use Rattle.pieces.specs.Pieces.{PieceState, free, held, begun, Pieces, Joined}
+use Rattle.pieces.specs.Pieces.{PieceState, held, begun, Pieces, Joined}
 use Rattle.pieces.specs.Strips.{least_place, least_halved, none_found, strip_at, take_strip}
 use Rattle.pieces.specs.Strips.{StripStart, nowhere, here, strip_starts, free_begun, give_strip}
 use Rattle.pieces.specs.StripSlots.{vacant, within, slot_holds}
@@ -15,8 +15,7 @@ use Rattle.pieces.proofs.FreeStretches.{Took, found_none, found-one, took}
 use Rattle.pieces.proofs.StripStarting.{Begins, taken-begins, given-begins, began-begins}
 use Rattle.pieces.proofs.StripTaking.{vacant-before, take-joined}
 use Rattle.pieces.proofs.StripGiving.{strip-fits, starts-in, give-joined, begin-joined}
-use Rattle.plain.specs.State.{back}
-use Rattle.plain.specs.State.{idle, Task, Mem, set_task, set_strips}
+use Rattle.plain.specs.State.{Task, Mem, set_task, set_strips}
 use Rattle.plain.specs.Requests.{frees_strip}
 use Rattle.plain.specs.Invariant.{Invariant, StripsHold}
 

@@ -3,7 +3,7 @@
 -- no list or chain."
 use Rattle.std.specs.Prelude.{◌≡◌, List, ◌∷◌, ◌++◌, [], ℕ, zero, suc, length}
 use Rattle.std.proofs.Math.Decide.{ℕ_discrete, dec_lt}
-use Rattle.limits.specs.Limits.{SPARE_DESCRIPTORS, SPARE_REGIONS, CLASSES}
+use Rattle.limits.specs.Limits.{SPARE_DESCRIPTORS, SPARE_REGIONS}
 use Rattle.rows.specs.Branch.{if, both}
 use Rattle.rows.specs.Update.{update}
 use Rattle.classes.specs.Classes.{per_region}
@@ -15,7 +15,7 @@ use Rattle.plain.specs.State.{exchange, Pop, partial, spare, region, Push, retir
 use Rattle.plain.specs.State.{idle, a1, popping, pushing, a3-read, a3-exchange, a4, a7, a8, f1, f2, f3-read}
 use Rattle.plain.specs.State.{f3-link, f3-exchange, f4-clear, Mem, set_task, set_row, set_descriptor, set_map}
 use Rattle.plain.specs.State.{set_hands, Work, working, strip-take, strip-give, leave-end, set_strips, Purpose}
-use Rattle.plain.specs.State.{to_free, to_leave}
+use Rattle.plain.specs.State.{to_free}
 use Rattle.plain.specs.Moves.{Decided, nothing, found_empty, popped, pushed, lost, anchor-empty, took, gave}
 use Rattle.plain.specs.Moves.{anchor-lost, strip-taken, strip-given, no_strip, Answer, going, finished}
 use Rattle.plain.specs.Moves.{finished_by, ended, refused}

@@ -3,7 +3,7 @@ use Prim.Native.Nat.{ℕ, zero, suc, ◌+◌, ◌-◌, ◌*◌, ◌/◌, ◌%◌
 use mathlib.Core.Path.{◌≡◌, refl}
 use native.Mathlib.Nat.{mul-lt-mul_of_pos_right, mul-le-mul_right, mod-eq_of_lt}
 use native.Mathlib.Omega.{arith}
-use lib.Pow.{pow_pos, shr_lt, shl_lt, shl_exact}
+use lib.Pow.{pow_pos, shr_lt, shl_lt}
 use Rattle.limits.specs.Limits.{SLOTS, WORD_MARKS, WHOLE_ORDER, ORDERS}
 
 -- what holds of each order holds of all eight

@@ -1,5 +1,4 @@
 -- The number is its low half and its high half.
-use borrow.Author.Rules.{rules}
 use native.Mathlib.Omega.{arith}
 use Rattle.fields.proofs.Little.{get_le-join}
 use Rattle.fields.proofs.load32.Goals as goal

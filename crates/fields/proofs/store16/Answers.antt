@@ -1,5 +1,4 @@
 -- The number is written by its low half and its high half.
-use borrow.Author.Rules.{rules}
 use Rattle.fields.proofs.Little.{set_le-join}
 use Rattle.fields.proofs.store16.Goals as goal
 

@@ -1,5 +1,4 @@
 -- A byte is below 256, so nothing of it is dropped.
-use borrow.Author.Rules.{rules}
 use native.Mathlib.Nat.{mod-eq_of_lt}
 use Rattle.fields.specs.Little.{set_le}
 use Rattle.fields.proofs.store8.Goals as goal

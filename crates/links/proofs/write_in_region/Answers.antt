@@ -1,5 +1,4 @@
 -- What is written in the part stands in the area at the region's offset.
-use borrow.Author.Rules.{rules}
 use native.Mathlib.Omega.{arith}
 use Prim.Native.Nat.{◌+◌, ◌-◌, ◌*◌}
 use Rattle.limits.specs.Limits.{REGION_BYTES}

@@ -1,7 +1,6 @@
 -- `classes::geometry::first_unit` meets its contract: the block lies in its region, so no number is too large.
 use mathlib.Core.Path.{◌≡◌}
 use Prim.Native.Nat.{ℕ, ◌+◌, ◌*◌, ◌<◌}
-use borrow.Author.Rules.{rules}
 use native.Mathlib.Omega.{arith}
 use Rattle.limits.specs.Limits.{REGION_UNITS, REGIONS, UNITS}
 use Rattle.classes.specs.Classes.{units, per_region}

@@ -1,5 +1,4 @@
 -- `classes::geometry::index_of` meets its contract: a block has at least one unit, so the division is safe.
-use borrow.Author.Rules.{rules}
 use native.Mathlib.Omega.{arith}
 use Rattle.classes.proofs.Tables.{units-low}
 use Rattle.classes.proofs.geometry.index_of.Goals as goal

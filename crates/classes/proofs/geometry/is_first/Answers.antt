@@ -1,8 +1,6 @@
 -- `classes::geometry::is_first` meets its contract: the product does not overflow, and the factor tells a first unit by
 -- it.
-use borrow.Author.Rules.{rules}
-use native.Mathlib.Omega.{arith}
-use Rattle.classes.proofs.Factors.{told, small}
+use Rattle.classes.proofs.Factors.{told}
 use Rattle.classes.proofs.geometry.is_first.Goals as goal
 
 pub returns : goal.returns

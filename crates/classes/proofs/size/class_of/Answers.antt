@@ -1,10 +1,10 @@
 -- `classes::size::class_of` meets its contract: for each number of units the sum is the class of the definition.
-use borrow.Author.Rules.{Fits-under, rules}
+use borrow.Author.Rules.{rules}
 use native.Mathlib.Nat.{le_of_suc-le-suc}
 use native.Mathlib.Omega.{arith}
 use lib.Count.{count_leading_zeros}
 use Rattle.classes.specs.Sizes.{class_of}
-use Rattle.classes.proofs.LeadingBits.{has-leading, has-digit, is_byte, digit_low, is-class-of}
+use Rattle.classes.proofs.LeadingBits.{has-leading, has-digit, is-class-of}
 use Rattle.classes.proofs.size.class_of.Goals as goal
 
 pub returns : goal.returns

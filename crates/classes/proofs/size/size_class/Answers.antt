@@ -1,6 +1,5 @@
 -- `classes::size::size_class` meets its contract: a size has the class of its units rounded up.
 use mathlib.Core.Path.{sym, ap, ◌∙◌}
-use borrow.Author.Rules.{rules}
 use native.Mathlib.Omega.{arith}
 use Rattle.classes.specs.declared.size.Choice.TheVariants.{Class}
 use Rattle.classes.proofs.Sizes.{refuses-none, serves, rounded}

@@ -1,10 +1,7 @@
 -- `classes::table::factor` meets its contract: each arm's number passes the test of its class.
-use borrow.Author.Rules.{rules}
 use native.Mathlib.Omega.{arith}
-use Rattle.limits.specs.Limits.{CLASSES}
 use Rattle.classes.specs.Classes.{units, per_region}
 use Rattle.classes.specs.Geometry.{is_first}
-use Rattle.classes.proofs.Tables.{no_more}
 use Rattle.classes.proofs.Factors.{is-factor, factor-at}
 use Rattle.classes.proofs.table.factor.Goals as goal
 

@@ -1,10 +1,8 @@
 -- `classes::table::per_region` meets its contract: each arm has the number of the definition.
 use mathlib.Core.Path.{refl}
-use borrow.Author.Rules.{rules}
 use native.Mathlib.Omega.{arith}
-use Rattle.limits.specs.Limits.{CLASSES}
 use Rattle.classes.specs.Classes.{per_region}
-use Rattle.classes.proofs.Tables.{per_region-at, no_more}
+use Rattle.classes.proofs.Tables.{per_region-at}
 use Rattle.classes.proofs.table.per_region.Goals as goal
 
 pub returns-in-0 : goal.returns-in-0

@@ -1,10 +1,8 @@
 -- `classes::table::units` meets its contract: each arm has the number of the definition.
 use mathlib.Core.Path.{refl}
-use borrow.Author.Rules.{rules}
 use native.Mathlib.Omega.{arith}
-use Rattle.limits.specs.Limits.{CLASSES}
 use Rattle.classes.specs.Classes.{units}
-use Rattle.classes.proofs.Tables.{units-at, no_more}
+use Rattle.classes.proofs.Tables.{units-at}
 use Rattle.classes.proofs.table.units.Goals as goal
 
 pub returns-in-0 : goal.returns-in-0

@@ -1,8 +1,7 @@
 -- The nodes of an order are bits of one word, or of the last two.
-use borrow.Author.Rules.{rules}
 use native.Mathlib.Omega.{arith}
 use mathlib.Core.Path.{sym, ◌∙◌}
-use Rattle.strip_tree.proofs.Powers.{shifted, low_word, most}
+use Rattle.strip_tree.proofs.Powers.{shifted, low_word}
 use Rattle.strip_tree.proofs.Levels.{level-first, level-second, level-one, level-upper}
 use Rattle.strip_tree.proofs.find.level.Goals as goal
 

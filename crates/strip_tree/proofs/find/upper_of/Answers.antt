@@ -1,9 +1,7 @@
 -- A shift and a mask of low bits are a quotient and a remainder.
-use borrow.Author.Rules.{rules}
 use native.Mathlib.Omega.{arith}
 use Prim.Native.Nat.{◌/◌, ◌^◌}
 use lib.Bits.{and_mask}
-use lib.Pow.{pow_pos}
 use Rattle.strip_tree.proofs.LowBits.{one_shifted}
 use Rattle.strip_tree.proofs.find.upper_of.Goals as goal
 

@@ -34,7 +34,7 @@ halve_high-requires t c = (
 pub returns : goal.returns
 returns t c x y z =
     let l = in-first (c.args.order - 1) (2 * c.args.node + 1) (omega arith) (omega arith)
-        (omega (arith, raised c.args.order (omega arith) (omega arith))) in
+    (omega (arith, raised c.args.order (omega arith) (omega arith))) in
     c.halve_high.ensures x y z
     ∙ ap (λ (w : ℕ). halving (tree_with w x y z) (c.args.order - 1 - c.args.wanted) (2 * c.args.node))
     c.set.ensures.value

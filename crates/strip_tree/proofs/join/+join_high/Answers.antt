@@ -42,7 +42,7 @@ join_high-requires t c = (
 pub returns-then-test : goal.returns-then-test
 returns-then-test t c x y z =
     let l = in-first c.args.order (buddy c.args.node) (omega arith) (omega arith)
-        (omega (arith, twice c.args.order (omega arith))) in
+    (omega (arith, twice c.args.order (omega arith))) in
     c.join_high.ensures x y z
     ∙ ap (λ (w : ℕ). joining (tree_with w x y z) (WHOLE_ORDER - (c.args.order + 1)) (c.args.node / 2))
     c.clear.ensures.value
@@ -57,7 +57,7 @@ set-requires-2 t c = in-first c.args.order c.args.node (omega arith) (omega arit
 pub returns : goal.returns
 returns t c x y z =
     let l = in-first c.args.order (buddy c.args.node) (omega arith) (omega arith)
-        (omega (arith, twice c.args.order (omega arith))) in
+    (omega (arith, twice c.args.order (omega arith))) in
     ap (λ (w : ℕ). tree_with w x y z) c.set-2.ensures.value
     ∙ sym (low-mark c.args.a x y z c.args.node (in-first c.args.order c.args.node (omega arith) (omega arith) (omega arith)))
     ∙ join-no (tree_with c.args.a x y z) c.args.order c.args.node (omega arith)

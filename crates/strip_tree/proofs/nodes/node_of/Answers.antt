@@ -1,6 +1,4 @@
 -- The node is one of its order.
-use borrow.Author.Rules.{rules}
-use native.Mathlib.Omega.{arith}
 use Rattle.strip_tree.proofs.Powers.{node-shifted, node-below}
 use Rattle.strip_tree.proofs.nodes.node_of.Goals as goal
 

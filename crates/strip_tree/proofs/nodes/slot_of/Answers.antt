@@ -1,6 +1,4 @@
 -- The slot is one of the area.
-use borrow.Author.Rules.{rules}
-use mathlib.Core.Path.{◌∙◌}
 use Rattle.strip_tree.proofs.Powers.{slot-shifted, slot-below, node-least, place-shifted}
 use Rattle.strip_tree.proofs.nodes.slot_of.Goals as goal
 

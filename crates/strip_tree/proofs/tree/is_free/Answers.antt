@@ -1,5 +1,4 @@
 -- The node's bit is that of its word.
-use borrow.Author.Rules.{rules}
 use Prim.Native.Nat.{ℕ, ◌%◌}
 use mathlib.Core.Path.{ap, ◌∙◌}
 use Rattle.limits.specs.Limits.{WORD_MARKS}

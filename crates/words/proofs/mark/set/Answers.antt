@@ -1,5 +1,4 @@
 -- A word or the mask of one bit has that bit set, and every other bit as before.
-use Rattle.std.proofs.Common.{rules}
 use Rattle.words.proofs.Marks.{set-changed}
 use Rattle.words.proofs.mark.set.Goals as goal
 
