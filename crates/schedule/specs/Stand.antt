@@ -1,6 +1,6 @@
 -- docs/POOL.md, "The stand"
 -- The stand over any pool: what each record does, and the table of a schedule.
-use Rattle.std.specs.Prelude.{ℕ, zero, suc, ◌+◌, ◌*◌, ◌/◌, ◌%◌, cond, List, [], ◌∷◌, length, ◌==◌, nat_lt}
+use Rattle.std.specs.Prelude.{ℕ, zero, suc, ◌+◌, ◌*◌, cond, List, [], ◌∷◌, length, ◌==◌, nat_lt}
 use Rattle.limits.specs.Limits.{REGION_BYTES}
 use Rattle.plain.specs.Calls.{Call, start, allocate, free, leave, step}
 use Rattle.control.specs.Answers.{code_in, value_in, lost_in}
