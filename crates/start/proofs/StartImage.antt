@@ -1,7 +1,7 @@
 -- The image of a start, column by column.
 use mathlib.Core.Path.{◌≡◌, refl, sym, ap, ◌∙◌}
 use mathlib.Core.List.{List, [], ◌∷◌, ◌++◌}
-use Prim.Native.Nat.{ℕ, suc, ◌+◌, ◌-◌, ◌≤◌, ◌<◌}
+use Prim.Native.Nat.{ℕ, suc, ◌-◌, ◌≤◌, ◌<◌}
 use native.Mathlib.Omega.{arith}
 use lib.ListN.{length, drop, replicate, drop_of_length-le}
 use Rattle.limits.specs.Limits.{CONTROL_BYTES, UNITS, DESCRIPTORS, SPARE_DESCRIPTORS, SPARE_REGIONS}

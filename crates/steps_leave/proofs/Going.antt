@@ -1,12 +1,12 @@
 -- The search for the next cache, and what a step makes of what it found.
 use Prim.Native.Nat.{ℕ, suc, ◌+◌, ◌-◌, ◌≤◌, ◌<◌}
 use native.Mathlib.Omega.{arith}
-use mathlib.Core.Path.{◌≡◌, refl, sym, ap, subst, ◌∙◌}
+use mathlib.Core.Path.{◌≡◌, refl, sym, ap, ◌∙◌}
 use mathlib.Core.Logic.{◌≢◌}
-use mathlib.Core.Bool.{Bool, true, false, cond, ◌||◌}
+use mathlib.Core.Bool.{Bool, true, false, cond}
 use mathlib.Core.List.{List, [], ◌∷◌}
 use borrow.Author.Tests.{le-leb, lt-leb, eq-eqb, ne_eqb}
-use lib.Dec.{leb, eqb}
+use lib.Dec.{eqb}
 use Rattle.limits.specs.Limits.{CLASSES}
 use Rattle.fields.specs.Columns.{View, Write, ◌:=◌}
 use Rattle.classes.specs.Classes.{per_region}
@@ -16,7 +16,7 @@ use Rattle.control.specs.Places.{F2, LEAVE_END}
 use Rattle.control.specs.declared.answer.Answer.TheVariants.{Accepted, Refused}
 use Rattle.stepped.specs.Outcome.{bad, accept}
 use Rattle.stepped.specs.Done.{Done}
-use Rattle.stepped.specs.Leaving.{first_cached, next_cached, count_fits, leave_writes, leave_from}
+use Rattle.stepped.specs.Leaving.{first_cached, next_cached, leave_writes, leave_from}
 use Rattle.stepped.proofs.Doing.{done}
 use Rattle.steps_leave.specs.Goes.{Goes}
 

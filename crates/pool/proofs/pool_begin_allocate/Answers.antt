@@ -1,7 +1,6 @@
 -- The tests, then the beginning.
 use native.Mathlib.Omega.{arith}
-use Rattle.pool.proofs.Calling.{allocate-refused, allocate-does, control_is, task-is}
-use borrow.Author.Rules.{rules}
+use Rattle.pool.proofs.Calling.{allocate-refused, allocate-does}
 use Rattle.pool.proofs.pool_begin_allocate.Goals as goal
 
 pub returns-then-refused-ne0 : goal.returns-then-refused-ne0

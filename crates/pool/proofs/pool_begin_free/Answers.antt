@@ -1,7 +1,6 @@
 -- The tests, then the beginning.
 use native.Mathlib.Omega.{arith}
-use Rattle.pool.proofs.Calling.{free-refused, free-does, control_is, task-is, regions-are}
-use borrow.Author.Rules.{rules}
+use Rattle.pool.proofs.Calling.{free-refused, free-does}
 use Rattle.pool.proofs.pool_begin_free.Goals as goal
 
 pub returns-then-refused-ne0 : goal.returns-then-refused-ne0

@@ -1,9 +1,7 @@
 -- The tests, then the form.
 use native.Mathlib.Omega.{arith}
 use Rattle.holders.specs.Form.{FORM_NUMBERS}
-use Rattle.pool.proofs.Calling.{control_is}
-use Rattle.pool.proofs.Reporting.{on-refused, on-answers, given-report}
-use borrow.Author.Rules.{rules}
+use Rattle.pool.proofs.Reporting.{on-refused, on-answers}
 use Rattle.pool.proofs.pool_holders.Goals as goal
 
 pub returns-then-refused-ne0 : goal.returns-then-refused-ne0

@@ -2,9 +2,7 @@
 use native.Mathlib.Omega.{arith}
 use Prim.Native.Nat.{◌*◌}
 use Rattle.keepers.specs.Keepers.{KEEPER_NUMBERS}
-use Rattle.pool.proofs.Calling.{control_is}
-use Rattle.pool.proofs.Reporting.{on-refused, on-answers, given-report}
-use borrow.Author.Rules.{rules}
+use Rattle.pool.proofs.Reporting.{on-refused, on-answers}
 use Rattle.pool.proofs.pool_keepers.Goals as goal
 
 pub returns-then-refused-ne0 : goal.returns-then-refused-ne0

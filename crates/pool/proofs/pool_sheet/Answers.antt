@@ -1,9 +1,7 @@
 -- The tests, then the sheet.
 use native.Mathlib.Omega.{arith}
 use Rattle.sheet.specs.Sheet.{SHEET_NUMBERS}
-use Rattle.pool.proofs.Calling.{control_is}
-use Rattle.pool.proofs.Reporting.{on-refused, on-answers, given-report}
-use borrow.Author.Rules.{rules}
+use Rattle.pool.proofs.Reporting.{on-refused, on-answers}
 use Rattle.pool.proofs.pool_sheet.Goals as goal
 
 pub returns-then-refused-ne0 : goal.returns-then-refused-ne0

@@ -2,7 +2,6 @@
 use native.Mathlib.Omega.{arith}
 use Rattle.plain.specs.Calls.{start_control, start_lengths, start_tasks}
 use Rattle.pool.proofs.Started.{refused, started}
-use borrow.Author.Rules.{rules}
 use Rattle.pool.proofs.pool_start.Goals as goal
 
 pub returns-then-control-ne-CONTROL_BYTES : goal.returns-then-control-ne-CONTROL_BYTES

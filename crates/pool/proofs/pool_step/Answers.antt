@@ -1,7 +1,6 @@
 -- The tests, then the step.
 use native.Mathlib.Omega.{arith}
-use Rattle.pool.proofs.Calling.{step-refused, step-does, control_is, task-is, regions-are, regions-some, area_is}
-use borrow.Author.Rules.{rules}
+use Rattle.pool.proofs.Calling.{step-refused, step-does}
 use Rattle.pool.proofs.pool_step.Goals as goal
 
 pub returns-then-refused-ne0 : goal.returns-then-refused-ne0

@@ -1,11 +1,8 @@
 -- The spare descriptors are chained from the last down.
-use Prim.Native.Nat.{◌-◌}
-use native.Mathlib.Omega.{arith}
-use borrow.Author.Rules.{rules}
 use Rattle.limits.specs.Limits.{DESCRIPTORS}
 use Rattle.control.specs.Layout.{DescriptorNext}
 use Rattle.stepped.specs.Start.{next_up}
-use Rattle.start.proofs.StartImage.{Filling, filling-begins, filling-goes, filling-ends}
+use Rattle.start.proofs.StartImage.{Filling}
 use Rattle.start.proofs.chain_descriptors.Given as goal
 
 abbrev pub invariant-loop-i : goal.invariant-loop-i

@@ -1,10 +1,7 @@
 -- The spare regions are chained from the last down.
-use Prim.Native.Nat.{◌-◌}
 use native.Mathlib.Omega.{arith}
 use borrow.Author.Rules.{rules}
-use Rattle.control.specs.Layout.{RegionNext}
-use Rattle.stepped.specs.Start.{next_up}
-use Rattle.start.proofs.StartImage.{Filling, filling-begins, filling-goes, filling-ends}
+use Rattle.start.proofs.StartImage.{filling-begins, filling-goes, filling-ends}
 use Rattle.start.proofs.chain_regions.Goals as goal
 
 pub loop-i-preserved : goal.loop-i-preserved

@@ -1,10 +1,7 @@
 -- The spare regions are chained from the last down.
-use Prim.Native.Nat.{◌-◌}
-use native.Mathlib.Omega.{arith}
-use borrow.Author.Rules.{rules}
 use Rattle.control.specs.Layout.{RegionNext}
 use Rattle.stepped.specs.Start.{next_up}
-use Rattle.start.proofs.StartImage.{Filling, filling-begins, filling-goes, filling-ends}
+use Rattle.start.proofs.StartImage.{Filling}
 use Rattle.start.proofs.chain_regions.Given as goal
 
 abbrev pub invariant-loop-i : goal.invariant-loop-i

@@ -1,11 +1,9 @@
 -- The caches are emptied from the last down.
 use mathlib.Core.Path.{refl}
-use Prim.Native.Nat.{◌-◌}
 use native.Mathlib.Omega.{arith}
 use borrow.Author.Rules.{rules}
 use Rattle.limits.specs.Limits.{UNITS}
-use Rattle.control.specs.Layout.{CACHES, TopOfCache}
-use Rattle.start.proofs.StartImage.{Filling, filling-begins, filling-goes, filling-ends}
+use Rattle.start.proofs.StartImage.{filling-begins, filling-goes, filling-ends}
 use Rattle.start.proofs.empty_caches.Goals as goal
 
 pub loop-i-preserved : goal.loop-i-preserved

@@ -1,11 +1,7 @@
 -- The caches are emptied from the last down.
-use mathlib.Core.Path.{refl}
-use Prim.Native.Nat.{◌-◌}
-use native.Mathlib.Omega.{arith}
-use borrow.Author.Rules.{rules}
 use Rattle.limits.specs.Limits.{UNITS}
 use Rattle.control.specs.Layout.{CACHES, TopOfCache}
-use Rattle.start.proofs.StartImage.{Filling, filling-begins, filling-goes, filling-ends}
+use Rattle.start.proofs.StartImage.{Filling}
 use Rattle.start.proofs.empty_caches.Given as goal
 
 abbrev pub invariant-loop-i : goal.invariant-loop-i

@@ -1,5 +1,4 @@
 -- The calls of `image` make the writes of a start, one after the other.
-use borrow.Author.Rules.{rules}
 use Rattle.limits.specs.Limits.{SPARE_DESCRIPTORS, SPARE_REGIONS}
 use Rattle.control.specs.Layout.{Head}
 use Rattle.start.proofs.StartImage.{with_value, image-is}

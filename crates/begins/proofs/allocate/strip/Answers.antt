@@ -1,5 +1,5 @@
 -- One law for each way out.
-use Rattle.std.proofs.Common.{refl, arith, rules}
+use Rattle.std.proofs.Common.{refl, arith}
 use Rattle.stepped.proofs.Doing.{done}
 use Rattle.begins.proofs.Beginning.{too_large, strip-served}
 use Rattle.begins.proofs.allocate.strip.Goals as goal

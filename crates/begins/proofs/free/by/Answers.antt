@@ -1,7 +1,7 @@
 -- One law for each way out.
 use mathlib.Core.Path.{ap}
 use mathlib.Core.Bool.{not}
-use Rattle.std.proofs.Common.{refl, arith, rules}
+use Rattle.std.proofs.Common.{refl, arith}
 use Rattle.ranges.proofs.Passed.{failed, passed}
 use Rattle.ranges.proofs.RangeTests.{parts}
 use Rattle.stepped.proofs.Doing.{done, does}

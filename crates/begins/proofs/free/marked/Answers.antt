@@ -1,7 +1,7 @@
 -- One law for each way out.
 use mathlib.Core.Path.{ap}
 use mathlib.Core.Bool.{not}
-use Rattle.std.proofs.Common.{refl, rules}
+use Rattle.std.proofs.Common.{refl}
 use Rattle.ranges.proofs.Passed.{failed, passed}
 use Rattle.stepped.proofs.Doing.{done}
 use Rattle.begins.proofs.FreeBegins.{mark-clear, stored}

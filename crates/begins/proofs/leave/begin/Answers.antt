@@ -1,5 +1,5 @@
 -- One law for each way out.
-use Rattle.std.proofs.Common.{refl, arith, rules}
+use Rattle.std.proofs.Common.{refl, arith}
 use Rattle.stepped.proofs.Doing.{done, does}
 use Rattle.begins.proofs.Beginning.{no_place, in-hand, idle-is}
 use Rattle.begins.proofs.leave.begin.Goals as goal

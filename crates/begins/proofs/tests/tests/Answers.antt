@@ -1,5 +1,5 @@
 -- One way out for each test that fails, and one for all that pass.
-use Rattle.std.proofs.Common.{arith, rules}
+use Rattle.std.proofs.Common.{arith}
 use Rattle.stepped.specs.Calls.{control_fails, tasks_fail, regions_fail, lengths_fail, task_fails}
 use Rattle.begins.proofs.Testing.{fails, behind, all-pass}
 use Rattle.begins.proofs.tests.tests.Goals as goal

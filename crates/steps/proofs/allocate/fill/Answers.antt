@@ -4,7 +4,6 @@ use native.Mathlib.Omega.{arith}
 use Rattle.control.specs.Places.{A3_READ, A3_EXCHANGE, A4, A7, A8}
 use Rattle.stepped.proofs.Doing.{does-in, lends}
 use Rattle.steps.proofs.StepAt.{at}
-use borrow.Author.Rules.{rules}
 use Rattle.steps.proofs.allocate.fill.Goals as goal
 
 pub returns-then-place-eq-A8 : goal.returns-then-place-eq-A8

@@ -4,7 +4,6 @@ use native.Mathlib.Omega.{arith}
 use Rattle.control.specs.Places.{F2, F3_READ, F3_LINK, F3_EXCHANGE, F4_CLEAR}
 use Rattle.stepped.proofs.Doing.{does-in, lends}
 use Rattle.steps.proofs.StepAt.{at}
-use borrow.Author.Rules.{rules}
 use Rattle.steps.proofs.free.empty.Goals as goal
 
 pub returns-then-place-eq-F2 : goal.returns-then-place-eq-F2

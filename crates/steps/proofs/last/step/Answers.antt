@@ -4,7 +4,6 @@ use native.Mathlib.Omega.{arith}
 use Rattle.control.specs.Places.{STRIP_TAKE, STRIP_GIVE, LEAVE_END}
 use Rattle.stepped.proofs.Doing.{done, does}
 use Rattle.steps.proofs.StepAt.{at, past-places}
-use borrow.Author.Rules.{rules}
 use Rattle.steps.proofs.last.step.Goals as goal
 
 pub returns-then-place-eq-STRIP_TAKE : goal.returns-then-place-eq-STRIP_TAKE

@@ -1,5 +1,4 @@
 -- The place is so far after the first of the move that is found, and the function that is called does the step there.
-use native.Mathlib.Nat.{not-le_of_lt}
 use native.Mathlib.Omega.{arith}
 use mathlib.Core.Path.{◌∙◌}
 use mathlib.Core.Logic.{◌≢◌}
@@ -10,7 +9,6 @@ use Rattle.stepped.proofs.MovePlaces.{pop-steps, push-steps}
 use Rattle.steps.specs.StartsAt.{StartsAt}
 use Rattle.steps.specs.declared.moves.Move.TheVariants.{Neither}
 use Rattle.steps.proofs.StepAt.{same}
-use borrow.Author.Rules.{rules}
 use Rattle.steps.proofs.moves.step.Goals as goal
 
 -- a place from the first of a move on, and none of its three, is past them

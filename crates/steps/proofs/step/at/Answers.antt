@@ -4,7 +4,6 @@ use native.Mathlib.Omega.{arith}
 use Rattle.control.specs.Places.{A1, F1}
 use Rattle.stepped.proofs.Doing.{does-in, lends, numbers}
 use Rattle.steps.proofs.StepAt.{at}
-use borrow.Author.Rules.{rules}
 use Rattle.steps.proofs.step.at.Goals as goal
 
 pub returns-then-place-eq-A1 : goal.returns-then-place-eq-A1

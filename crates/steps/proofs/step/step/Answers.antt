@@ -3,7 +3,6 @@ use mathlib.Core.Path.{refl}
 use native.Mathlib.Omega.{arith}
 use Rattle.stepped.proofs.Doing.{done-in, numbers, numbers-in}
 use Rattle.steps.proofs.StepAt.{idle, no-class, to-place}
-use borrow.Author.Rules.{rules}
 use Rattle.steps.proofs.step.step.Goals as goal
 
 pub returns-then-place-eq-IDLE : goal.returns-then-place-eq-IDLE

@@ -1,8 +1,5 @@
 -- A class has at most 512 blocks, so n fits its bits.
-use borrow.Author.Rules.{rules}
 use native.Mathlib.Omega.{arith}
-use mathlib.Core.Path.{ap, ◌∙◌}
-use Rattle.words.specs.Anchor.{anchor_word}
 use Rattle.words.proofs.Anchors.{full-fits}
 use Rattle.classes.proofs.Tables.{per_region-high}
 use Rattle.steps_allocate.proofs.anchor.full_word.Goals as goal

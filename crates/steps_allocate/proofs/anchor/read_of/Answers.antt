@@ -1,5 +1,4 @@
 -- The tests are those of the definition, of the anchor that is read.
-use borrow.Author.Rules.{rules}
 use mathlib.Core.Path.{refl}
 use Rattle.steps_allocate.specs.AnchorWords.{is_empty}
 use Rattle.stepped.specs.Ranges.{is_anchor, has_chain}

@@ -3,7 +3,6 @@ use borrow.Author.Rules.{rules}
 use mathlib.Core.Path.{refl}
 use Rattle.ranges.proofs.Passed.{failed, passed}
 use Rattle.stepped.proofs.Doing.{done}
-use Rattle.steps_allocate.proofs.TakingBounds.{block-link, block-unit, top-fits}
 use Rattle.steps_allocate.proofs.AllocateWays.{by, a1_take-block, a1_take-below, a1_take-taken}
 use Rattle.steps_allocate.proofs.cache.take_top.Goals as goal
 

@@ -1,9 +1,7 @@
 -- The tests are those of the definition, in their order.
-use borrow.Author.Rules.{rules}
 use native.Mathlib.Omega.{arith}
 use mathlib.Core.Path.{refl}
 use Rattle.stepped.proofs.Doing.{done-in}
-use Rattle.steps_fill.proofs.FilledBlocks.{unit-by}
 use Rattle.steps_fill.proofs.FillingWays.{a4-region, a4-index, a4-none, a4-many}
 use Rattle.steps_fill.proofs.chain.step.Goals as goal
 

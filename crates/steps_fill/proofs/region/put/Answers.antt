@@ -1,5 +1,4 @@
 -- The unit in the region and the region make the unit in the area.
-use borrow.Author.Rules.{rules}
 use native.Mathlib.Omega.{arith}
 use mathlib.Core.Path.{refl}
 use Rattle.stepped.proofs.Doing.{done-in}

@@ -1,5 +1,4 @@
 -- No class has more than 512 blocks in a region.
-use borrow.Author.Rules.{rules}
 use native.Mathlib.Omega.{arith}
 use Rattle.classes.proofs.Tables.{per_region-high}
 use Rattle.steps_fill.proofs.units.blocks.Goals as goal

@@ -1,12 +1,11 @@
 -- The tests are those of the definition, in its order.
 use mathlib.Core.Path.{ap}
 use mathlib.Core.Bool.{not}
-use borrow.Author.Rules.{rules}
 use Rattle.classes.proofs.Tables.{per_region-high}
 use native.Mathlib.Omega.{arith}
 use mathlib.Core.Path.{refl}
 use Rattle.stepped.proofs.Doing.{done-in}
-use Rattle.ranges.proofs.Passed.{failed, passed, block-passed}
+use Rattle.ranges.proofs.Passed.{failed, passed}
 use Rattle.steps_group.proofs.PuttingWays.{no_block, no_top, is-put}
 use Rattle.steps_group.proofs.cache.put_block.Goals as goal
 

@@ -1,5 +1,4 @@
 -- The tests are those of the definition, in its order.
-use borrow.Author.Rules.{rules}
 use native.Mathlib.Omega.{arith}
 use mathlib.Core.Path.{refl}
 use Rattle.stepped.proofs.Doing.{done-in, does-in}

@@ -1,14 +1,10 @@
 -- The tests are those of the definition, in its order.
 use mathlib.Core.Path.{ap}
 use mathlib.Core.Bool.{not}
-use borrow.Author.Rules.{rules}
-use Prim.Native.Nat.{◌-◌}
-use native.Mathlib.Omega.{arith}
 use mathlib.Core.Path.{refl}
 use Rattle.stepped.proofs.Doing.{done}
 use Rattle.ranges.proofs.Passed.{failed, passed}
 use Rattle.steps_group.proofs.GroupingWays.{first-bad, first_taken}
-use Rattle.steps_group.proofs.Fitting.{index-small, top_small}
 use Rattle.steps_group.proofs.group.take_first.Goals as goal
 
 pub returns-then-not-is_top : goal.returns-then-not-is_top

@@ -2,14 +2,13 @@
 use mathlib.Core.Path.{ap}
 use mathlib.Core.Bool.{not}
 use borrow.Author.Rules.{rules}
-use Prim.Native.Nat.{◌-◌}
 use Rattle.classes.proofs.Tables.{per_region-high}
 use native.Mathlib.Omega.{arith}
 use mathlib.Core.Path.{refl}
 use Rattle.stepped.proofs.Doing.{done-in}
 use Rattle.ranges.proofs.Passed.{failed, passed}
 use Rattle.steps_group.proofs.GroupingWays.{more-full, last-bad, below-bad, more-taken}
-use Rattle.steps_group.proofs.Fitting.{link-inside, index-small, top_small}
+use Rattle.steps_group.proofs.Fitting.{link-inside}
 use Rattle.steps_group.proofs.group.take_more.Goals as goal
 
 pub returns-then-n-group : goal.returns-then-n-group

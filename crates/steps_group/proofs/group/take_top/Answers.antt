@@ -1,11 +1,10 @@
 -- The tests are those of the definition, in its order.
 use mathlib.Core.Path.{ap}
 use mathlib.Core.Bool.{not}
-use borrow.Author.Rules.{rules}
 use native.Mathlib.Omega.{arith}
 use mathlib.Core.Path.{refl}
 use Rattle.stepped.proofs.Doing.{done-in, does-in, lends}
-use Rattle.ranges.proofs.Passed.{failed, passed, block-passed}
+use Rattle.ranges.proofs.Passed.{failed, passed}
 use Rattle.steps_group.proofs.GroupingWays.{top-bad, top-first, region-bad, top-other, top-more}
 use Rattle.steps_group.proofs.group.take_top.Goals as goal
 

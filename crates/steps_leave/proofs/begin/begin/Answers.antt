@@ -1,5 +1,4 @@
 -- The search goes on or refuses; then the unit and the count of lost exchanges are written.
-use borrow.Author.Rules.{rules}
 use Rattle.plain.specs.Moves.{nothing}
 use Rattle.steps_leave.proofs.Going.{gone, not-gone}
 use Rattle.steps_leave.proofs.begin.begin.Goals as goal

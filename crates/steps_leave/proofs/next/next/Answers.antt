@@ -1,11 +1,6 @@
 -- The classes before the one that is looked at have empty caches.
-use borrow.Author.Rules.{rules}
 use native.Mathlib.Omega.{arith}
-use mathlib.Core.Path.{◌≡◌, refl, ◌∙◌}
-use Prim.Native.Nat.{ℕ, ◌-◌, ◌≤◌}
-use Rattle.limits.specs.Limits.{CLASSES}
-use Rattle.control.specs.Layout.{seen}
-use Rattle.stepped.specs.Leaving.{next_cached}
+use mathlib.Core.Path.{refl, ◌∙◌}
 use Rattle.steps_leave.proofs.Going.{next-none, next_here, next-further}
 use Rattle.steps_leave.proofs.next.next.Goals as goal
 

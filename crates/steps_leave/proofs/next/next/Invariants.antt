@@ -1,12 +1,9 @@
 -- The classes before the one that is looked at have empty caches.
-use borrow.Author.Rules.{rules}
-use native.Mathlib.Omega.{arith}
-use mathlib.Core.Path.{◌≡◌, refl, ◌∙◌}
-use Prim.Native.Nat.{ℕ, ◌-◌, ◌≤◌}
+use mathlib.Core.Path.{◌≡◌}
+use Prim.Native.Nat.{◌-◌, ◌≤◌}
 use Rattle.limits.specs.Limits.{CLASSES}
 use Rattle.control.specs.Layout.{seen}
 use Rattle.stepped.specs.Leaving.{next_cached}
-use Rattle.steps_leave.proofs.Going.{next-none, next_here, next-further}
 use Rattle.steps_leave.proofs.next.next.Given as goal
 
 abbrev pub invariant-loop-class : goal.invariant-loop-class

@@ -1,5 +1,4 @@
 -- The code's test is that of the definition; past it the place is that of step 6.
-use borrow.Author.Rules.{rules}
 use native.Mathlib.Omega.{arith}
 use mathlib.Core.Path.{◌∙◌}
 use Rattle.steps_lists.proofs.Following.{f5-offer, f5-f6}

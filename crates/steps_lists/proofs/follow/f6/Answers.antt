@@ -1,5 +1,4 @@
 -- The code's tests are those of the definition; the empty cache is asked for first.
-use borrow.Author.Rules.{rules}
 use native.Mathlib.Omega.{arith}
 use mathlib.Core.Path.{◌∙◌}
 use Rattle.steps_lists.proofs.Following.{f6-returned, f6-bad, f6-two}

@@ -1,5 +1,4 @@
 -- The code's tests are those of the definition.
-use borrow.Author.Rules.{rules}
 use native.Mathlib.Omega.{arith}
 use Rattle.steps_lists.proofs.Following.{returned-one, returned-leave, returned-bad}
 use Rattle.steps_lists.proofs.follow.returned.Goals as goal

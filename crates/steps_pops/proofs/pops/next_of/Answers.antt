@@ -1,5 +1,4 @@
 -- The code's test is that of the definition, for every class; the stores are the writes of the outcome.
-use borrow.Author.Rules.{rules}
 use native.Mathlib.Omega.{arith}
 use mathlib.Core.Path.{refl}
 use Rattle.stepped.proofs.Doing.{done}

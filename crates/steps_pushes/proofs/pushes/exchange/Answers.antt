@@ -1,6 +1,5 @@
 -- The code's tests are those of the definition; past them its stores are the writes of the outcome, or another function
 -- does the whole outcome.
-use borrow.Author.Rules.{rules}
 use native.Mathlib.Omega.{arith}
 use mathlib.Core.Path.{refl}
 use Rattle.stepped.proofs.Doing.{done, loses}

@@ -1,8 +1,4 @@
 -- In each case the stores are the writes of that place's outcome.
-use borrow.Author.Rules.{rules}
-use borrow.Author.Tests.{not-true, not-false}
-use native.Mathlib.Omega.{arith}
-use mathlib.Core.Path.{refl}
 use Rattle.steps_leave.proofs.Going.{gone, not-gone}
 use Rattle.steps_pushes.proofs.pushes.go_on.Goals as goal
 

@@ -1,5 +1,4 @@
 -- The code's test is that of the definition, and its stores the writes of the outcome that it leads to.
-use borrow.Author.Rules.{rules}
 use native.Mathlib.Omega.{arith}
 use mathlib.Core.Path.{refl}
 use Rattle.stepped.proofs.Doing.{done}

@@ -1,10 +1,7 @@
 -- In each case the stores are the writes of the outcome, or another function does the whole outcome.
-use borrow.Author.Rules.{rules}
 use native.Mathlib.Omega.{arith}
-use mathlib.Core.Path.{refl}
 use Rattle.control.specs.Layout.{seen}
-use Rattle.stepped.proofs.Doing.{done}
-use Rattle.steps_pushes.proofs.Pushing.{released-bad, released, offered}
+use Rattle.steps_pushes.proofs.Pushing.{released, offered}
 use Rattle.steps_pushes.proofs.pushes.won.Goals as goal
 
 pub returns-else-state-gt-FULL : goal.returns-else-state-gt-FULL

@@ -1,7 +1,6 @@
 -- The tests are those of the definition, in its order.
 use mathlib.Core.Path.{ap}
 use mathlib.Core.Bool.{not}
-use borrow.Author.Rules.{rules}
 use mathlib.Core.Path.{refl}
 use Rattle.stepped.proofs.Doing.{done}
 use Rattle.stepped.specs.Ranges.{is_anchor}

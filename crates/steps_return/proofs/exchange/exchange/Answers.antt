@@ -46,14 +46,13 @@ returns-then-not-has_room c =
     refl refl refl
 
 pub exchange_of-requires : goal.exchange_of-requires
-exchange_of-requires c =
-    (
-      search rules,
-      search rules,
-      has-room _ _ _ c.per_region-n.ensures
-          (passed c.has_room.ensures (ap not c.if-not-has_room.false)),
-      passed c.is_anchor.ensures (ap not c.if-not-is_anchor.false),
-    )
+exchange_of-requires c = (
+  search rules,
+  search rules,
+  has-room _ _ _ c.per_region-n.ensures
+      (passed c.has_room.ensures (ap not c.if-not-has_room.false)),
+  passed c.is_anchor.ensures (ap not c.if-not-is_anchor.false),
+)
 
 pub returns : goal.returns
 returns c =

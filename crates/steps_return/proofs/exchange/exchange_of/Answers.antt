@@ -1,7 +1,6 @@
 -- The tests are those of the definition; of the noted anchor it is known that it is one.
 use mathlib.Core.Path.{ap}
 use mathlib.Core.Bool.{not}
-use borrow.Author.Rules.{rules}
 use native.Mathlib.Omega.{arith}
 use mathlib.Core.Path.{refl}
 use Rattle.stepped.proofs.Doing.{done, does, loses}

@@ -1,6 +1,4 @@
 -- Each case is the outcome of the place that steps 5 and 6 go on to.
-use borrow.Author.Rules.{rules}
-use borrow.Author.Tests.{not-true, not-false}
 use mathlib.Core.Path.{refl, sym, ◌∙◌}
 use Rattle.plain.specs.Moves.{gave}
 use Rattle.stepped.proofs.Doing.{done, does}

@@ -1,5 +1,4 @@
 -- The stored word and state are those of the definition; the test is whether the count is now n.
-use borrow.Author.Rules.{rules}
 use native.Mathlib.Omega.{arith}
 use mathlib.Core.Path.{refl}
 use Rattle.stepped.proofs.Doing.{done, does}

@@ -1,5 +1,4 @@
 -- A region in hand that the area does not have is refused; else its entry is cleared.
-use borrow.Author.Rules.{rules}
 use native.Mathlib.Omega.{arith}
 use mathlib.Core.Path.{refl}
 use Rattle.stepped.proofs.Doing.{done}

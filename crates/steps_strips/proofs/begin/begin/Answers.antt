@@ -1,8 +1,5 @@
 -- The unit is tested, and gives the slot.
-use borrow.Author.Rules.{rules}
 use mathlib.Core.Path.{refl, sym, ◌∙◌}
-use borrow.Author.Tests.{not-true, not-false}
-use Rattle.strip_tree.proofs.UnitTests.{unit-passed}
 use Rattle.stepped.proofs.Doing.{done, does}
 use Rattle.steps_strips.proofs.StripWays.{begin-nowhere, begin-there}
 use Rattle.steps_strips.proofs.begin.begin.Goals as goal

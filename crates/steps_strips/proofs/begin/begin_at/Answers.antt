@@ -1,7 +1,5 @@
 -- The tests are those of the definition, in its order, and the stores the writes of the outcome.
-use borrow.Author.Rules.{rules}
 use mathlib.Core.Path.{refl, sym, ◌∙◌}
-use borrow.Author.Tests.{not-true, not-false}
 use Rattle.stepped.proofs.Doing.{done}
 use Rattle.steps_strips.proofs.StripWays.{begin-none, begin-large, begin-bad, begin-begun, begin-done}
 use Rattle.steps_strips.proofs.begin.begin_at.Goals as goal

@@ -1,8 +1,6 @@
 -- The tests are those of the definition, in its order, and the stores the writes of the outcome.
-use borrow.Author.Rules.{rules}
 use Prim.Native.Nat.{ℕ, ◌-◌}
 use mathlib.Core.Path.{refl, sym, ◌∙◌, ap₂}
-use borrow.Author.Tests.{not-true, not-false}
 use Rattle.limits.specs.Limits.{WHOLE_ORDER}
 use Rattle.strip_tree.specs.declared.tree.Tree.{Tree}
 use Rattle.strip_tree.specs.TreeMoves.{joining}

@@ -1,7 +1,7 @@
 -- At the order wanted the tree is stored; else the upper half is marked and the lower one halved further.
-use Rattle.std.proofs.Common.{◌-◌, arith, rules}
+use Rattle.std.proofs.Common.{arith, rules}
 use Rattle.strip_tree.specs.Trees.{tree_with}
-use Rattle.strip_tree.proofs.Powers.{twice, most, raised}
+use Rattle.strip_tree.proofs.Powers.{raised}
 use Rattle.strip_tree.proofs.Finding.{halve-done, halve-next}
 use Rattle.steps_strips.proofs.halve.+halve_low.Goals as goal
 

@@ -10,16 +10,15 @@ returns-then-wanted-ge-FIRST_WORD_ORDER c =
     rw (← c.halve_high-a.ensures c.args.t.b c.args.t.c c.args.t.d) c.set_tree.ensures
 
 pub halve_low-requires-2 : goal.halve_low-requires-2
-halve_low-requires-2 c =
-    (
-      search rules,
-      record {
-        order = omega arith;
-        below = rw (down-shifted c.args.order c.args.node (omega arith) (omega arith) (omega arith))
-            (shifted_down c.args.order c.args.node (omega arith) (omega arith) (omega arith));
-      },
-      omega arith,
-    )
+halve_low-requires-2 c = (
+  search rules,
+  record {
+    order = omega arith;
+    below = rw (down-shifted c.args.order c.args.node (omega arith) (omega arith) (omega arith))
+        (shifted_down c.args.order c.args.node (omega arith) (omega arith) (omega arith));
+  },
+  omega arith,
+)
 
 pub returns : goal.returns
 returns c =

@@ -1,12 +1,9 @@
 -- The stores are the writes of the outcome, in their order.
-use borrow.Author.Rules.{rules}
 use Prim.Native.Nat.{◌-◌}
-use native.Mathlib.Omega.{arith}
 use mathlib.Core.Path.{refl, ap, ◌∙◌}
 use Rattle.strip_tree.specs.declared.tree.Tree.{Tree}
 use Rattle.strip_tree.specs.TreeMoves.{halving}
 use Rattle.pieces.specs.StripUnits.{strip_unit}
-use Rattle.strip_tree.proofs.Powers.{twice, most}
 use Rattle.control.specs.declared.answer.Answer.TheVariants.{Allocated}
 use Rattle.stepped.proofs.Doing.{done}
 use Rattle.steps_strips.proofs.StripWays.{stored, cut}
