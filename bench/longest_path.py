@@ -9,13 +9,15 @@ is taken right before it, or, where that is not seen, to every entry of every ta
 The loops and the functions that call themselves, with their bounds (crates/steps_strips/src, crates/strip_tree/src,
 crates/steps_leave/src):
 
-- `halve_low` halves from order 2 at most, and `join` calls itself from the orders 0 and 1: each is entered three times
-  at most, one in the other.
+- `halve_low` halves from order 2 at most, and `join` calls itself from the orders 0 and 1: as a function each is
+  entered three times at most, one in the other. As a loop, which finds the word of a node by a shift of 6, `halve_low`
+  makes two turns.
 - The search for the smallest sufficient piece of the strips looks at each order once, 0 to 7, and ends at order 7. Six
   of the orders have their nodes in the first word: only for them it shifts, to the right and to the left.
 - The halvings in the first word are at most five, from order 7 to order 2. The back end puts several of them into a
   turn, each a shift by a register, and makes those that are left over, fewer than such a turn has, in a loop of one
   each.
+- The joinings in the first word are at most five, from order 2 to order 7, each with the test of a bit.
 - The search for the next cache of a task that leaves reads the count of each of the thirteen classes once, two bytes.
 
 Any other loop or recursion ends the script. The step has a second line, over the paths that meet none of the loops and
@@ -36,7 +38,7 @@ NAMES = {
 }
 ENTRIES = {"steps_strips::halve::halve_low": 3, "steps_strips::join::join": 3}
 WITHOUT_STRIPS = "longest path without strips, step"
-ORDERS, FIRST_WORD_ORDERS, HALVINGS, CLASSES = 8, 6, 5, 13
+ORDERS, FIRST_WORD_ORDERS, HALVINGS, LOW_HALVINGS, JOININGS, CLASSES = 8, 6, 5, 2, 5, 13
 IMPOSSIBLE = -(1 << 32)
 
 
@@ -145,10 +147,15 @@ class Loop:
 
     def __init__(self, part, texts):
         self.part = part
-        left, right, orders, counts = [{one for one in part if re.match(pattern, texts[one])} for pattern in (
-            r"shl\s+%cl,", r"shr\s+%cl,", rf"cmp\s+\$0x{ORDERS - 1:x},", r"movzwl \S*\(%\w+,%\w+,2\),")]
-        self.halves = bool(left) and not right
-        if self.halves:
+        left, right, orders, counts, words, bits = [
+            {one for one in part if re.match(pattern, texts[one])} for pattern in (
+                r"shl\s+%cl,", r"shr\s+%cl,", rf"cmp\s+\$0x{ORDERS - 1:x},", r"movzwl \S*\(%\w+,%\w+,2\),",
+                r"shr\s+\$0x6,", r"bt\s+%")]
+        self.halves = bool(left) and not right | words | bits
+        if left and not right and (words or bits):
+            most = LOW_HALVINGS if words else JOININGS
+            self.work, self.work_most, self.turns_most = left, most, most
+        elif self.halves:
             self.work, self.work_most, self.turns_most = left, HALVINGS, HALVINGS
         elif left and orders:
             self.work, self.work_most, self.turns_most = left, FIRST_WORD_ORDERS, ORDERS
