@@ -115,7 +115,7 @@
  *   1. The three memories do not overlap, and each really has the length that is lent with it. A pointer may be null
  *      where its length is 0.
  *   2. Calls do not overlap in time: mask interrupts or lock around each single call. But for a report, which is a tool
- *      (see "Reports" below), the longest is a step of at most 393 instructions; docs/BENCHMARKS.md says what this
+ *      (see "Reports" below), the longest is a step of at most 333 instructions; docs/BENCHMARKS.md says what this
  *      bound rests on. A start, which comes before the others, also fills 8,192 bytes by your memset.
  *   3. Each call but a start lends the control memory, the area and the strips' memory of the last accepted start. If
  *      it lends another length, it is refused and does no harm.
@@ -164,7 +164,8 @@
  * 192 and 224, and 12 has 256. Strips are in no report.
  *
  * A report is one call like the others: no other call may run meanwhile. It takes much longer than they do, for it
- * follows the links of all cached blocks: see pool_sheet, pool_holders and pool_keepers.
+ * follows the links of all cached blocks: see pool_sheet, pool_holders and pool_keepers. The instructions that are told
+ * there were counted with the library as an earlier toolchain compiled it.
  *
  * ---- The stock sheet ----
  *
@@ -207,19 +208,19 @@
  * The beginnings and the steps for blocks have no loop but one: leaving looks for the next of the task's thirteen
  * caches that is not empty. A step for a strip halves or joins at most seven times, and the start loops over the
  * control memory alone. No call makes a system call, allocates memory or keeps anything outside the memories that it is
- * lent. The library is target/staticlib/libpool.a, made by 'rt staticlib pool'. A start needs memset from the
- * firmware's C library, and SSE2 registers. The sheet and the form need memset, memcpy and SSE2 registers, the keepers
- * memcpy and SSE2 registers. The code is for x86-64.
+ * lent. The library is target/staticlib/libpool.a, made by tools/library. A start needs memset from the firmware's C
+ * library, and SSE2 registers. The sheet and the form need memset, memcpy and SSE2 registers, the keepers memcpy and
+ * SSE2 registers. The code is for x86-64.
  *
  * Each function has a section of its own, so that the linker can leave out a report that is never called (gcc:
  * -Wl,--gc-sections). What it leaves out are code and constants that no other call uses:
  *
- *   1,087 bytes   of the sheet alone, where the sheet is not called;
- *   1,435 bytes   of the form alone, where the form is not called;
- *   5,131 bytes   of the keepers alone, where the keepers are not called;
- *   3,050 bytes   that reports share, where none is called.
+ *   1,191 bytes   of the sheet alone, where the sheet is not called;
+ *   1,597 bytes   of the form alone, where the form is not called;
+ *   6,197 bytes   of the keepers alone, where the keepers are not called;
+ *   2,865 bytes   that reports share, where none is called.
  *
- * So 10,703 bytes are left out where no report is called, and no memcpy is needed.
+ * So 11,850 bytes are left out where no report is called, and no memcpy is needed.
  *
  * A report keeps values below the stack pointer, in the 128 bytes that the System V ABI calls the red zone; the other
  * calls do not. An interrupt that comes during a report, and uses the same stack, has to leave these bytes as they are.
@@ -435,7 +436,7 @@ uint64_t pool_step(uint8_t *control, uint64_t control_length, uint8_t *area, uin
  * It is a tool, and takes what the other calls need not. All its loops are bounded, but it follows the link of every
  * cached block, at 13 instructions each: it takes 13,871 instructions in a fresh pool of one region, and 104,760 where
  * all blocks of sixteen regions are cached. The most that was found for any memories is 168,168. A sheet uses at most
- * 2,401 bytes of stack, of which 1,664 hold the numbers until all are tested; what your memset and memcpy use comes on
+ * 2,384 bytes of stack, of which 1,664 hold the numbers until all are tested; what your memset and memcpy use comes on
  * top. "What the code needs" above says what its code takes.
  */
 uint64_t pool_sheet(const uint8_t *control, uint64_t control_length, const uint8_t *area, uint64_t area_length,
@@ -462,7 +463,7 @@ uint64_t pool_sheet(const uint8_t *control, uint64_t control_length, const uint8
  *
  * It follows the link of every cached block, at 13 instructions each. It takes 18,402 instructions in a fresh pool of
  * one region, and 108,448 where all blocks of sixteen regions are cached. The most that was found for any memories is
- * 171,856. A form uses at most 896 bytes of stack, of which 468 hold the numbers until all are tested; what your memset
+ * 171,856. A form uses at most 880 bytes of stack, of which 468 hold the numbers until all are tested; what your memset
  * and memcpy use comes on top. "What the code needs" above says what its code takes.
  */
 uint64_t pool_holders(const uint8_t *control, uint64_t control_length, const uint8_t *area, uint64_t area_length,
@@ -498,7 +499,7 @@ uint64_t pool_holders(const uint8_t *control, uint64_t control_length, const uin
  * It follows the link of every cached block, at 13 instructions each. For each open region that has no block in hand
  * it follows those of the region's class once more, at 9 each, task by task up to the first that has a block of the
  * region. The keepers of a fresh pool of one region take 6,518 instructions, and those of sixteen regions whose blocks
- * are all cached take 339,605. The most that was found for any memories is 717,982. They use at most 689 bytes of
+ * are all cached take 339,605. The most that was found for any memories is 717,982. They use at most 800 bytes of
  * stack; what your memcpy uses comes on top. "What the code needs" above says what their code takes.
  */
 uint64_t pool_keepers(const uint8_t *control, uint64_t control_length, const uint8_t *area, uint64_t area_length,
