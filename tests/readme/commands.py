@@ -7,9 +7,10 @@ import tempfile
 
 from documents import README, read
 
-WORDS = {'check', 'ci', 'must-fail', 'run', 'lib', 'test', 'try', 'all', 'verdict', 'fmt', 'tidy', 'expand', 'plant', 'lemma',
-         'new', 'seed', 'names', 'selftest', 'doc', 'version', 'help'}
+WORDS = {'check', 'ci', 'must-fail', 'run', 'lib', 'test', 'try', 'all', 'verdict', 'fmt', 'tidy', 'expand', 'plant',
+         'lemma', 'new', 'seed', 'names', 'selftest', 'doc', 'version', 'help'}
 STEPS = 'crates/plain/specs/Steps.antt'
+WITHIN = re.compile(r'\(cd crates/(\S+) && (.*)\)')
 # The edits of the tour, in their order.
 EDITS = ['crates/plain/must-fail/one_block_for_all.edit',
          'crates/agreement/must-fail-below-long/anchor_compared_without_its_length.edit']
@@ -22,13 +23,15 @@ def code():
 
 
 def known():
-    """Every rt WORD [CRATE] has a word of the toolchain and a crate of crates.txt."""
+    """Every rt WORD [CRATE], in a crate's folder or not, has a word of the toolchain and a crate of crates.txt."""
     crates = re.findall(r'^(\w+)(?: staticlib)?:', read('crates.txt'), re.M)
     result = []
     for line in code():
-        words = line.split()
+        within = WITHIN.fullmatch(line)
+        words = (within.group(2) if within else line).split()
         if words[0] != 'rt' or len(words) < 2:
             continue
+        words[2:2] = [within.group(1)] if within else []
         result += [f'{README}: {line}: rt has no such word'] * (words[1] not in WORDS)
         result += [f'{README}: {line}: there is no crate {crate}' for crate in words[2:3] if crate not in crates]
     return result
