@@ -33,7 +33,8 @@ def known():
             continue
         words[2:2] = [within.group(1)] if within else []
         result += [f'{README}: {line}: rt has no such word'] * (words[1] not in WORDS)
-        result += [f'{README}: {line}: there is no crate {crate}' for crate in words[2:3] if words[1] in ('ci', 'must-fail') and crate not in crates]
+        named = words[2:3] if words[1] in TAKE_CRATES else []
+        result += [f'{README}: {line}: there is no crate {crate}' for crate in named if crate not in crates]
     return result
 
 
