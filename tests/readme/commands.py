@@ -9,6 +9,7 @@ from documents import README, read
 
 WORDS = {'check', 'ci', 'must-fail', 'run', 'lib', 'test', 'try', 'all', 'verdict', 'fmt', 'tidy', 'expand', 'plant',
          'lemma', 'new', 'seed', 'names', 'selftest', 'doc', 'version', 'help'}
+TAKE_CRATES = ('ci', 'must-fail')
 STEPS = 'crates/plain/specs/Steps.antt'
 WITHIN = re.compile(r'\(cd crates/(\S+) && (.*)\)')
 # The edits of the tour, in their order.
