@@ -164,8 +164,7 @@
  * 192 and 224, and 12 has 256. Strips are in no report.
  *
  * A report is one call like the others: no other call may run meanwhile. It takes much longer than they do, for it
- * follows the links of all cached blocks: see pool_sheet, pool_holders and pool_keepers. The instructions that are told
- * there were counted with the library as an earlier toolchain compiled it.
+ * follows the links of all cached blocks: see pool_sheet, pool_holders and pool_keepers.
  *
  * ---- The stock sheet ----
  *
@@ -434,8 +433,8 @@ uint64_t pool_step(uint8_t *control, uint64_t control_length, uint8_t *area, uin
  * that is read is out of its range, POOL_SHORT_ROW; else POOL_FINISHED with value 0.
  *
  * It is a tool, and takes what the other calls need not. All its loops are bounded, but it follows the link of every
- * cached block, at 13 instructions each: it takes 13,871 instructions in a fresh pool of one region, and 104,760 where
- * all blocks of sixteen regions are cached. The most that was found for any memories is 168,168. A sheet uses at most
+ * cached block, at 14 instructions each: it takes 15,584 instructions in a fresh pool of one region, and 111,657 where
+ * all blocks of sixteen regions are cached. The most that was found for any memories is 178,809. A sheet uses at most
  * 2,384 bytes of stack, of which 1,664 hold the numbers until all are tested; what your memset and memcpy use comes on
  * top. "What the code needs" above says what its code takes.
  */
@@ -461,9 +460,9 @@ uint64_t pool_sheet(const uint8_t *control, uint64_t control_length, const uint8
  * Answers, by the first test that fails: POOL_BAD_CONTROL, POOL_NOT_STARTED, POOL_BAD_AREA, POOL_DAMAGED exactly where
  * pool_sheet has it, POOL_SHORT_ROW; else POOL_FINISHED with value 0.
  *
- * It follows the link of every cached block, at 13 instructions each. It takes 18,402 instructions in a fresh pool of
- * one region, and 108,448 where all blocks of sixteen regions are cached. The most that was found for any memories is
- * 171,856. A form uses at most 880 bytes of stack, of which 468 hold the numbers until all are tested; what your memset
+ * It follows the link of every cached block, at 14 instructions each. It takes 18,120 instructions in a fresh pool of
+ * one region, and 113,125 where all blocks of sixteen regions are cached. The most that was found for any memories is
+ * 180,277. A form uses at most 880 bytes of stack, of which 468 hold the numbers until all are tested; what your memset
  * and memcpy use comes on top. "What the code needs" above says what its code takes.
  */
 uint64_t pool_holders(const uint8_t *control, uint64_t control_length, const uint8_t *area, uint64_t area_length,
@@ -496,10 +495,10 @@ uint64_t pool_holders(const uint8_t *control, uint64_t control_length, const uin
  * that is read is out of its range, where the list does not end, or where none of the four applies to a region,
  * POOL_SHORT_ROW; else POOL_FINISHED with value 0.
  *
- * It follows the link of every cached block, at 13 instructions each. For each open region that has no block in hand
- * it follows those of the region's class once more, at 9 each, task by task up to the first that has a block of the
- * region. The keepers of a fresh pool of one region take 6,518 instructions, and those of sixteen regions whose blocks
- * are all cached take 339,605. The most that was found for any memories is 717,982. They use at most 800 bytes of
+ * It follows the link of every cached block, at 14 instructions each. For each open region that has no block in hand
+ * it follows those of the region's class once more, at 9 to 10 each, task by task up to the first that has a block of
+ * the region. The keepers of a fresh pool of one region take 6,512 instructions, and those of sixteen regions whose
+ * blocks are all cached take 359,980. The most that was found for any memories is 760,170. They use at most 800 bytes of
  * stack; what your memcpy uses comes on top. "What the code needs" above says what their code takes.
  */
 uint64_t pool_keepers(const uint8_t *control, uint64_t control_length, const uint8_t *area, uint64_t area_length,
