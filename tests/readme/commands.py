@@ -24,7 +24,7 @@ def code():
 
 
 def known():
-    """Every rt WORD [CRATE], in a crate's folder or not, has a word of the toolchain and a crate of crates.txt."""
+    """Every rt WORD [CRATE] has a word of the toolchain; its crate, and the one it is run in, are of crates.txt."""
     crates = re.findall(r'^(\w+)(?: staticlib)?:', read('crates.txt'), re.M)
     result = []
     for line in code():
@@ -32,9 +32,9 @@ def known():
         words = (within.group(2) if within else line).split()
         if words[0] != 'rt' or len(words) < 2:
             continue
-        words[2:2] = [within.group(1)] if within else []
         result += [f'{README}: {line}: rt has no such word'] * (words[1] not in WORDS)
-        named = words[2:3] if words[1] in TAKE_CRATES else []
+        named = [within.group(1)] if within else []
+        named += words[2:3] if words[1] in TAKE_CRATES else []
         result += [f'{README}: {line}: there is no crate {crate}' for crate in named if crate not in crates]
     return result
 
