@@ -21,8 +21,8 @@ fn first_failed(tasks: u8, behind: u8) -> u8
 // fails, too, since it has no tasks: so 4 is asked for only where a test behind it fails, and not by a call that
 // passes. The callers are the exported calls.
 pub fn tests(control: &[u8], area: usize, strips: usize, task: u64) -> u8
-    ensures { TestsAre (record { control = length control.entry.now; area = area; strips = strips })
-        (seen control.entry.now) task result }
+    ensures { TestsAre (record { control = length control.now; area = area; strips = strips })
+        (seen control.now) task result }
 {
     if control.len() != limits::CONTROL_BYTES {
         return 1;
