@@ -24,7 +24,7 @@ use Rattle.classes.proofs.Tables.{per_region-high}
 use Rattle.links.specs.Link.{link}
 use Rattle.plain.specs.State.{State, EMPTY, PARTIAL, FULL, state_number, Note, read, retire, pushing, a3-read}
 use Rattle.plain.specs.State.{a3-exchange, a4, Mem, set_descriptor, working}
-use Rattle.plain.specs.Moves.{going, took, anchor-lost}
+use Rattle.plain.specs.Moves.{going, took, anchor_lost}
 use Rattle.plain.specs.Steps.{note_of, chained, AsNoted, as_noted?, moving}
 use Rattle.plain.specs.Steps as Steps
 use Rattle.plain.specs.Blocks.{count_block}
@@ -272,4 +272,4 @@ module _ {regions : ℕ} {v : View} {area : List ℕ} {m : Mem} {t : ℕ} {k : �
       pass (ltb (v (DescriptorRegion d)) regions)
       (lt-ltb (v (DescriptorRegion d)) regions (w.pair.rel.core.descriptors.region_numbers d l))
       (exchange-won n w high first (eqb-true (v (Layout.Anchor d)) word g) h))
-      (λ g h. loses w (anchor-lost d) A3_READ (working (a3-read c d)) (omega arith) (r_working (r_a3_read refl)))))
+      (λ g h. loses w (anchor_lost d) A3_READ (working (a3-read c d)) (omega arith) (r_working (r_a3_read refl)))))

@@ -25,7 +25,7 @@ use Rattle.agreement.specs.Reached.{starting}
 use Rattle.agreement.specs.Agreement.{Agree}
 use Rattle.agreement.proofs.Theorem.{agreement, agreement-from-start}
 use Rattle.limits.specs.Limits.{STRIPS_BYTES, SLOT_BYTES}
-use Rattle.pieces.specs.Pieces.{free as free-piece, held as held-piece, begun}
+use Rattle.pieces.specs.Pieces.{free as free_piece, held as held_piece, begun}
 use Rattle.pieces.specs.StripSlots.{SlotHolds, vacant, within, slot_holds}
 use Rattle.pieces.proofs.SlotStrips.{strip-of}
 use Rattle.agreement.specs.Events.{write_strip, InStrip}
@@ -106,8 +106,8 @@ ByteHeld at s =
 -- the strip that the byte of the strips' memory lies in, by what its slot is in, is in a user's hands
 abbrev pub InHeld : SlotHolds → Type 0
 InHeld vacant = ⊥
-InHeld (within a k free-piece) = ⊥
-InHeld (within a k held-piece) = Unit {0}
+InHeld (within a k free_piece) = ⊥
+InHeld (within a k held_piece) = Unit {0}
 InHeld (within a k (begun t)) = ⊥
 
 abbrev pub StripByteHeld : ℕ → Pool → Type 0
@@ -122,8 +122,8 @@ WritesHeld (write_strip at b ∷ es) s = StripByteHeld at s × WritesHeld es s
 
 abbrev pub in_held? : (x : SlotHolds) → Dec (InHeld x)
 in_held? vacant = no (λ h. h)
-in_held? (within a k free-piece) = no (λ h. h)
-in_held? (within a k held-piece) = yes tt
+in_held? (within a k free_piece) = no (λ h. h)
+in_held? (within a k held_piece) = yes tt
 in_held? (within a k (begun t)) = no (λ h. h)
 
 -- such a byte is in a strip in a user's hands
@@ -132,9 +132,9 @@ strip-held at s h = by (slot_holds 0 s.mem.strips (at / SLOT_BYTES)) refl h.1.1
   where
     by : (x : SlotHolds) → slot_holds 0 s.mem.strips (at / SLOT_BYTES) ≡ x → InHeld x → InStrip at s
     by vacant e k = absurd k
-    by (within a o free-piece) e k = absurd k
-    by (within a o held-piece) e k =
-        let S = strip-of 0 s.mem.strips (at / SLOT_BYTES) a o held-piece (omega (arith, h.1.0)) e in
+    by (within a o free_piece) e k = absurd k
+    by (within a o held_piece) e k =
+        let S = strip-of 0 s.mem.strips (at / SLOT_BYTES) a o held_piece (omega (arith, h.1.0)) e in
         record {
           started = h.0;
           slot = a - 0;

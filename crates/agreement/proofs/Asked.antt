@@ -27,7 +27,7 @@ use Rattle.agreement.specs.Reached.{History, starting}
 use Rattle.agreement.specs.Asked.{Asked, nothing_yet, for_bytes, for_free, for_leave, asked_by, asked_in, asked}
 use Rattle.agreement.specs.AtWhatAsked.{AsAsked, AtWhatAsked, AllAtWhatAsked}
 use Rattle.limits.specs.Limits.{UNITS, LARGEST_STRIP, CLASSES}
-use Rattle.pieces.specs.Pieces.{free as free-piece, held, begun}
+use Rattle.pieces.specs.Pieces.{free as free_piece, held, begun}
 use Rattle.pieces.specs.Strips.{StripStart, nowhere, here, strip_starts}
 use Rattle.pieces.specs.StripUnits.{slot_of_unit}
 use Rattle.plain.specs.Calls.{StripUnit, strip_unit?, free_strip_at}
@@ -109,7 +109,7 @@ free-asked s a A u unit l (suc d) =
 strip-asked : (s : Pool) (a : ℕ → Asked) (A : AllAtWhatAsked a s.mem) (u unit : ℕ) (x : StripStart) → StripUnit unit
     → Shown (free u unit) s a A (free_strip_at x u (slot_of_unit unit) s.mem)
 strip-asked s a A u unit nowhere l = refuses (free u unit) s a A 10 (omega arith)
-strip-asked s a A u unit (here j free-piece) l = refuses (free u unit) s a A 10 (omega arith)
+strip-asked s a A u unit (here j free_piece) l = refuses (free u unit) s a A 10 (omega arith)
 strip-asked s a A u unit (here j held) l =
     begins a s.mem A u (for_free unit) _ (omega (arith, l.0, l.1.1))
 strip-asked s a A u unit (here j (begun t)) l = refuses (free u unit) s a A 11 (omega arith)

@@ -159,7 +159,8 @@ module _ {regions : ℕ} {v : View} {area : List ℕ} {m : Mem} {t : ℕ} {k : �
 
   -- the plain pool after the beginning of the free of a block of the class c
   abbrev freed : ℕ → Result
-  freed c = (set_task t (record { place = working (f1 c u); cache = (m.task t).cache }) (set_hands u 0 m), going nothing)
+  freed c =
+      (set_task t (record { place = working (f1 c u); cache = (m.task t).cache }) (set_hands u 0 m), going nothing)
 
   -- the test of an open region and a first unit fails
   ten : {P : Type 0} (e : Dec P) (y : Result) → ¬ P → Both regions v area m (refuse 10) (if e y (m, refused 10))

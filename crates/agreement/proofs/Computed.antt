@@ -67,15 +67,15 @@ abbrev pub fresh : FieldsAndLinks
 fresh = record { view = assigned (start_writes three 2) (λ f. 0); link = λ u. 0 }
 
 pub computed : told (run (events schedule) fresh) ≡ answers schedule
-unfolding start_writes units per_region class_of is_first Calls.tested Calls.when_idle Calls.begin_allocate Calls.free_marked
-    Calls.free_open Calls.free_by Calls.free_entry Calls.begin_free_small Calls.begin_free Calls.allocate_outcome
-    Calls.free_outcome Calls.leave_outcome Calls.step_outcome Steps.step_at Steps.step_of Lists.when_returned Lists.f6
-    Lists.f5 first_cached leave_from Lists.pop_read Lists.pop_next_of
-    Lists.pop_next Lists.pop_exchange Lists.push_read Lists.push_next Lists.push_exchange Allocate.a1_take Allocate.a1
-    Allocate.a3_read_of Allocate.a3_read Allocate.a3_exchange_of Allocate.a3_exchange Allocate.a4_move Allocate.a4 Allocate.a7
-    Allocate.a8_put Allocate.a8 Free.f1_put Free.f1 Free.f2_first Free.f2_more Free.f2_top Free.f2 Free.f3_read_of
-    Free.f3_read_by Free.f3_read Free.f3_link Free.f3_won Free.f3_exchange_of Free.f3_exchange Free.f4_clear order_from lowest
-    find_from halving joining is_free_node with_free without_free StripSteps.strip_take_at StripSteps.strip_take
-    StripSteps.strip_give_at
-    StripSteps.strip_give StripSteps.begin_free_at StripSteps.begin_free_strip
+unfolding start_writes units per_region class_of is_first Calls.tested Calls.when_idle Calls.begin_allocate
+    Calls.free_marked Calls.free_open Calls.free_by Calls.free_entry Calls.begin_free_small Calls.begin_free
+    Calls.allocate_outcome Calls.free_outcome Calls.leave_outcome Calls.step_outcome Steps.step_at Steps.step_of
+    Lists.when_returned Lists.f6 Lists.f5 first_cached leave_from Lists.pop_read Lists.pop_next_of Lists.pop_next
+    Lists.pop_exchange Lists.push_read Lists.push_next Lists.push_exchange Allocate.a1_take Allocate.a1
+    Allocate.a3_read_of Allocate.a3_read Allocate.a3_exchange_of Allocate.a3_exchange Allocate.a4_move Allocate.a4
+    Allocate.a7 Allocate.a8_put Allocate.a8 Free.f1_put Free.f1 Free.f2_first Free.f2_more Free.f2_top Free.f2
+    Free.f3_read_of Free.f3_read_by Free.f3_read Free.f3_link Free.f3_won Free.f3_exchange_of Free.f3_exchange
+    Free.f4_clear order_from lowest find_from halving joining is_free_node with_free without_free
+    StripSteps.strip_take_at StripSteps.strip_take StripSteps.strip_give_at StripSteps.strip_give
+    StripSteps.begin_free_at StripSteps.begin_free_strip
 computed = refl

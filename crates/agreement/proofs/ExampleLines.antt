@@ -7,8 +7,8 @@ use Prim.Native.Nat.{ℕ, zero, suc, ◌*◌}
 use lib.ListN.{replicate}
 use Rattle.limits.specs.Limits.{CONTROL_BYTES, REGION_BYTES, SPARE_DESCRIPTORS, SPARE_REGIONS, STRIPS_BYTES}
 use Rattle.classes.specs.Sizes.{class_of}
-use Rattle.plain.specs.Moves.{Decided, nothing, found_empty, popped, pushed, lost, anchor-empty, took, gave}
-use Rattle.plain.specs.Moves.{anchor-lost, strip-taken, strip-given, no_strip}
+use Rattle.plain.specs.Moves.{Decided, nothing, found_empty, popped, pushed, lost, anchor_empty, took, gave}
+use Rattle.plain.specs.Moves.{anchor_lost, strip_taken, strip_given, no_strip}
 use Rattle.plain.specs.Moves.{Answer, going, finished, finished_by, ended, refused}
 use Rattle.plain.specs.Calls.{Start, allocate, free, leave, step}
 use Rattle.stepped.specs.Calls.{Lent}
@@ -101,7 +101,7 @@ contention =
     ∷ (steps 1 8, going (gave 0) ∷ going (pushed CLASS_256 0) ∷ [])
     ∷ (steps 1 19, going (gave 1) ∷ finished 0 ∷ [])
     -- Task 2 loses its exchange of that anchor, reads it again and takes the chain of 15.
-    ∷ (steps 2 1, going (anchor-lost 1) ∷ [])
+    ∷ (steps 2 1, going (anchor_lost 1) ∷ [])
     ∷ (steps 2 18, going (took 1) ∷ finished 960 ∷ [])
     ∷ []
 
@@ -135,7 +135,7 @@ reopening =
     ∷ (allocates 1 256, [])
     ∷ (steps 1 1, finished 448 ∷ [])
     ∷ (allocates 1 256, [])
-    ∷ (steps 1 8, going (popped CLASS_256 1) ∷ going (anchor-empty 1) ∷ going (pushed SPARE_DESCRIPTORS 1) ∷ [])
+    ∷ (steps 1 8, going (popped CLASS_256 1) ∷ going (anchor_empty 1) ∷ going (pushed SPARE_DESCRIPTORS 1) ∷ [])
     ∷ (steps 1 7, going (popped CLASS_256 0) ∷ going (took 0) ∷ finished 480 ∷ [])
     -- Task 1 wants 192 bytes: it has read the head of the spare descriptors, with descriptor 1 on top, and its next.
     ∷ (allocates 1 192, [])
@@ -168,8 +168,8 @@ strips =
     -- 32,768, and gets the upper half as it is.
     (allocates 0 300, [])
     ∷ (allocates 1 30000, [])
-    ∷ (steps 0 1, finished_by (strip-taken 0) 8192 ∷ [])
-    ∷ (steps 1 1, finished_by (strip-taken 64) 12288 ∷ [])
+    ∷ (steps 0 1, finished_by (strip_taken 0) 8192 ∷ [])
+    ∷ (steps 1 1, finished_by (strip_taken 64) 12288 ∷ [])
     -- The user writes the first and the last byte of the smaller one.
     ∷ (strip_writes 0 170, [])
     ∷ (strip_writes 511 1, [])
@@ -182,10 +182,10 @@ strips =
     ∷ (frees 2 8256, refused 10 ∷ [])
     -- The freed slot joins six times, with the other half of each piece: now the lower half is free, and no strip
     -- begins there any more.
-    ∷ (steps 1 1, finished_by (strip-given 0) 0 ∷ [])
+    ∷ (steps 1 1, finished_by (strip_given 0) 0 ∷ [])
     ∷ (frees 2 8192, refused 10 ∷ [])
     ∷ (allocates 2 32768, [])
-    ∷ (steps 2 1, finished_by (strip-taken 0) 8192 ∷ [])
+    ∷ (steps 2 1, finished_by (strip_taken 0) 8192 ∷ [])
     ∷ []
 
 abbrev pub leaving : List ExampleLine
@@ -205,7 +205,7 @@ leaving =
     ∷ (steps 2 8, going (gave 0) ∷ going (pushed CLASS_256 0) ∷ [])
     ∷ (steps 2 1, finished 0 ∷ [])
     -- Task 0 loses its exchange of that anchor. It reads it again, returns its blocks and finishes by one further step.
-    ∷ (steps 0 1, going (anchor-lost 0) ∷ [])
+    ∷ (steps 0 1, going (anchor_lost 0) ∷ [])
     ∷ (steps 0 3, going (gave 0) ∷ [])
     ∷ (steps 0 1, finished 0 ∷ [])
     -- A task that has left begins again: it takes the chain of 14 that the two have returned.
@@ -235,12 +235,12 @@ told_by zero (found_empty ℓ) a q = a ∷ q
 told_by zero (popped ℓ x) a q = a ∷ q
 told_by zero (pushed ℓ x) a q = a ∷ q
 told_by zero (lost ℓ) a q = a ∷ q
-told_by zero (anchor-empty d) a q = a ∷ q
+told_by zero (anchor_empty d) a q = a ∷ q
 told_by zero (took d) a q = a ∷ q
 told_by zero (gave d) a q = a ∷ q
-told_by zero (anchor-lost d) a q = a ∷ q
-told_by zero (strip-taken s) a q = a ∷ q
-told_by zero (strip-given s) a q = a ∷ q
+told_by zero (anchor_lost d) a q = a ∷ q
+told_by zero (strip_taken s) a q = a ∷ q
+told_by zero (strip_given s) a q = a ∷ q
 told_by zero no_strip a q = a ∷ q
 told_by (suc code) e a q = a ∷ q
 

@@ -34,8 +34,8 @@ started = (Plain.plain_call (start three) (lengths lent) unstarted).0
 
 -- the run as it is told above is that of the plain pool
 pub told-whole : told (whole_answers (events schedule) started) ≡ answers schedule
-unfolding Plain.plain_call step_of start_mem rising units per_region update ℕ_discrete dec_lt dec_le both unstarted class_of
-    order_from take_strip leave_from
+unfolding Plain.plain_call step_of start_mem rising units per_region update ℕ_discrete dec_lt dec_le both unstarted
+    class_of order_from take_strip leave_from
 told-whole = refl
 
 -- ---- what stands in the plain pool between the parts
@@ -55,8 +55,8 @@ pub region-closed :
     ((contended.mem.descriptor 1).state ≡ FULL) × ((closed.mem.descriptor 1).state ≡ EMPTY) × (closed.mem.map 1 ≡ 0)
     × (closed.mem.row SPARE_REGIONS ≡ 1 ∷ []) × (reopened.mem.map 1 ≡ 3)
     × ((reopened.mem.descriptor 2).class ≡ CLASS_224)
-unfolding Plain.plain_call step_of start_mem rising units per_region update ℕ_discrete dec_lt dec_le both unstarted class_of
-    order_from take_strip leave_from
+unfolding Plain.plain_call step_of start_mem rising units per_region update ℕ_discrete dec_lt dec_le both unstarted
+    class_of order_from take_strip leave_from
 region-closed = (refl, refl, refl, refl, refl, refl)
 
 abbrev returned : Pool
@@ -71,8 +71,8 @@ pub head-returned :
     × (returned.mem.won SPARE_DESCRIPTORS ≡ 6)
     × (reopened.mem.row SPARE_DESCRIPTORS ≡ 1 ∷ rising 61 3)
     × (returned.mem.row SPARE_DESCRIPTORS ≡ 1 ∷ rising 61 3)
-unfolding Plain.plain_call step_of start_mem rising units per_region update ℕ_discrete dec_lt dec_le both unstarted class_of
-    order_from take_strip leave_from
+unfolding Plain.plain_call step_of start_mem rising units per_region update ℕ_discrete dec_lt dec_le both unstarted
+    class_of order_from take_strip leave_from
 head-returned = (refl, refl, refl, refl, refl, refl)
 
 -- ---- the premises are met, and the agreement holds of it
@@ -93,8 +93,8 @@ schedule_on given = starting three given ∷ events schedule
 
 -- every write is into a block or a strip in a user's hands
 writes-held : WritesHeld (events schedule) started
-unfolding Plain.plain_call step_of start_mem rising units per_region update ℕ_discrete dec_lt dec_le both unstarted class_of
-    order_from take_strip leave_from writes_held?
+unfolding Plain.plain_call step_of start_mem rising units per_region update ℕ_discrete dec_lt dec_le both unstarted
+    class_of order_from take_strip leave_from writes_held?
 writes-held = found (writes_held? (events schedule) started) tt
 
 few : length (events schedule) ≡ 335

@@ -21,7 +21,7 @@ use Rattle.classes.proofs.Tables.{per_region-high}
 use Rattle.plain.specs.State.{EMPTY, PARTIAL, Mem, Note, Place, State, f1, f2, f3-exchange, f3-read, f4-clear}
 use Rattle.plain.specs.State.{state_number, leave-end, Purpose}
 use Rattle.plain.specs.State.{offer, pushing, read, set_descriptor, working}
-use Rattle.plain.specs.Moves.{gave, anchor-lost, going}
+use Rattle.plain.specs.Moves.{gave, anchor_lost, going}
 use Rattle.plain.specs.Steps.{as_noted?, chained}
 use Rattle.plain.specs.Steps as Steps
 use Rattle.plain.specs.ByState.{IfOpen}
@@ -255,5 +255,5 @@ module _ {regions : ℕ} {v : View} {area : List ℕ} {m : Mem} {t : ℕ} {k : �
       (λ e. same-unmoved m d n D chain-of O M (anchor-word-same b a (eqb-true b a e)))
       (λ q. eq-eqb b a (same-anchor-word b a (unmoved-same m d n D chain-of O M q)))
       (λ e q. won (anchor-word-same b a (eqb-true b a e)) (ℕ_discrete (length J) (per_region c)))
-      (λ e q. loses w (anchor-lost d) F3_READ (working (f3-read c z y g)) (omega arith)
+      (λ e q. loses w (anchor_lost d) F3_READ (working (f3-read c z y g)) (omega arith)
       (r_working (r_f3_read refl (same-group refl refl refl refl G))))))

@@ -80,7 +80,8 @@ module _ {regions : ℕ} {v : View} {area : List ℕ} {m : Mem} {t : ℕ} {k : �
       let c = v (TaskClass t) in
       let i = v (TaskIndex t) in
       meet _ (eqb (i + 1) (per_region c)) (eq-eqb (i + 1) (per_region c) (omega arith))
-      (push-both w Accepted nothing (TaskPlace t := A1 ∷ []) (unit_of (v (TaskRegion t)) c i) (to_place A1 (slot_of v t))
+      (push-both w Accepted nothing (TaskPlace t := A1 ∷ []) (unit_of (v (TaskRegion t)) c i)
+      (to_place A1 (slot_of v t))
       (working (a1 c))
       (carved-here w) (omega (arith, place_holds w.pair.turn)) (omega (arith, w.pair.turn.fits)) (refl, refl)
       refl (rw (eq-eqb t t refl)) (λ j d. rw (ne_eqb t j d)) refl refl (r_working (r_a1 refl)))
@@ -123,7 +124,8 @@ module _ {regions : ℕ} {v : View} {area : List ℕ} {m : Mem} {t : ℕ} {k : �
       → v (TaskLeft t) ≡ suc (length q)
       → ((y : ℕ) → count y (x ∷ q) ≤ count_block y (v (TaskRegion t)) (v (TaskClass t)))
       → Both regions v area m
-      (Allocate.a4_move v (link area) regions t (v (TaskClass t)) x (v (TaskLeft t)) (v (CacheCount t (v (TaskClass t))))
+      (Allocate.a4_move v (link area) regions t (v (TaskClass t)) x (v (TaskLeft t))
+      (v (CacheCount t (v (TaskClass t))))
       (v (CacheTop t (v (TaskClass t)))))
       (Steps.step_at t k (a4 (v (TaskClass t)) x q) m)
   unfolding Allocate.a4_move
@@ -173,8 +175,8 @@ module _ {regions : ℕ} {v : View} {area : List ℕ} {m : Mem} {t : ℕ} {k : �
       let b : BlockOf r c x = counts-block r c x (omega (arith, h x)) in
       let z : unit_of r c i ≡ x = ap (unit_of r c) (first_of l) ∙ unit-again b in
       let p = (place_holds w.pair.turn).1 in
-      pass (ltb r regions && ltb i (per_region c) && one_to (per_region c) left && ltb n (per_region c) && is_top regions c n
-      top)
+      pass (ltb r regions && ltb i (per_region c) && one_to (per_region c) left && ltb n (per_region c)
+      && is_top regions c n top)
       (both_true (both_true (both_true (both_true
       (lt-ltb r regions (under-region w b o))
       (lt-ltb i (per_region c) (omega (arith, first_of l, index_below b))))

@@ -82,8 +82,10 @@ module _ {regions : ℕ} {v : View} {area : List ℕ} {m : Mem} {t : ℕ} {p : P
   by-cache : (n : ℕ) (q : List ℕ) → n ≡ length q
       → Both regions v area m
       (cond (eqb n 0) (Lists.when_returned v regions t c e ws)
-      (accept e (TaskPlace t := F2 ∷ GroupCount t := 0 ∷ ws) []))
-      (Steps.at_work t k (Steps.if_none q (Steps.when_returned k c (purpose_of u)) (f2 c (purpose_of u) [])) m₁, going e)
+      (accept e (TaskPlace t := F2 ∷ GroupCount t := 0 ∷ ws) [])) (
+        Steps.at_work t k (Steps.if_none q (Steps.when_returned k c (purpose_of u)) (f2 c (purpose_of u) [])) m₁,
+        going e,
+      )
   by-cache n [] i = rw (eq-eqb n 0 i) (by-unit (same? u LEAVING))
   by-cache n (x ∷ q) i =
       rw (ne_eqb n 0 (omega arith))

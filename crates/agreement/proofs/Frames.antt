@@ -19,7 +19,7 @@ use Rattle.plain.specs.State.{Mem, Note, Phase, Work, Place, working, Task, Purp
 use Rattle.plain.specs.Noted.{Noted, unnoted, pop_noted, push_noted, anchor_noted, entry_noted, noted}
 use Rattle.plain.specs.Held.{holds_descriptor, holds_region, under_way, own_blocks}
 use Rattle.plain.specs.HolderWeights.{block_weight, row_weight}
-use Rattle.stepped.specs.Lists.{Items, descriptor-items, region-items, push_items}
+use Rattle.stepped.specs.Lists.{Items, descriptor_items, region_items, push_items}
 use Rattle.agreement.specs.Contents.{Lists, Contents, Slot, purpose_of}
 use Rattle.agreement.specs.Relation.{HeadNoted, MoveRelated, at_read, at_next, at_exchange, PopReady, nexts}
 use Rattle.agreement.specs.Relation.{in_hand, NoteRelated, GroupRelated, WorkRelated, r_a1, r_popping, r_pushing}
@@ -118,8 +118,8 @@ group-links K z q e v h = under-links K v (omega (arith, ap (count v) e, group-i
 kept_next : {a a' : Contents} {m m' : Mem} {T : Task} (items : Items) (x : ℕ) → Framed a a' m m' T
     → HoldsItem items x T.place
     → nexts items a' x ≡ nexts items a x
-kept_next descriptor-items x K h = K.lists.descriptor_nexts x h
-kept_next region-items x K h = K.lists.region_nexts x h
+kept_next descriptor_items x K h = K.lists.descriptor_nexts x h
+kept_next region_items x K h = K.lists.region_nexts x h
 
 kept-work : {regions : ℕ} {a a' : Contents} {m m' : Mem} {s : Slot} {w : Work} {k : ℕ → List ℕ}
     → Framed a a' m m' (record { place = working w; cache = k }) → WorkRelated regions a m s w

@@ -61,7 +61,8 @@ chain-most Plain.FULL n l o h = omega arith
 module _ {regions : ℕ} (v : View) {area : List ℕ} {m : Mem} (R : Related regions (contents_of v area) m)
     (I : Invariant regions m) where
   open-anchor : (e : ℕ) → e < DESCRIPTORS → 1 ≤ (anchor_of (v (Anchor e))).state
-      → OpenAnchor (per_region (v (DescriptorClass e))) (anchor_of (v (Anchor e))).avail (anchor_of (v (Anchor e))).count
+      → OpenAnchor (per_region (v (DescriptorClass e))) (anchor_of (v (Anchor e))).avail
+      (anchor_of (v (Anchor e))).count
   open-anchor e l h =
       let D = R.core.descriptors.each e l in
       let E = m.descriptor e in

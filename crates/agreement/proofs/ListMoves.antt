@@ -9,7 +9,8 @@ use Rattle.control.specs.declared.moves.Pop.{Pop}
 use Rattle.control.specs.declared.moves.Pop.TheVariants.{Partial, Spare, Region}
 use Rattle.control.specs.declared.moves.Push.{Push}
 use Rattle.control.specs.declared.moves.Push.TheVariants.{Retire, Back, Release, Offer}
-use Rattle.stepped.specs.Lists.{Items, descriptor-items, region-items, how_many, pop_place, pop_list, pop_items, push_place}
+use Rattle.stepped.specs.Lists.{Items, descriptor_items, region_items, how_many, pop_place, pop_list, pop_items}
+use Rattle.stepped.specs.Lists.{push_place}
 use Rattle.stepped.specs.Lists.{push_list, push_items}
 
 -- the pops come first, then the pushes
@@ -26,8 +27,8 @@ push-later Offer = omega arith
 
 -- the lists by what their items are: those of descriptors, and that of the spare regions
 pub data ListOf : Items → ℕ → Type 0 where
-  descriptors : {ℓ : ℕ} → ℓ < DESCRIPTOR_LISTS → ListOf descriptor-items ℓ
-  spare-regions : ListOf region-items SPARE_REGIONS
+  descriptors : {ℓ : ℕ} → ℓ < DESCRIPTOR_LISTS → ListOf descriptor_items ℓ
+  spare-regions : ListOf region_items SPARE_REGIONS
 
 pub popped-list : (P : Pop) (c : ℕ) → c < CLASSES → ListOf (pop_items P) (pop_list P c)
 popped-list Partial c h = descriptors {ℓ = c} (omega arith)
@@ -47,5 +48,5 @@ below-lists spare-regions = omega arith
 
 -- there are at most as many items as descriptors
 pub most-items : (items : Items) {regions : ℕ} → regions ≤ REGIONS → how_many items regions ≤ DESCRIPTORS
-most-items descriptor-items h = omega arith
-most-items region-items h = omega arith
+most-items descriptor_items h = omega arith
+most-items region_items h = omega arith

@@ -109,6 +109,7 @@ module _ (regions : ℕ) (v : View) (m : Mem) (t : ℕ) where
         pop_head = λ p a b. absurd (omega (arith, pop-first p, push-later P));
         pop-next = λ p a b. absurd (omega (arith, pop-first p, push-later P));
         push_head = λ p a b.
-            subst (λ (z : Push). push_place z + TO_NEXT ≤ q → item_of (v (TaskHead t)) ≤ how_many (push_items z) regions)
+            subst
+            (λ (z : Push). push_place z + TO_NEXT ≤ q → item_of (v (TaskHead t)) ≤ how_many (push_items z) regions)
             (sym (push-at P q own) ∙ push-at p q (omega arith)) (λ b. (noted-head h b).1) a;
       }

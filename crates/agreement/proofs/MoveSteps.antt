@@ -112,7 +112,8 @@ module _ {regions : ℕ} {v : View} {area : List ℕ} {m : Mem} {t : ℕ} {p : P
 
   -- the head read: the head word is noted
   pub notes : (ℓ b : ℕ) (p' : Place) → ℓ < LISTS → b < 256
-      → PlaceRelated regions (set_slot t (to_place b (to_head (head_of (v (Head ℓ))) (slot_of v t))) (contents_of v area))
+      → PlaceRelated regions
+      (set_slot t (to_place b (to_head (head_of (v (Head ℓ))) (slot_of v t))) (contents_of v area))
       (at_place t k p' m) (to_place b (to_head (head_of (v (Head ℓ))) (slot_of v t))) p'
       → Both regions v area m (accept nothing (TaskPlace t := b ∷ TaskHead t := v (Head ℓ) ∷ []) [])
       (at_place t k p' m, going nothing)
@@ -145,10 +146,12 @@ module _ {regions : ℕ} {v : View} {area : List ℕ} {m : Mem} {t : ℕ} {p : P
   pub wins : {items : Items} {ℓ x : ℕ} {q : List ℕ} → ListOf items ℓ → Won v m t items ℓ x q
       → (ws : List Write) (s : Slot) (p' : Place)
       → contents_of (assigned ws v) area
-      ≡ with_slots (slot_of (assigned ws v)) (set_head ℓ (head_of (advanced_word (v (TaskHead t)) x)) (contents_of v area))
+      ≡ with_slots (slot_of (assigned ws v))
+      (set_head ℓ (head_of (advanced_word (v (TaskHead t)) x)) (contents_of v area))
       → slot_of (assigned ws v) t ≡ s → ((j : ℕ) → t ≢ j → slot_of (assigned ws v) j ≡ slot_of v j)
       → s.class < CLASSES → s.caches ≡ (slot_of v t).caches
-      → PlaceRelated regions (set_slot t s (set_head ℓ (head_of (advanced_word (v (TaskHead t)) x)) (contents_of v area)))
+      → PlaceRelated regions
+      (set_slot t s (set_head ℓ (head_of (advanced_word (v (TaskHead t)) x)) (contents_of v area)))
       (at_place t k p' (set_row ℓ q m)) s p'
       → Related regions (contents_of (assigned ws v) area) (at_place t k p' (set_row ℓ q m))
   wins {ℓ} {x = x} {q = q} K W ws s p' e own others f g pl =

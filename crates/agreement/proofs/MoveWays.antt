@@ -25,7 +25,7 @@ use Rattle.control.specs.declared.moves.Push.TheVariants.{Retire, Back, Release,
 use Rattle.stepped.specs.Outcome.{Outcome, accept}
 use Rattle.stepped.specs.Ranges.{one_to}
 use Rattle.stepped.specs.Lists as Lists
-use Rattle.stepped.specs.Lists.{Items, descriptor-items, region-items, how_many, next_field, pop_place, pop_items}
+use Rattle.stepped.specs.Lists.{Items, descriptor_items, region_items, how_many, next_field, pop_place, pop_items}
 use Rattle.stepped.specs.Lists.{push_place, push_items}
 use Rattle.stepped.specs.Leaving.{next_cached, count_fits, leave_from}
 use Rattle.agreement.specs.Ends.{FindsEmpty, WinsPush, InPush}
@@ -36,8 +36,8 @@ use Rattle.agreement.proofs.Ways.{branch, PlaceEnding, going, Keeps, wrong, eith
 
 -- the next of an item is no place
 next-keeps : (t : ℕ) (items : Items) (x y : ℕ) → Keeps t (next_field items x := y ∷ [])
-next-keeps t descriptor-items x y u = (refl, λ j. refl)
-next-keeps t region-items x y u = (refl, λ j. refl)
+next-keeps t descriptor_items x y u = (refl, λ j. refl)
+next-keeps t region_items x y u = (refl, λ j. refl)
 
 module _ (v : View) (t : ℕ) (fits : v (TaskClass t) < CLASSES) where
   abbrev c : ℕ

@@ -12,7 +12,7 @@ use Rattle.plain.specs.Steps.{at_place}
 use Rattle.plain.proofs.PlaceAlone.{task_of}
 use Rattle.control.specs.Layout.{DescriptorNext, RegionNext, TaskPlace}
 use Rattle.stepped.specs.Outcome.{accept}
-use Rattle.stepped.specs.Lists.{Items, descriptor-items, region-items, how_many, next_field}
+use Rattle.stepped.specs.Lists.{Items, descriptor_items, region_items, how_many, next_field}
 use Rattle.agreement.proofs.TurnInBoth.{mine}
 use Rattle.agreement.specs.Contents.{Slot, Contents, slot_of, contents_of}
 use Rattle.agreement.specs.Relation.{nexts, PlaceRelated}
@@ -28,19 +28,19 @@ use Rattle.agreement.proofs.Sharing.{shares}
 
 -- the memories with another next of the item x
 abbrev pub set_next : Items → ℕ → ℕ → Contents → Contents
-set_next descriptor-items = set_descriptor_next
-set_next region-items = set_region_next
+set_next descriptor_items = set_descriptor_next
+set_next region_items = set_region_next
 
 pub next-set : (items : Items) (t : ℕ) (s : Slot) (x n : ℕ) (a : Contents)
     → nexts items (set_slot t s (set_next items x n a)) x ≡ n
-next-set descriptor-items t s x n a = update_same a.lists.descriptor_next x n
-next-set region-items t s x n a = update_same a.lists.region_next x n
+next-set descriptor_items t s x n a = update_same a.lists.descriptor_next x n
+next-set region_items t s x n a = update_same a.lists.region_next x n
 
 module _ {regions : ℕ} {v : View} {area : List ℕ} {m : Mem} {t : ℕ} {p : Place} {k : ℕ → List ℕ}
     (w : At regions v area m t p k) where
   pub held_below : (items : Items) (x : ℕ) → HoldsItem items x p → x < how_many items regions
-  held_below descriptor-items x h = descriptor-in-hand w.pair.turn x h
-  held_below region-items x h = region-in-hand w.pair.turn x h
+  held_below descriptor_items x h = descriptor-in-hand w.pair.turn x h
+  held_below region_items x h = region-in-hand w.pair.turn x h
 
   -- the next of the item x is written, and the task goes to the place p', whose number is b
   pub writes-next : (items : Items) (x n b : ℕ) (p' : Place) → HoldsItem items x p → n ≤ how_many items regions
@@ -49,7 +49,7 @@ module _ {regions : ℕ} {v : View} {area : List ℕ} {m : Mem} {t : ℕ} {p : P
       (at_place t k p' m) (to_place b (slot_of v t)) p'
       → Both regions v area m (accept nothing (TaskPlace t := b ∷ next_field items x := n ∷ []) [])
       (at_place t k p' m, going nothing)
-  writes-next descriptor-items x n b p' h i j pl =
+  writes-next descriptor_items x n b p' h i j pl =
       let ws = TaskPlace t := b ∷ DescriptorNext x := n ∷ [] in
       let s = to_place b (slot_of v t) in
       record {
@@ -63,7 +63,7 @@ module _ {regions : ℕ} {v : View} {area : List ℕ} {m : Mem} {t : ℕ} {p : P
         sound = omega (arith, w.pair.turn.fits, descriptor-in-hand w.pair.turn x h);
         apart = tt;
       }
-  writes-next region-items x n b p' h i j pl =
+  writes-next region_items x n b p' h i j pl =
       let ws = TaskPlace t := b ∷ RegionNext x := n ∷ [] in
       let s = to_place b (slot_of v t) in
       record {

@@ -79,8 +79,10 @@ same-anchor-word w x s =
     ∙ word-of-anchor x
 
 pub anchor-word-same : (w x : ℕ) → w ≡ x → SameAnchor (anchor_of w) (anchor_of x)
-anchor-word-same w x e =
-    ((ap (λ (z : ℕ). (anchor_of z).state) e, ap (λ (z : ℕ). (anchor_of z).avail) e), ap (λ (z : ℕ). (anchor_of z).count) e)
+anchor-word-same w x e = (
+  (ap (λ (z : ℕ). (anchor_of z).state) e, ap (λ (z : ℕ). (anchor_of z).avail) e),
+  ap (λ (z : ℕ). (anchor_of z).count) e,
+)
 
 -- the comparison of the words, and that of state, first block and length
 module _ {nx : ℕ → ℕ} {a b : Anchor} {r c : ℕ} (m : Mem) (d : ℕ) (n : Note)
@@ -132,8 +134,8 @@ re-note e f N =
     (record { state = N.state; count = N.count; avail = N.avail; first = rw e N.first; none = N.none })
 
 -- the anchor of a descriptor is in its ranges
-pub anchor-tested : {regions : ℕ} {m : Mem} (v : View) (area : List ℕ) → Related regions (contents_of v area) m → (d : ℕ)
-    → d < DESCRIPTORS → is_anchor (v (Layout.Anchor d)) ≡ true
+pub anchor-tested : {regions : ℕ} {m : Mem} (v : View) (area : List ℕ) → Related regions (contents_of v area) m
+    → (d : ℕ) → d < DESCRIPTORS → is_anchor (v (Layout.Anchor d)) ≡ true
 anchor-tested {m = m} v area R d l =
     let D = R.core.descriptors in
     let b = anchor_of (v (Layout.Anchor d)) in

@@ -21,7 +21,8 @@ use Rattle.words.specs.declared.anchor.Anchor.{Anchor}
 use Rattle.classes.specs.Classes.{per_region}
 use Rattle.classes.proofs.Tables.{per_region-high}
 use Rattle.links.specs.Link.{link}
-use Rattle.plain.specs.State.{State, EMPTY, PARTIAL, FULL, Descriptor, Place, a7, a8, Mem, Task, set_task, set_descriptor}
+use Rattle.plain.specs.State.{State, EMPTY, PARTIAL, FULL, Descriptor, Place, a7, a8, Mem, Task, set_task}
+use Rattle.plain.specs.State.{set_descriptor}
 use Rattle.plain.specs.State.{set_map, working}
 use Rattle.plain.specs.Steps as Steps
 use Rattle.plain.specs.Held.{holds_descriptor, held}

@@ -86,7 +86,8 @@ module _ {regions : ℕ} {v : View} {area : List ℕ} {m : Mem} {t : ℕ} {k : �
       (omega arith) (r_working (r_pushing Back EMPTY tt (at_read refl)))
 
   pub pop-read : (P : Pop) → At regions v area m t (working (popping (pop_of v t P) read)) k
-      → Both regions v area m (Lists.pop_read v regions t (v (TaskClass t)) P) (Steps.pop_step t k (pop_of v t P) read m)
+      → Both regions v area m (Lists.pop_read v regions t (v (TaskClass t)) P)
+      (Steps.pop_step t k (pop_of v t P) read m)
   unfolding Lists.pop_read
   pop-read P w =
       let ℓ = list_of v t P in
@@ -164,8 +165,10 @@ module _ {regions : ℕ} {v : View} {area : List ℕ} {m : Mem} {t : ℕ} {k : �
       → Won v m t (pop_items P) (list_of v t P) (v (TaskNext t)) q
       → Both regions v area m
       (Lists.when_popped v regions t (v (TaskClass t)) P x (popped (list_of v t P) x)
-      (Head (list_of v t P) := advanced v t ∷ []))
-      (Steps.at_work t k (Steps.when_popped (pop_of v t P) x) (set_row (list_of v t P) q m), going (popped (list_of v t P) x))
+      (Head (list_of v t P) := advanced v t ∷ [])) (
+        Steps.at_work t k (Steps.when_popped (pop_of v t P) x) (set_row (list_of v t P) q m),
+        going (popped (list_of v t P) x),
+      )
   pop-won Partial w x l W =
       let c = v (TaskClass t) in
       descriptor-won w (kind Partial w) W (popped c x) x A3_READ (working (Plain.a3-read c x)) l (omega arith)

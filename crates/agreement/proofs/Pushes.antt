@@ -27,7 +27,7 @@ use Rattle.control.specs.declared.moves.Pop.TheVariants.{Partial}
 use Rattle.control.specs.declared.moves.Push.{Push}
 use Rattle.control.specs.declared.moves.Push.TheVariants.{Retire, Back, Release, Offer}
 use Rattle.stepped.specs.Lists as Lists
-use Rattle.stepped.specs.Lists.{Items, descriptor-items, region-items, how_many, next_field, hand_field, push_items}
+use Rattle.stepped.specs.Lists.{Items, descriptor_items, region_items, how_many, next_field, hand_field, push_items}
 use Rattle.stepped.specs.Steps as Stepped
 use Rattle.stepped.proofs.MovePlaces.{push-steps}
 use Rattle.agreement.proofs.TaskBlocks.{unit-fits}
@@ -67,13 +67,14 @@ push-list v t z Offer = refl
 
 -- the item that a push has in hand is in the task's field of its kind
 item-is : (v : View) (t : ℕ) (items : Items) → in_hand items (slot_of v t).hand ≡ v (hand_field items t)
-item-is v t descriptor-items = refl
-item-is v t region-items = refl
+item-is v t descriptor_items = refl
+item-is v t region_items = refl
 
 -- the next of an item is in the column of its kind
-next-is : (v : View) (area : List ℕ) (items : Items) (x : ℕ) → nexts items (contents_of v area) x ≡ v (next_field items x)
-next-is v area descriptor-items x = refl
-next-is v area region-items x = refl
+next-is : (v : View) (area : List ℕ) (items : Items) (x : ℕ)
+    → nexts items (contents_of v area) x ≡ v (next_field items x)
+next-is v area descriptor_items x = refl
+next-is v area region_items x = refl
 
 -- a push holds its item
 item-held : (v : View) (t : ℕ) (P : Push) (z : State) (φ : Phase)
@@ -106,7 +107,8 @@ module _ {regions : ℕ} {v : View} {area : List ℕ} {m : Mem} {t : ℕ} {k : �
 
   -- ---- the next written
 
-  pub push-next : (P : Push) (z : State) {n : ℕ} → At regions v area m t (working (pushing (push_of v t z P) (next n))) k
+  pub push-next : (P : Push) (z : State) {n : ℕ}
+      → At regions v area m t (working (pushing (push_of v t z P) (next n))) k
       → ReleaseNoted P (v (TaskState t)) z
       → PushRelated regions (contents_of v area) m (slot_of v t) P (next n)
       → Both regions v area m (Lists.push_next v regions t (v (TaskClass t)) P)
@@ -132,7 +134,8 @@ module _ {regions : ℕ} {v : View} {area : List ℕ} {m : Mem} {t : ℕ} {k : �
   push-won : (P : Push) (z : State) {n : ℕ} → At regions v area m t (working (pushing (push_of v t z P) (exchange n))) k
       → ReleaseNoted P (v (TaskState t)) z
       → Won v m t (push_items P) (list_of v t P) (item_at v t P + 1) (item_at v t P ∷ m.row (list_of v t P))
-      → Both regions v area m (Lists.when_pushed v regions t (v (TaskClass t)) P (pushed (list_of v t P) (item_at v t P))
+      → Both regions v area m
+      (Lists.when_pushed v regions t (v (TaskClass t)) P (pushed (list_of v t P) (item_at v t P))
       (Head (list_of v t P) := advanced v t (item_at v t P) ∷ []))
       (Steps.push_put t k (push_of v t z P) m)
   push-won Retire z w f W =

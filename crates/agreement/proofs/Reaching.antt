@@ -1,5 +1,5 @@
--- The one induction over runs; and by it: whatever a run reaches is tied, each task is at what it has asked for, and its
--- lost exchanges are counted.
+-- The one induction over runs; and by it: whatever a run reaches is tied, each task is at what it has asked for, and
+-- its lost exchanges are counted.
 use mathlib.Core.Path.{sym, subst}
 use mathlib.Core.List.{List, [], ◌∷◌}
 use native.Mathlib.Omega.{arith}

@@ -142,7 +142,8 @@ module _ (v : View) (fits : Fitting v) (link : ℕ → ℕ) {regions t c : ℕ} 
       let a = anchor_of word in
       let m = leb-true (a.count + g) n (right-true (has_first n word) (leb (a.count + g) n) h) in
       anchor-below (returned a first g n)
-      (returned-fits a first g n (omega (arith, l, per_region-high c)) (record { count = m; blocks = per_region-high c }))
+      (returned-fits a first g n (omega (arith, l, per_region-high c))
+      (record { count = m; blocks = per_region-high c }))
 
   -- a word that is an anchor has one of the three states
   state-max : (word : ℕ) → is_anchor word ≡ true → (anchor_of word).state ≤ FULL

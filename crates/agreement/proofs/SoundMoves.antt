@@ -25,7 +25,8 @@ use Rattle.stepped.specs.Outcome.{Outcome, refuse, bad, accept, lose}
 use Rattle.stepped.specs.Ranges.{one_to}
 use Rattle.stepped.specs.Leaving.{first_cached, next_cached, count_fits, leave_from, leave_end}
 use Rattle.stepped.specs.Lists as Lists
-use Rattle.stepped.specs.Lists.{Items, descriptor-items, region-items, how_many, next_field, hand_field, pop_list, pop_items}
+use Rattle.stepped.specs.Lists.{Items, descriptor_items, region_items, how_many, next_field, hand_field, pop_list}
+use Rattle.stepped.specs.Lists.{pop_items}
 use Rattle.stepped.specs.Lists.{push_list, push_items}
 use Rattle.stepped.proofs.Conjunction.{left-true, right-true}
 use Rattle.agreement.proofs.ListMoves.{pop-first, push-later, popped-list, pushed-list, below-lists, most-items}
@@ -158,7 +159,10 @@ module _ (v : View) (fits : Fitting v) {regions t c : ℕ} (few : regions ≤ RE
       let next = v (next_field (pop_items p) (item - 1)) in
       let items = how_many (pop_items p) regions in
       test (one_to items item) (λ h. test (leb next items) (λ i.
-      record { sound = omega (arith, task, pop-first p, most (pop_items p), leb-true next items i); own = omega arith }))
+      record {
+        sound = omega (arith, task, pop-first p, most (pop_items p), leb-true next items i);
+        own = omega arith;
+      }))
 
   when-popped : (p : Pop) (x : ℕ) (e : Decided) (ws : List Write) → x < 256 → Written t ws
       → Fit t (Lists.when_popped v regions t c p x e ws)
@@ -197,8 +201,8 @@ module _ (v : View) (fits : Fitting v) {regions t c : ℕ} (few : regions ≤ RE
   -- an item's next
   item-next : (items : Items) (x : ℕ) → x < how_many items regions → (y : ℕ) → y < 256
       → Written t (next_field items x := y ∷ [])
-  item-next descriptor-items x h y l = record { sound = omega (arith, h, l); own = omega arith }
-  item-next region-items x h y l = record { sound = omega (arith, few, h, l); own = omega arith }
+  item-next descriptor_items x h y l = record { sound = omega (arith, h, l); own = omega arith }
+  item-next region_items x h y l = record { sound = omega (arith, few, h, l); own = omega arith }
 
   pub push-read : (p : Push) → Fit t (Lists.push_read v regions t c p)
   unfolding Lists.push_read

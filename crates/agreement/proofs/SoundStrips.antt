@@ -99,7 +99,8 @@ module _ (v : View) (fits : Fitting v) {t : ℕ} (task : t < TASKS) where
   pub strip-give : Fit t (Strips.strip_give v t)
   unfolding Strips.strip_give
   strip-give =
-      test (is_strip_unit (v (TaskUnit t))) (λ e. give_at (slot_of_unit (v (TaskUnit t))) (unit-slot (v (TaskUnit t)) e).3)
+      test (is_strip_unit (v (TaskUnit t)))
+      (λ e. give_at (slot_of_unit (v (TaskUnit t))) (unit-slot (v (TaskUnit t)) e).3)
 
   -- ---- the beginning
 

@@ -152,7 +152,8 @@ module _ (v : View) (link : ℕ → ℕ) (t : ℕ) (fits : v (TaskClass t) < CLA
       let g = v (GroupCount t) in
       let word = v (Anchor (v (Map r) - 1)) in
       test (ltb r regions && one_to (per_region c) g) (test (one_to DESCRIPTORS (v (Map r)))
-      (test (is_anchor word && has_room (per_region c) g word) (to F3_LINK (omega arith) (λ u. (refl, λ j. refl)) refl)))
+      (test (is_anchor word && has_room (per_region c) g word)
+      (to F3_LINK (omega arith) (λ u. (refl, λ j. refl)) refl)))
 
   f3-link : End (Free.f3_link v link regions t c)
   unfolding Free.f3_link

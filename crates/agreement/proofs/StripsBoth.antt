@@ -139,7 +139,8 @@ module _ {regions : ℕ} {v : View} {area : List ℕ} {m : Mem} {t : ℕ} {p : P
 -- a strip is taken, or none is found
 pub strip-take-both : {regions : ℕ} {v : View} {area : List ℕ} {m : Mem} {t : ℕ} {k : ℕ → List ℕ}
     → At regions v area m t (working (strip-take (v (TaskClass t)))) k
-    → Both regions v area m (Strips.strip_take v t (v (TaskClass t))) (Steps.step_at t k (strip-take (v (TaskClass t))) m)
+    → Both regions v area m (Strips.strip_take v t (v (TaskClass t)))
+    (Steps.step_at t k (strip-take (v (TaskClass t))) m)
 unfolding Strips.strip_take
 strip-take-both {v = v} {m = m} {t = t} w =
     let c = v (TaskClass t) in

@@ -30,7 +30,8 @@ use Rattle.agreement.proofs.RelatedParts.{anchor-related, descriptor_next-relate
 use Rattle.agreement.proofs.RelatedParts.{mark-related, region_next-related, core-lists, core-descriptors}
 use Rattle.agreement.proofs.RelatedParts.{core-entries}
 use Rattle.agreement.proofs.RelatedParts.{plain_with}
-use Rattle.agreement.proofs.Sets.{set_anchor, set_descriptor_next, set_head, set_map, set_mark, set_region_next, set_slot}
+use Rattle.agreement.proofs.Sets.{set_anchor, set_descriptor_next, set_head, set_map, set_mark, set_region_next}
+use Rattle.agreement.proofs.Sets.{set_slot}
 use Rattle.agreement.proofs.Sets.{on_lists}
 use Rattle.limits.specs.Limits.{WHOLE_ORDER}
 use Rattle.pieces.specs.Pieces.{Pieces}

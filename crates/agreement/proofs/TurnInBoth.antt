@@ -138,7 +138,8 @@ module _ {regions : ℕ} {a : Contents} {m : Mem} {t : ℕ} {p : Place} {k : ℕ
     ap (block_weight u t) w.turn.is,
   )
 
-  pub block_apart : (u v j : ℕ) → j < TASKS → j ≢ t → 1 ≤ block_weight u t (task_of p k) → 1 ≤ block_weight v 0 (m.task j)
+  pub block_apart : (u v j : ℕ) → j < TASKS → j ≢ t → 1 ≤ block_weight u t (task_of p k)
+      → 1 ≤ block_weight v 0 (m.task j)
       → (v ≢ u) × (1 ≤ total DESCRIPTORS (inside_weight v) m.descriptor)
   block_apart u v j l d h g = (
     (λ e. absurd (omega (

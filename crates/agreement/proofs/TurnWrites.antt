@@ -88,7 +88,8 @@ module _ {regions : ℕ} {v : View} {area : List ℕ} {m : Mem} {t : ℕ} {p : P
   -- the relation after writes that change the task's own part, the tree of free pieces and the bytes of the slots
   pub strips-written : (tree : Tree) (byte : ℕ → ℕ) (q : Pieces WHOLE_ORDER)
       → OwnWrites v v' area t s (with_strips tree byte (contents_of v area)) → Follows tree byte q
-      → SlotRelated regions (set_slot t s (with_strips tree byte (contents_of v area))) (set_task t T (set_strips q m)) s T
+      → SlotRelated regions (set_slot t s (with_strips tree byte (contents_of v area)))
+      (set_task t T (set_strips q m)) s T
       → Related regions (contents_of v' area) (set_task t T (set_strips q m))
   strips-written tree byte q c F h =
       rw (becomes v v' area t s (with_strips tree byte (contents_of v area)) c.shared refl c.own c.others)

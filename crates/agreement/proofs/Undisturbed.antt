@@ -15,7 +15,8 @@ use Rattle.classes.specs.Geometry.{unit_of}
 use Rattle.plain.specs.State.{FULL, read, next, exchange, Pop, partial, spare, region, a1, popping, a7, a8, Task, Mem}
 use Rattle.plain.specs.State.{set_task, set_row, set_descriptor, set_map, working}
 use Rattle.plain.specs.Moves.{Decided, nothing, found_empty, popped, Answer, going, finished_by}
-use Rattle.plain.specs.Steps.{pop_list, when_popped, step_of, when_working, at_work, step_at, pop_read, pop_take, pop_lost}
+use Rattle.plain.specs.Steps.{pop_list, when_popped, step_of, when_working, at_work, step_at, pop_read, pop_take}
+use Rattle.plain.specs.Steps.{pop_lost}
 use Rattle.plain.specs.Steps.{a1_step}
 use Rattle.plain.proofs.PlaceAlone.{task_of}
 
@@ -120,6 +121,6 @@ module _ (t : ℕ) where
         (ap (λ (f : ℕ → List ℕ). f SPARE_REGIONS) row₃
         ∙ update_other m.row SPARE_DESCRIPTORS ds SPARE_REGIONS (omega arith) ∙ regions) T₃ (λ m₄ row₄ T₄.
         on (task_of (working (a7 c d r)) k) (task_of (working (a8 c r 0)) k)
-        (set_map r (suc d) (set_descriptor d (record { state = FULL; region = r; class = c; chain = [] }) m₄)) nothing T₄
-        refl
+        (set_map r (suc d) (set_descriptor d (record { state = FULL; region = r; class = c; chain = [] }) m₄))
+        nothing T₄ refl
         (λ T₅. carves r b b 0 (omega arith) l k T₅))))))

@@ -1,7 +1,8 @@
 -- docs/POOL.md, "Calls and refusals"
 -- How a call ends, whatever the memories hold: what a refusal leaves, which numbers refuse, when "no descriptor", "no
 -- region" and 16 come, what becomes of the counts of lost exchanges, and the class or the order that a size gets.
-use Rattle.std.specs.Prelude.{ℕ, ◌+◌, ◌-◌, ◌^◌, ◌≤◌, ◌<◌, ◌≡◌, List, [], ◌∷◌, ◌++◌, Bool, true, false, cond, ◌&&◌, ◌||◌, eqb}
+use Rattle.std.specs.Prelude.{ℕ, ◌+◌, ◌-◌, ◌^◌, ◌≤◌, ◌<◌, ◌≡◌, List, [], ◌∷◌, ◌++◌, Bool, true, false, cond, ◌&&◌, ◌||◌}
+use Rattle.std.specs.Prelude.{eqb}
 use Rattle.limits.specs.Limits.{CLASSES, ORDERS, LARGEST_SIZE, LARGEST_STRIP}
 use Rattle.fields.specs.Columns.{View, Write, ◌:=◌, assigned}
 use Rattle.words.specs.Head.{item_of}

@@ -6,7 +6,7 @@ use Rattle.fields.specs.Little.{Bytes}
 use lib.ListN.{length, set}
 use Rattle.classes.specs.Classes.{block}
 use Rattle.classes.specs.Geometry.{region_of}
-use Rattle.pieces.specs.Pieces.{held as held-piece}
+use Rattle.pieces.specs.Pieces.{held as held_piece}
 use Rattle.pieces.specs.Strips.{here, strip_starts}
 use Rattle.pieces.specs.StripSizes.{strip_bytes}
 use Rattle.plain.specs.State.{Phase, read, next, exchange}
@@ -101,7 +101,7 @@ pub record InStrip (at : ℕ) (s : Pool) : Type 0 where
   pub started : 1 ≤ s.tasks
   pub slot : ℕ
   pub order : ℕ
-  pub held : strip_starts s.mem.strips slot ≡ here order held-piece
+  pub held : strip_starts s.mem.strips slot ≡ here order held_piece
   pub from : SLOT_BYTES * slot ≤ at
   pub to : at < SLOT_BYTES * slot + strip_bytes order
 

@@ -1,8 +1,8 @@
 -- docs/POOL.md, "Lost exchanges"
 -- The lost exchanges of a request, by the history of a run.
 use Rattle.std.specs.Prelude.{Bool, true, false, cond, ◌&&◌, List, [], ◌∷◌, ◌≡◌, ℕ, suc, ◌≤◌, ◌<◌, eqb, leb}
-use Rattle.plain.specs.Moves.{Decided, nothing, found_empty, popped, pushed, lost, anchor-empty, took, gave}
-use Rattle.plain.specs.Moves.{anchor-lost, strip-taken, strip-given, no_strip, Answer}
+use Rattle.plain.specs.Moves.{Decided, nothing, found_empty, popped, pushed, lost, anchor_empty, took, gave}
+use Rattle.plain.specs.Moves.{anchor_lost, strip_taken, strip_given, no_strip, Answer}
 use Rattle.plain.specs.Calls.{Call, start, allocate, free, leave, step}
 use Rattle.limits.specs.Limits.{TASKS}
 use Rattle.control.specs.Layout.{Tasks, TaskLost, seen}
@@ -18,12 +18,12 @@ is_lost (found_empty ℓ) = false
 is_lost (popped ℓ x) = false
 is_lost (pushed ℓ x) = false
 is_lost (lost ℓ) = true
-is_lost (anchor-empty d) = false
+is_lost (anchor_empty d) = false
 is_lost (took d) = false
 is_lost (gave d) = false
-is_lost (anchor-lost d) = true
-is_lost (strip-taken s) = false
-is_lost (strip-given s) = false
+is_lost (anchor_lost d) = true
+is_lost (strip_taken s) = false
+is_lost (strip_given s) = false
 is_lost no_strip = false
 
 -- how many of these are lost exchanges

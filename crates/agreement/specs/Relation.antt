@@ -28,7 +28,8 @@ use Rattle.control.specs.declared.moves.Pop.{Pop}
 use Rattle.control.specs.declared.moves.Pop.TheVariants.{Partial, Spare, Region}
 use Rattle.control.specs.declared.moves.Push.{Push}
 use Rattle.control.specs.declared.moves.Push.TheVariants.{Retire, Back, Release, Offer}
-use Rattle.stepped.specs.Lists.{Items, descriptor-items, region-items, how_many, pop_place, pop_list, pop_items, push_place}
+use Rattle.stepped.specs.Lists.{Items, descriptor_items, region_items, how_many, pop_place, pop_list, pop_items}
+use Rattle.stepped.specs.Lists.{push_place}
 use Rattle.stepped.specs.Lists.{push_list, push_items}
 use Rattle.agreement.specs.Contents.{TaskHand, TaskCaches, Slot, Lists, Descriptors, Entries, StripFields}
 use Rattle.agreement.specs.Contents.{Contents, purpose_of}
@@ -73,13 +74,13 @@ pub record PushReady (s : Slot) (x : ℕ) (nx : ℕ → ℕ) : Type 0 where
 
 -- the column of the nexts of the descriptors, or of the regions
 abbrev pub nexts : Items → Contents → ℕ → ℕ
-nexts descriptor-items a = a.lists.descriptor_next
-nexts region-items a = a.lists.region_next
+nexts descriptor_items a = a.lists.descriptor_next
+nexts region_items a = a.lists.region_next
 
 -- the descriptor in hand, or the region
 abbrev pub in_hand : Items → TaskHand → ℕ
-in_hand descriptor-items h = h.descriptor
-in_hand region-items h = h.region
+in_hand descriptor_items h = h.descriptor
+in_hand region_items h = h.region
 
 -- a pop, by its reason: no empty list is noted
 abbrev pub PopRelated : ℕ → Mem → Slot → Pop → Phase → Type 0

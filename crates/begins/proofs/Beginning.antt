@@ -1,5 +1,6 @@
 -- The beginning of an allocation, one law for each way out.
-use Rattle.std.proofs.Common.{◌≡◌, ℕ, ◌<◌, ◌≤◌, Bool, true, false, cond, eqb, ltb, ◌≢◌, List, [], ◌∷◌, sym, refl, ap, ◌∙◌, subst, arith, ltb-true, le-ltb, lt-ltb, eq-eqb, ne_eqb}
+use Rattle.std.proofs.Common.{◌≡◌, ℕ, ◌<◌, ◌≤◌, Bool, true, false, cond, eqb, ltb, ◌≢◌, List, [], ◌∷◌, sym, refl, ap}
+use Rattle.std.proofs.Common.{◌∙◌, subst, arith, ltb-true, le-ltb, lt-ltb, eq-eqb, ne_eqb}
 use Rattle.limits.specs.Limits.{LARGEST_SIZE, LARGEST_STRIP}
 use Rattle.fields.specs.Columns.{View, ◌:=◌}
 use Rattle.classes.specs.Sizes.{choice, class_of}

@@ -1,5 +1,6 @@
 -- The beginning of a free, one law for each way out.
-use Rattle.std.proofs.Common.{◌≡◌, ℕ, ◌+◌, ◌-◌, ◌/◌, ◌%◌, ◌<◌, ◌≤◌, Bool, true, false, cond, ◌≢◌, List, [], ◌∷◌, sym, refl, ap, ◌∙◌, subst, arith, le-ltb, lt-ltb, eq-eqb, ne_eqb, le-leb}
+use Rattle.std.proofs.Common.{◌≡◌, ℕ, ◌+◌, ◌-◌, ◌/◌, ◌%◌, ◌<◌, ◌≤◌, Bool, true, false, cond, ◌≢◌, List, [], ◌∷◌, sym}
+use Rattle.std.proofs.Common.{refl, ap, ◌∙◌, subst, arith, le-ltb, lt-ltb, eq-eqb, ne_eqb, le-leb}
 use borrow.Author.Tests.{lt-leb}
 use Rattle.limits.specs.Limits.{CLASSES, DESCRIPTORS, WORD_MARKS, UNITS}
 use Rattle.fields.specs.Columns.{View, ◌:=◌}
@@ -66,7 +67,8 @@ module _ (v : View) (t u d : ℕ) where
   unfolding free_open
   no-class h = rw (le-ltb (v (DescriptorClass d)) CLASSES h)
 
-  pub no-first : (c : ℕ) → c ≡ v (DescriptorClass d) → c < CLASSES → is_first c u ≡ false → free_open v t u d ≡ refuse 10
+  pub no-first : (c : ℕ) → c ≡ v (DescriptorClass d) → c < CLASSES → is_first c u ≡ false
+      → free_open v t u d ≡ refuse 10
   unfolding free_open
   no-first c e h k = rw (← e, lt-ltb c CLASSES h, k)
 

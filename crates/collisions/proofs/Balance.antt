@@ -9,8 +9,8 @@ use Rattle.rows.specs.Update.{update}
 use Rattle.rows.specs.Totals.{total}
 use Rattle.rows.proofs.Update.{update_same}
 use Rattle.rows.proofs.Totals.{total-update, total-zero, total-most}
-use Rattle.plain.specs.Moves.{Decided, nothing, found_empty, popped, pushed, lost, anchor-empty, took, gave}
-use Rattle.plain.specs.Moves.{anchor-lost, strip-taken, strip-given, no_strip}
+use Rattle.plain.specs.Moves.{Decided, nothing, found_empty, popped, pushed, lost, anchor_empty, took, gave}
+use Rattle.plain.specs.Moves.{anchor_lost, strip_taken, strip_given, no_strip}
 use Rattle.agreement.specs.LostExchanges.{is_lost, lost_among}
 use Rattle.collisions.specs.Accesses.{head, Access, reads, wins, loses, no_word, access_by}
 use Rattle.collisions.specs.Collisions.{is_won, won_among, FewLost, EachPaid, PaidBy}
@@ -43,12 +43,12 @@ counts-by t (found_empty ℓ) r C = record { losts = refl; wons = refl }
 counts-by t (popped ℓ x) r C = record { losts = refl; wons = refl }
 counts-by t (pushed ℓ x) r C = record { losts = refl; wons = refl }
 counts-by t (lost ℓ) r C = record { losts = refl; wons = refl }
-counts-by t (anchor-empty d) r C = record { losts = refl; wons = refl }
+counts-by t (anchor_empty d) r C = record { losts = refl; wons = refl }
 counts-by t (took d) r C = record { losts = refl; wons = refl }
 counts-by t (gave d) r C = record { losts = refl; wons = refl }
-counts-by t (anchor-lost d) r C = record { losts = refl; wons = refl }
-counts-by t (strip-taken s) r C = record { losts = refl; wons = refl }
-counts-by t (strip-given s) r C = record { losts = refl; wons = refl }
+counts-by t (anchor_lost d) r C = record { losts = refl; wons = refl }
+counts-by t (strip_taken s) r C = record { losts = refl; wons = refl }
+counts-by t (strip_given s) r C = record { losts = refl; wons = refl }
 counts-by t no_strip r C = record { losts = refl; wons = refl }
 
 -- ---- the tasks that are about to lose

@@ -7,7 +7,8 @@ use Rattle.rows.specs.Branch.{if}
 use Rattle.plain.specs.State.{State, EMPTY, PARTIAL, FULL, Descriptor, Note, Phase, read, next, exchange, Pop, partial}
 use Rattle.plain.specs.State.{spare, region, Push, retire, back, release, offer, Purpose, Work, Place, working, Mem}
 use Rattle.plain.specs.Moves.{Decided}
-use Rattle.plain.specs.Steps.{pop_list, push_list, AsNoted, f6, f5, moving, when_empty, when_popped, when_pushed, closed}
+use Rattle.plain.specs.Steps.{pop_list, push_list, AsNoted, f6, f5, moving, when_empty, when_popped, when_pushed}
+use Rattle.plain.specs.Steps.{closed}
 use Rattle.plain.specs.Noted.{Noted, unnoted, pop_noted, push_noted, anchor_noted, entry_noted, noted}
 use Rattle.plain.specs.Leaving.{LeavesTo, to_end, to-cache, ReturnLeads, to-group, to_one, to-next}
 use Rattle.plain.proofs.Continues.{f6-leads}

@@ -87,7 +87,8 @@ module _ (t : ℕ) (g : Statuses) where
 
   -- Whatever the access, the status of the task t comes about so.
   pub becomes : (x : Access) → Becomes t x (g t) (after x g t)
-  becomes (reads u w) = by-update (reads u w) g u (fresh w) (λ e. was_read w (ap (λ (i : ℕ). reads i w) e)) (λ d. kept d)
+  becomes (reads u w) =
+      by-update (reads u w) g u (fresh w) (λ e. was_read w (ap (λ (i : ℕ). reads i w) e)) (λ d. kept d)
   becomes (wins u w) =
       by-update (wins u w) (λ i. spoil w (g i)) u unread (λ e. cleared) (λ d. by-spoil t u w d (g t))
   becomes (loses u w) = by-update (loses u w) g u unread (λ e. cleared) (λ d. kept tt)

@@ -4,8 +4,8 @@
 use Rattle.std.specs.Prelude.{cond, List, [], ◌∷◌, ℕ, pred, eqb}
 use Rattle.limits.specs.Limits.{SPARE_DESCRIPTORS, SPARE_REGIONS}
 use Rattle.fields.specs.Columns.{View}
-use Rattle.plain.specs.Moves.{Decided, nothing, found_empty, popped, pushed, lost, anchor-empty, took, gave}
-use Rattle.plain.specs.Moves.{anchor-lost, strip-taken, strip-given, no_strip, Answer}
+use Rattle.plain.specs.Moves.{Decided, nothing, found_empty, popped, pushed, lost, anchor_empty, took, gave}
+use Rattle.plain.specs.Moves.{anchor_lost, strip_taken, strip_given, no_strip, Answer}
 use Rattle.plain.specs.Calls.{Call, start, allocate, free, leave, step}
 use Rattle.control.specs.Layout.{Map, TaskPlace, TaskClass, TaskDescriptor, TaskRegion, seen}
 use Rattle.control.specs.Places.{POP_PARTIAL, POP_SPARE, POP_REGION, PUSH_RETIRE, PUSH_BACK, PUSH_RELEASE, PUSH_OFFER}
@@ -62,12 +62,12 @@ access_by t (found_empty ℓ) r = reads t (head ℓ)
 access_by t (popped ℓ x) r = wins t (head ℓ)
 access_by t (pushed ℓ x) r = wins t (head ℓ)
 access_by t (lost ℓ) r = loses t (head ℓ)
-access_by t (anchor-empty d) r = reads t (anchor d)
+access_by t (anchor_empty d) r = reads t (anchor d)
 access_by t (took d) r = wins t (anchor d)
 access_by t (gave d) r = wins t (anchor d)
-access_by t (anchor-lost d) r = loses t (anchor d)
-access_by t (strip-taken s) r = no_word
-access_by t (strip-given s) r = no_word
+access_by t (anchor_lost d) r = loses t (anchor d)
+access_by t (strip_taken s) r = no_word
+access_by t (strip_given s) r = no_word
 access_by t no_strip r = no_word
 
 -- what a step of the task t that answered y does, by the fields v before it: one that was refused reads nothing

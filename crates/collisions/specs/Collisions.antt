@@ -2,8 +2,8 @@
 -- That lost exchanges are paid for by won ones: the two sentences of the request for collisions, of the history of a
 -- run.
 use Rattle.std.specs.Prelude.{◌≡◌, ◌≢◌, Bool, true, false, cond, List, [], ◌∷◌, ◌++◌, ℕ, suc, ◌*◌, ◌-◌, ◌≤◌, eqb}
-use Rattle.plain.specs.Moves.{Decided, nothing, found_empty, popped, pushed, lost, anchor-empty, took, gave}
-use Rattle.plain.specs.Moves.{anchor-lost, strip-taken, strip-given, no_strip, Answer}
+use Rattle.plain.specs.Moves.{Decided, nothing, found_empty, popped, pushed, lost, anchor_empty, took, gave}
+use Rattle.plain.specs.Moves.{anchor_lost, strip_taken, strip_given, no_strip, Answer}
 use Rattle.plain.specs.Calls.{Call, start, allocate, free, leave, step}
 use Rattle.agreement.specs.Events.{Event, call, write, write_strip}
 use Rattle.agreement.specs.LostExchanges.{lost_among}
@@ -61,12 +61,12 @@ is_won (found_empty ℓ) = false
 is_won (popped ℓ x) = true
 is_won (pushed ℓ x) = true
 is_won (lost ℓ) = false
-is_won (anchor-empty d) = false
+is_won (anchor_empty d) = false
 is_won (took d) = true
 is_won (gave d) = true
-is_won (anchor-lost d) = false
-is_won (strip-taken s) = false
-is_won (strip-given s) = false
+is_won (anchor_lost d) = false
+is_won (strip_taken s) = false
+is_won (strip_given s) = false
 is_won no_strip = false
 
 -- how many of these are won exchanges; `lost_among` counts the lost ones

@@ -136,7 +136,8 @@ module _ (lost : ℕ) (lent : Lengths) (v : View) (t : ℕ) where
   pub allocate-first : (size : ℕ) → numbered (Calls.allocate_outcome lent v t size)
       ≡ first_failed (allocate_tests lent v t size) 0
   unfolding Calls.allocate_outcome
-  allocate-first size = after-tests (idle_tests v t ++ size_tests size) 0 _ (when-idle (size_tests size) 0 _ (sized size))
+  allocate-first size =
+      after-tests (idle_tests v t ++ size_tests size) 0 _ (when-idle (size_tests size) 0 _ (sized size))
 
   pub free-first : (u : ℕ) → numbered (Calls.free_outcome lent v t u)
       ≡ first_failed (free_tests lent v t u) 0

@@ -93,7 +93,8 @@ reports-tell-none in_range n number s row row' r A =
     let v = seen s.control in
     let links = link s.area in
     let small =
-    report-code (lengths (lending s)) v (in_range v links (v Regions)) (numbers_to n (number v links (v Regions))) row in
+    report-code (lengths (lending s)) v (in_range v links (v Regions))
+    (numbers_to n (number v links (v Regions))) row in
     omega (arith, A.number, small)
 
 -- ---- wherever a run has come

@@ -45,7 +45,8 @@ module _ (size : ℕ) where
   rest k ks from o = ((and-eq-true_iff (leb from k.start) (in_order size (past_of k) ks)).0 o).1
 
   -- every column of a table in order starts at or past `from`
-  starts : (table : List Column) (from s : ℕ) → in_order size from table ≡ true → 0 < (column_of table s).count → from ≤ s
+  starts : (table : List Column) (from s : ℕ) → in_order size from table ≡ true → 0 < (column_of table s).count
+      → from ≤ s
   starts [] from s o h = omega arith
   starts (k ∷ ks) from s o h = elim (ℕ_discrete k.start s) [
     | yes e ↦ omega (arith, first k ks from o)
@@ -93,7 +94,8 @@ module _ (size : ℕ) (table : List Column) (o : in_order size 0 table ≡ true)
 
   -- two different fields of the table do not overlap
   pub apart : (f g : Field) → Has table f → Has table g → (f.column ≡ g.column → f.index ≡ g.index → ⊥)
-      → first_byte table g < first_byte table f + width table f → first_byte table g + width table g ≤ first_byte table f
+      → first_byte table g < first_byte table f + width table f
+      → first_byte table g + width table g ≤ first_byte table f
   apart f g hf hg n l = by-column (ℕ_discrete f.column g.column) (dec_lt f.column g.column)
     where
       in_row : f.column ≡ g.column → Dec (f.index ≡ g.index) → Dec (f.index < g.index)

@@ -52,7 +52,8 @@ module _ (hand caches requests c : ℕ) where
 
 -- each of the four counts, or does not
 counting-at : (c k hand caches requests chain j : ℕ) → j < COLUMNS
-    → get_or (counting c k hand caches requests chain) j 0 ≡ when c k (get_or (hand ∷ caches ∷ requests ∷ chain ∷ []) j 0)
+    → get_or (counting c k hand caches requests chain) j 0
+    ≡ when c k (get_or (hand ∷ caches ∷ requests ∷ chain ∷ []) j 0)
 counting-at c k hand caches requests chain zero l = refl
 counting-at c k hand caches requests chain (suc zero) l = refl
 counting-at c k hand caches requests chain (suc (suc zero)) l = refl

@@ -66,7 +66,8 @@ module _ (v : View) (link : ℕ → ℕ) (regions : ℕ) where
 
   -- the line of the class c: the marks, then the eight caches, then the eight requests, then the chains
   abbrev pub class_line : ℕ → List ℕ
-  class_line c = in_hands c ∷ (numbers_to TASKS (in_cache_of c) ++ (numbers_to TASKS (in_request_of c) ++ (in_chains c ∷ [])))
+  class_line c =
+      in_hands c ∷ (numbers_to TASKS (in_cache_of c) ++ (numbers_to TASKS (in_request_of c) ++ (in_chains c ∷ [])))
 
   -- the number i of the form: the line of the class c begins at the byte 36 × c
   unfoldable pub form_number : ℕ → ℕ

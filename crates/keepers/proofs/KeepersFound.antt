@@ -36,7 +36,8 @@ module _ (v : View) (link : ℕ → ℕ) (regions : ℕ) where
       rw (d, m)
 
   -- and the unit
-  pub second-number : (r : ℕ) → keeper_number v link regions (KEEPER_NUMBERS * r + 1) ≡ (keeper_of v link regions r).unit
+  pub second-number : (r : ℕ)
+      → keeper_number v link regions (KEEPER_NUMBERS * r + 1) ≡ (keeper_of v link regions r).unit
   unfolding keeper_number
   second-number r =
       let d : (KEEPER_NUMBERS * r + 1) / KEEPER_NUMBERS ≡ r = omega arith in

@@ -41,7 +41,8 @@ module _ (v : View) (link : ℕ → ℕ) (regions : ℕ) where
   -- ---- what is in its range
 
   module _ (fits : read_in_range v link regions ≡ true) where
-    parts : (sheet_in_range v link regions ≡ true) × ((held_regions_in_range v regions && is_spare_list v regions) ≡ true)
+    parts :
+        (sheet_in_range v link regions ≡ true) × ((held_regions_in_range v regions && is_spare_list v regions) ≡ true)
     unfolding read_in_range
     parts = both (sheet_in_range v link regions) (held_regions_in_range v regions && is_spare_list v regions) fits
 
@@ -54,7 +55,7 @@ module _ (v : View) (link : ℕ → ℕ) (regions : ℕ) where
     unfolding sheet_in_range caches_in_range
     cache-fits t c task class =
         let all =
-        (both (all_pass CLASSES (caches_in_range v link regions)) (requests_in_range v regions && regions_in_range v regions)
-        parts.0).0 in
+        (both (all_pass CLASSES (caches_in_range v link regions))
+        (requests_in_range v regions && regions_in_range v regions) parts.0).0 in
         each-passes TASKS (λ t. is_cache v link regions t c) (each-passes CLASSES (caches_in_range v link regions) all c
         class) t task

@@ -23,7 +23,8 @@ module _ (k : ℕ) where
   Vacant a t q = (i : ℕ) → i < slots_in k → slot_holds a t (q * slots_in k + i) ≡ vacant
 
   -- a stretch as long as the pieces is all of them
-  whole-stretch : (a : ℕ) {n : ℕ} (t : Pieces n) (q : ℕ) → k ≡ n → q * slots_in k + slots_in k ≤ slots_in n → Vacant a t q
+  whole-stretch : (a : ℕ) {n : ℕ} (t : Pieces n) (q : ℕ) → k ≡ n → q * slots_in k + slots_in k ≤ slots_in n
+      → Vacant a t q
       → (p : ℕ) → p < slots_in n → slot_holds a t p ≡ vacant
   whole-stretch a {n} t q e b v p h =
       let s = ap slots_in e in

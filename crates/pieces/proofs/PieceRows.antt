@@ -34,7 +34,8 @@ tiles a (whole s) h = (refl, h, refl)
 tiles a (halves {n} l r) h =
     let u = lower-aligned a n h in
     let e : a + slots_in n + slots_in n ≡ a + (slots_in n + slots_in n) = omega arith in
-    rw e at (tiles-append a (a + slots_in n) (a + slots_in n + slots_in n) (pieces_row a l) (pieces_row (a + slots_in n) r)
+    rw e at
+    (tiles-append a (a + slots_in n) (a + slots_in n + slots_in n) (pieces_row a l) (pieces_row (a + slots_in n) r)
     (tiles a l u) (tiles (a + slots_in n) r (upper-aligned a n u)))
 
 -- ---- "each unit of that area is in exactly one strip or free piece"
@@ -60,7 +61,8 @@ once a (halves {n} l r) p h =
     ∙ by (order? p (slots_in n)) (once a l p) (once (a + slots_in n) r (p - slots_in n))
   where
     by : Order p (slots_in n) → (p < slots_in n → having_slot (a + p) (pieces_row a l) ≡ 1)
-        → (p - slots_in n < slots_in n → having_slot (a + slots_in n + (p - slots_in n)) (pieces_row (a + slots_in n) r) ≡ 1)
+        → (p - slots_in n < slots_in n
+        → having_slot (a + slots_in n + (p - slots_in n)) (pieces_row (a + slots_in n) r) ≡ 1)
         → having_slot (a + p) (pieces_row a l) + having_slot (a + p) (pieces_row (a + slots_in n) r) ≡ 1
     by (before j) f g = rw (f j, outside (a + slots_in n) r (a + p) (λ w. absurd (omega arith)))
     by (after j) f g =

@@ -157,8 +157,8 @@ module _ (k q : ℕ) (u : PieceState) where
           let f = free-row a new (both_left (is_free_piece new) (is_free_piece r) e) in
           let g = free-row (a + slots_in n) r (both_right (is_free_piece new) (is_free_piece r) e) in
           rw (e, g)
-          (all-behind (pieces_row a l) (piece a n free) (piece (a + slots_in n) n free) (piece a (suc n) free) (rw f at x)
-          refl refl)
+          (all-behind (pieces_row a l) (piece a n free) (piece (a + slots_in n) n free) (piece a (suc n) free)
+          (rw f at x) refl refl)
       by (fails e) = rw e (behind (pieces_row a l) (pieces_row a new) (pieces_row (a + slots_in n) r) x)
 
   upper-gives : (a : ℕ) {n : ℕ} (l r new : Pieces n)

@@ -37,7 +37,8 @@ pub strip-fits : {n : ℕ} (t : Pieces n) (p k : ℕ) (s : PieceState) → strip
 strip-fits (whole free) p k s e = let z : ◌≡◌ {A = ℕ} 0 1 = cc in absurd (omega arith)
 strip-fits (whole {n} held) p k s e = let i = first-is p n held k s e in omega (arith, ap slots_in i.order)
 strip-fits (whole {n} (begun t)) p k s e = let i = first-is p n (begun t) k s e in omega (arith, ap slots_in i.order)
-strip-fits (halves {n} l r) p k s e = by (order? p (slots_in n)) (strip-fits l p k s) (strip-fits r (p - slots_in n) k s)
+strip-fits (halves {n} l r) p k s e =
+    by (order? p (slots_in n)) (strip-fits l p k s) (strip-fits r (p - slots_in n) k s)
   where
     by : Order p (slots_in n) → (strip_starts l p ≡ here k s → p + slots_in k ≤ slots_in n)
         → (strip_starts r (p - slots_in n) ≡ here k s → p - slots_in n + slots_in k ≤ slots_in n)
@@ -71,7 +72,8 @@ starts-in a (halves {n} l r) p k s e =
 
 -- ---- joining changes no slot
 
-pub join_slot : (a : ℕ) {n : ℕ} (l r : Pieces n) (p : ℕ) → slot_holds a (join_halves l r) p ≡ slot_holds a (halves l r) p
+pub join_slot : (a : ℕ) {n : ℕ} (l r : Pieces n) (p : ℕ)
+    → slot_holds a (join_halves l r) p ≡ slot_holds a (halves l r) p
 join_slot a {n} l r p = by (true? (is_free_piece l && is_free_piece r)) (order? p (slots_in n))
   where
     by : Truth (is_free_piece l && is_free_piece r) → Order p (slots_in n)
@@ -231,7 +233,8 @@ module _ (task : ℕ) where
           rw (lt-ltb _ _ h) (no-first (is_free_piece (free_begun task p l)) (is_free_piece r) (begin-used l p), f, m.2)
       by (after h) f g =
           rw (le-ltb _ _ h) (
-            no_second (is_free_piece l) (is_free_piece (free_begun task (p - slots_in n) r)) (begin-used r (p - slots_in n)),
+            no_second (is_free_piece l) (is_free_piece (free_begun task (p - slots_in n) r))
+                (begin-used r (p - slots_in n)),
             m.1,
             g,
           )

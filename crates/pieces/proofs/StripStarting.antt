@@ -38,7 +38,8 @@ module _ {n : ℕ} (l r : Pieces n) (p : ℕ) (x : StripStart) where
       by q j d (before m) = in-lower new r q m ∙ b.others q m d ∙ sym (in-lower l r q m)
       by q j d (after m) = in-upper new r q m ∙ sym (in-upper l r q m)
 
-  at-upper : (new : Pieces n) → slots_in n ≤ p → Begins r new (p - slots_in n) x → Begins (halves l r) (halves l new) p x
+  at-upper : (new : Pieces n) → slots_in n ≤ p → Begins r new (p - slots_in n) x
+      → Begins (halves l r) (halves l new) p x
   at-upper new h b = record { here = in-upper l new p h ∙ b.here; others = λ q j d. by q j d (order? q (slots_in n)) }
     where
       by : (q : ℕ) → q < slots_in (suc n) → q ≢ p → Order q (slots_in n)
@@ -106,7 +107,8 @@ join-starts {n} l r p = by (true? (is_free_piece l && is_free_piece r)) (order? 
     by (holds e) (before h) =
         rw e (sym (in-lower l r p h ∙ free-starts l p (both_left (is_free_piece l) (is_free_piece r) e)))
     by (holds e) (after h) =
-        rw e (sym (in-upper l r p h ∙ free-starts r (p - slots_in n) (both_right (is_free_piece l) (is_free_piece r) e)))
+        rw e
+        (sym (in-upper l r p h ∙ free-starts r (p - slots_in n) (both_right (is_free_piece l) (is_free_piece r) e)))
     by (fails e) o = rw e
 
 join-begins : {n : ℕ} (t : Pieces (suc n)) (l r : Pieces n) (p : ℕ) (x : StripStart) → Begins t (halves l r) p x
@@ -135,7 +137,8 @@ given-begins (halves {n} l r) p k s e =
     by (order? p (slots_in n)) (given-begins l p k s) (given-begins r (p - slots_in n) k s)
   where
     by : Order p (slots_in n) → (strip_starts l p ≡ here k s → Begins l (give_strip p l) p nowhere)
-        → (strip_starts r (p - slots_in n) ≡ here k s → Begins r (give_strip (p - slots_in n) r) (p - slots_in n) nowhere)
+        → (strip_starts r (p - slots_in n) ≡ here k s
+        → Begins r (give_strip (p - slots_in n) r) (p - slots_in n) nowhere)
         → Begins (halves l r) (give_strip p (halves l r)) p nowhere
     by (before h) f g =
         rw (lt-ltb _ _ h)
@@ -182,7 +185,8 @@ strip_order (whole {n} (begun t)) p k s e = omega (arith, (first-is p n (begun t
 strip_order (halves {n} l r) p k s e =
     by (order? p (slots_in n)) (strip_order l p k s) (strip_order r (p - slots_in n) k s)
   where
-    by : Order p (slots_in n) → (strip_starts l p ≡ here k s → k ≤ n) → (strip_starts r (p - slots_in n) ≡ here k s → k ≤ n)
+    by : Order p (slots_in n) → (strip_starts l p ≡ here k s → k ≤ n)
+        → (strip_starts r (p - slots_in n) ≡ here k s → k ≤ n)
         → k ≤ suc n
     by (before h) f g = omega (arith, f (rw (lt-ltb _ _ h) at e))
     by (after h) f g = omega (arith, g (rw (le-ltb _ _ h) at e))

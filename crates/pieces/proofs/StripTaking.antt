@@ -32,7 +32,8 @@ module _ (k : ℕ) where
       by (high e d b) f g = rw e (omega (arith, g (omega arith)))
 
   -- at a multiple of its length
-  pub aligned : k ≤ WHOLE_ORDER → {n : ℕ} (t : Pieces n) → least_order k t ≤ WHOLE_ORDER → AtMultiple (least_place k t) k
+  pub aligned : k ≤ WHOLE_ORDER → {n : ℕ} (t : Pieces n) → least_order k t ≤ WHOLE_ORDER
+      → AtMultiple (least_place k t) k
   aligned b (whole s) h = record { times = 0; is = omega arith }
   aligned b (halves {n} l r) h = by (half? k l r) (aligned b l) (aligned b r)
     where
@@ -99,7 +100,8 @@ module _ (k : ℕ) where
 
   -- ---- every other slot stays
 
-  halved-outside : (a n : ℕ) → k ≤ n → (p : ℕ) → p < slots_in n → slots_in k ≤ p → slot_holds a (halved_to k n) p ≡ vacant
+  halved-outside : (a n : ℕ) → k ≤ n → (p : ℕ) → p < slots_in n → slots_in k ≤ p
+      → slot_holds a (halved_to k n) p ≡ vacant
   halved-outside a zero h p j g = absurd (omega (arith, some k))
   halved-outside a (suc n) h p j g = by (order? n k) (order? p (slots_in n)) (λ m q. halved-outside a n m p q g)
     where
@@ -125,7 +127,8 @@ module _ (k : ℕ) where
           → slot_holds a (least_halved k l) p ≡ slot_holds a l p)
           → (least_order k r ≤ WHOLE_ORDER → p - slots_in n < slots_in n
           → (least_place k r ≤ p - slots_in n → least_place k r + slots_in k ≤ p - slots_in n)
-          → slot_holds (a + slots_in n) (least_halved k r) (p - slots_in n) ≡ slot_holds (a + slots_in n) r (p - slots_in n))
+          → slot_holds (a + slots_in n) (least_halved k r) (p - slots_in n)
+          ≡ slot_holds (a + slots_in n) r (p - slots_in n))
           → slot_holds a (least_halved k (halves l r)) p ≡ slot_holds a (halves l r) p
       by (low e d m) (before q) f g =
           let w : least_place k l ≤ p → least_place k l + slots_in k ≤ p = rw e at o in

@@ -32,10 +32,12 @@ firsts = (256, 26, 480) ∷ (8, 522, 511) ∷ []
 
 -- at that step the allocation finishes with that unit
 pub firsts-hold : map (λ r. last r.1 (fresh r.0)) firsts ≡ map (λ r. finished r.2) firsts
-unfolding plain_call step_of start_mem rising units per_region update ℕ_discrete dec_lt dec_le both fresh unstarted class_of
+unfolding plain_call step_of start_mem rising units per_region update ℕ_discrete dec_lt dec_le both fresh unstarted
+    class_of
 firsts-hold = refl
 
 -- the first allocation of 256 bytes is still under way at step 25
 pub not-before : map (λ r. last r (fresh 256)) (25 ∷ []) ≡ going nothing ∷ []
-unfolding plain_call step_of start_mem rising units per_region update ℕ_discrete dec_lt dec_le both fresh unstarted class_of
+unfolding plain_call step_of start_mem rising units per_region update ℕ_discrete dec_lt dec_le both fresh unstarted
+    class_of
 not-before = refl

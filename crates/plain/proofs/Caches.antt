@@ -147,7 +147,8 @@ module _ {area : ℕ} {m : Mem} {t : ℕ} {k : ℕ → List ℕ} where
 
   -- Step 8: block i of the region is carved into the cache, which becomes q.
   carve-inv : (c r i : ℕ) (q : List ℕ) → ((v : ℕ) → count v q ≡ one v (unit_of r c i) + count v (k c))
-      → length q ≡ suc (length (k c)) → Turn area m t (task_of (working (a8 c r i)) k) → (d : Dec (suc i ≡ per_region c))
+      → length q ≡ suc (length (k c)) → Turn area m t (task_of (working (a8 c r i)) k)
+      → (d : Dec (suc i ≡ per_region c))
       → Invariant area (cached t k c q (working (if d (a1 c) (a8 c r (suc i)))) m)
   carve-inv c r i q h n w (yes e) =
       let o = place_holds w in

@@ -16,7 +16,7 @@ use Rattle.plain.specs.Moves.{found_empty, pushed, no_strip, Answer, ended, refu
 use Rattle.plain.specs.Steps.{Result, pop_read, push_put, strip_take_step, step_at, step_of, when_working}
 use Rattle.plain.specs.Calls.{Pool, Call, start, allocate, free, leave, start_mem, opens?}
 use Rattle.plain.specs.Calls.{first?, free_entry, strip_unit?, free_strip_at, StartedLengths}
-use Rattle.pieces.specs.Pieces.{free as free-piece, held, begun}
+use Rattle.pieces.specs.Pieces.{free as free_piece, held, begun}
 use Rattle.pieces.specs.Strips.{StripTaken, StripStart, nowhere, here, strip_starts}
 use Rattle.pieces.specs.StripUnits.{slot_of_unit}
 use Rattle.plain.specs.Calls.{when_idle, refuse, became, tested, plain_call, Lengths, step}
@@ -93,7 +93,7 @@ module _ (c : Call) (s : Pool) where
 
   small-strip : (x : StripStart) (t n : ℕ) → Small (free_strip_at x t n s.mem)
   small-strip nowhere t n = small 10 (omega arith)
-  small-strip (here k free-piece) t n = small 10 (omega arith)
+  small-strip (here k free_piece) t n = small 10 (omega arith)
   small-strip (here k held) t n = (omega arith, λ ℓ. refl)
   small-strip (here k (begun u)) t n = small 11 (omega arith)
 

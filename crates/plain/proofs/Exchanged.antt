@@ -34,7 +34,8 @@ pub record DescriptorsExchanged (ℓ : ℕ) (r q : List ℕ) (h h' : Held) : Typ
   pub blocks : (v : ℕ) → block_in v h' ≡ block_in v h
   pub block_classes : (c v : ℕ) → class_block_in c v h' ≤ class_block_in c v h
   pub descriptors : (x : ℕ) → count x q + descriptor_in x h' ≡ count x r + descriptor_in x h
-  pub classes : (c x : ℕ) → c < CLASSES → when c ℓ (count x q) + listed_in c x h' ≤ when c ℓ (count x r) + listed_in c x h
+  pub classes : (c x : ℕ) → c < CLASSES
+      → when c ℓ (count x q) + listed_in c x h' ≤ when c ℓ (count x r) + listed_in c x h
   pub spares : (x : ℕ)
       → when SPARE_DESCRIPTORS ℓ (count x q) + spare_in x h' ≤ when SPARE_DESCRIPTORS ℓ (count x r) + spare_in x h
   pub regions : (x : ℕ) → region_in x h' ≡ region_in x h

@@ -23,7 +23,8 @@ use Rattle.plain.specs.State.{release, offer, Work, a1, popping, pushing, a3-rea
 use Rattle.plain.specs.State.{f2}
 use Rattle.plain.specs.State.{f3-read, f3-link, f3-exchange, f4-clear, strip-take, strip-give, leave-end, Place}
 use Rattle.plain.specs.State.{idle, working, Task, Mem, Purpose, to_free, to_leave}
-use Rattle.plain.specs.Steps.{push_list, f6, f5, as_noted?, closed, push_step, f2_step, f3_read, f3_won, step_at, step_of}
+use Rattle.plain.specs.Steps.{push_list, f6, f5, as_noted?, closed, push_step, f2_step, f3_read, f3_won, step_at}
+use Rattle.plain.specs.Steps.{step_of}
 use Rattle.plain.specs.Steps.{when_working, when_pushed, Result}
 use Rattle.plain.specs.Moves.{Decided}
 use Rattle.plain.specs.Calls.{opens?, first?, free_entry, free_strip_at, strip_unit?, begin_allocate, begin_free}

@@ -124,7 +124,8 @@ module _ {area : ℕ} {m : Mem} {t : ℕ} {k : ℕ → List ℕ} where
         spares = λ x. omega arith;
         regions = λ x. omega arith;
         unmapped = λ x. omega arith;
-      }) (f5-holds k (lengths w) s c z d (place_holds w).0 (place_holds w).1) (f5-note (update m.row SPARE_REGIONS (r ∷ m.row SPARE_REGIONS))
+      }) (f5-holds k (lengths w) s c z d (place_holds w).0 (place_holds w).1)
+      (f5-note (update m.row SPARE_REGIONS (r ∷ m.row SPARE_REGIONS))
       (update m.won SPARE_REGIONS (m.won SPARE_REGIONS + 1)) m.map k s c z d)
   put_inv (offer c z d) φ w =
       let o = place_holds w in
@@ -138,7 +139,8 @@ module _ {area : ℕ} {m : Mem} {t : ℕ} {k : ℕ → List ℕ} where
         spares = λ x. omega (arith, when-other SPARE_DESCRIPTORS c (one x d + count x q) (omega (arith, o)));
         regions = λ x. refl;
         unmapped = λ x. omega arith;
-      }) (f6-holds k (lengths w) c z o.0) (f6-note (update m.row c (d ∷ m.row c)) (update m.won c (m.won c + 1)) m.map k c z)
+      }) (f6-holds k (lengths w) c z o.0)
+      (f6-note (update m.row c (d ∷ m.row c)) (update m.won c (m.won c + 1)) m.map k c z)
 
   -- The three steps of a push.
   pub push-inv : (p : Push) (φ : Phase) → Turn area m t (task_of (working (pushing p φ)) k)

@@ -100,7 +100,8 @@ module _ {area : ℕ} {m : Mem} {t : ℕ} {k : ℕ → List ℕ} where
 
   -- Step 7 of an allocate: the descriptor, which is EMPTY, opens the region for the class, and all its blocks are
   -- to be carved.
-  pub open-inv : (c d r : ℕ) → Turn area m t (task_of (working (a7 c d r)) k) → KeepsInvariant area (a7_step t k c d r m)
+  pub open-inv : (c d r : ℕ) → Turn area m t (task_of (working (a7 c d r)) k)
+      → KeepsInvariant area (a7_step t k c d r m)
   open-inv c d r w =
       let D = m.descriptor d in
       let F = m.descriptor in

@@ -10,7 +10,7 @@ use Rattle.rows.specs.Branch.{if, both}
 use Rattle.classes.specs.Classes.{units, per_region}
 use Rattle.classes.specs.Sizes.{class_of}
 use Rattle.classes.specs.Geometry.{region_of, index_of}
-use Rattle.pieces.specs.Pieces.{free as free-piece, held, begun, one_piece}
+use Rattle.pieces.specs.Pieces.{free as free_piece, held, begun, one_piece}
 use Rattle.pieces.specs.Strips.{StripStart, nowhere, here, strip_starts, free_begun}
 use Rattle.pieces.specs.StripSizes.{order_of}
 use Rattle.pieces.specs.StripUnits.{slot_of_unit}
@@ -170,7 +170,8 @@ free_entry (suc d) t u m = free_in (m.descriptor d) t u m
 -- the beginning of the free of a small block. "10 not the first unit of a block of an open region": so where the area
 -- has no such region; else its map entry tells
 abbrev pub begin_free_small : ℕ → ℕ → ℕ → Mem → Result
-begin_free_small t u regions m = if (dec_lt (region_of u) regions) (free_entry (m.map (region_of u)) t u m) (m, refused 10)
+begin_free_small t u regions m =
+    if (dec_lt (region_of u) regions) (free_entry (m.map (region_of u)) t u m) (m, refused 10)
 
 -- "Its units run from 8,192 to 16,383": u is the first unit of a slot of the strips' memory
 abbrev pub StripUnit : ℕ → Type 0
@@ -184,7 +185,7 @@ strip_unit? u = both (dec_le UNITS u) (both (dec_lt u BOTH_UNITS) (ℕ_discrete 
 -- (No free piece is a strip: `strip_starts` names none.)
 abbrev pub free_strip_at : StripStart → ℕ → ℕ → Mem → Result
 free_strip_at nowhere t s m = (m, refused 10)
-free_strip_at (here k free-piece) t s m = (m, refused 10)
+free_strip_at (here k free_piece) t s m = (m, refused 10)
 free_strip_at (here k held) t s m =
     let T : Task = record { place = working (strip-give s); cache = (m.task t).cache } in
     (set_task t T (set_strips (free_begun t s m.strips) m), going nothing)

@@ -12,8 +12,8 @@ pub data Decided : Type 0 where
   found_empty : (ℓ : ℕ) → Decided
   popped pushed : (ℓ x : ℕ) → Decided
   lost : (ℓ : ℕ) → Decided
-  anchor-empty took gave anchor-lost : (d : ℕ) → Decided
-  strip-taken strip-given : (s : ℕ) → Decided
+  anchor_empty took gave anchor_lost : (d : ℕ) → Decided
+  strip_taken strip_given : (s : ℕ) → Decided
   no_strip : Decided
 
 -- a call's code and value, and what it decided

@@ -16,8 +16,8 @@ use Rattle.plain.specs.State.{idle, a1, popping, pushing, a3-read, a3-exchange, 
 use Rattle.plain.specs.State.{f3-link, f3-exchange, f4-clear, Mem, set_task, set_row, set_descriptor, set_map}
 use Rattle.plain.specs.State.{set_hands, Work, working, strip-take, strip-give, leave-end, set_strips, Purpose}
 use Rattle.plain.specs.State.{to_free}
-use Rattle.plain.specs.Moves.{Decided, nothing, found_empty, popped, pushed, lost, anchor-empty, took, gave}
-use Rattle.plain.specs.Moves.{anchor-lost, strip-taken, strip-given, no_strip, Answer, going, finished}
+use Rattle.plain.specs.Moves.{Decided, nothing, found_empty, popped, pushed, lost, anchor_empty, took, gave}
+use Rattle.plain.specs.Moves.{anchor_lost, strip_taken, strip_given, no_strip, Answer, going, finished}
 use Rattle.plain.specs.Moves.{finished_by, ended, refused}
 unfoldable pub use Rattle.plain.specs.AfterReturn.{if_none, leave_from, when_returned, f6, f5}
 
@@ -163,7 +163,7 @@ module _ (t : ℕ) (k : ℕ → List ℕ) where
   -- allocate, step 3: "Read the anchor. EMPTY: push the descriptor on the spare list, then 2. Else exchange it" (it is
   -- never FULL: a descriptor on a partial list is PARTIAL or EMPTY)
   abbrev pub a3_read : ℕ → ℕ → State → Mem → Result
-  a3_read c d EMPTY m = (at_work (pushing (retire c d) read) m, going (anchor-empty d))
+  a3_read c d EMPTY m = (at_work (pushing (retire c d) read) m, going (anchor_empty d))
   a3_read c d PARTIAL m = (at_work (a3-exchange c d (note_of (m.descriptor d))) m, going nothing)
   a3_read c d FULL m = (at_work (a3-exchange c d (note_of (m.descriptor d))) m, going nothing)
 
@@ -173,7 +173,7 @@ module _ (t : ℕ) (k : ℕ → List ℕ) where
       let D = m.descriptor d in
       if (as_noted? D n)
       (at_work (moving c D.chain) (set_descriptor d (chained D FULL []) m), going (took d))
-      (at_work (a3-read c d) m, going (anchor-lost d))
+      (at_work (a3-read c d) m, going (anchor_lost d))
 
   -- allocate, step 7: "One step writes the descriptor (FULL, n, 0) and the map"
   abbrev pub a7_step : ℕ → ℕ → ℕ → Mem → Result
@@ -233,16 +233,16 @@ module _ (t : ℕ) (k : ℕ → List ℕ) where
       let D = m.descriptor d in
       if (as_noted? D n)
       (f3_won (ℕ_discrete (length (y ∷ (g ++ D.chain))) (per_region c)) c z y g d n.state m)
-      (at_work (f3-read c z y g) m, going (anchor-lost d))
+      (at_work (f3-read c z y g) m, going (anchor_lost d))
 
   -- the request for a strip: "finishes, or ends with 16, in its first step, which is one move of the whole run"
   abbrev pub strip_take_step : StripTaken → Mem → Result
   strip_take_step none_found m = (at_place idle m, ended 16 no_strip)
-  strip_take_step (strip_at s p) m = (at_place idle (set_strips p m), finished_by (strip-taken s) (strip_unit s))
+  strip_take_step (strip_at s p) m = (at_place idle (set_strips p m), finished_by (strip_taken s) (strip_unit s))
 
   -- the free of the strip at the slot s: "Freed halves join whenever both are free"
   abbrev pub strip_give_step : ℕ → Mem → Result
-  strip_give_step s m = (at_place idle (set_strips (give_strip s m.strips) m), finished_by (strip-given s) 0)
+  strip_give_step s m = (at_place idle (set_strips (give_strip s m.strips) m), finished_by (strip_given s) 0)
 
   -- the step list, by place
   abbrev pub step_at : Work → Mem → Result

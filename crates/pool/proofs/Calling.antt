@@ -16,7 +16,8 @@ use Rattle.control.specs.Answers.{number_of, number_with}
 use Rattle.control.specs.declared.answer.Answer.{Answer}
 use Rattle.stepped.specs.Outcome.{Outcome, refuse, Memories, Effect, effect, step_effect}
 use Rattle.stepped.specs.Steps as Steps
-use Rattle.stepped.specs.Calls.{tested, when_idle, begin_allocate, begin_free, allocate_outcome, free_outcome, leave_outcome}
+use Rattle.stepped.specs.Calls.{tested, when_idle, begin_allocate, begin_free, allocate_outcome, free_outcome}
+use Rattle.stepped.specs.Calls.{leave_outcome}
 use Rattle.stepped.specs.Calls.{step_outcome}
 use Rattle.stepped.specs.Leaving.{begin_leave}
 use Rattle.stepped.specs.Done.{Done, NumberIn}

@@ -29,7 +29,8 @@ use Rattle.agreement.proofs.TurnInBoth.{Pair}
 use Rattle.agreement.proofs.TaskBlocks.{cached-unit}
 use Rattle.reports.specs.ByRegion.{in_region}
 use Rattle.reports.proofs.Passing.{all-pass}
-use Rattle.report_caches.specs.CacheRows.{is_cache_row, row_from, cache_row, is_cache, caches_in_range, blocks_in_caches}
+use Rattle.report_caches.specs.CacheRows.{is_cache_row, row_from, cache_row, is_cache, caches_in_range}
+use Rattle.report_caches.specs.CacheRows.{blocks_in_caches}
 
 -- a linked row of blocks passes the tests, down to the bottom
 linked-tested : (regions c : ℕ) {next : ℕ → ℕ} {u : ℕ} {q : List ℕ} → Linked next (λ x. x) UNITS u q

@@ -35,4 +35,5 @@ module _ {regions : ℕ} {m : Mem} (v : View) (area : List ℕ) (small : regions
   pub hands-told : blocks_in_hand v r c ≡ blocks_there (times_in_hand m) r c
   unfolding blocks_in_hand
   hands-told =
-      passing-same (per_region c) (λ i. is_marked v (unit_of r c i)) (λ i. leb 1 (times_in_hand m (unit_of r c i))) mark-told
+      passing-same (per_region c) (λ i. is_marked v (unit_of r c i)) (λ i. leb 1 (times_in_hand m (unit_of r c i)))
+      mark-told

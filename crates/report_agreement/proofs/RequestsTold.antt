@@ -157,7 +157,8 @@ module _ {regions : ℕ} {m : Mem} {p : Place} {k : ℕ → List ℕ} (v : View)
 module _ {regions : ℕ} {m : Mem} {k : ℕ → List ℕ} (v : View) (area : List ℕ) (t : ℕ) where
   -- of a task at work
   at-work : {p : Work} (w : Pair regions (contents_of v area) m t (working p) k)
-      → WorkRelated regions (contents_of v area) m (slot_of v t) p → RequestTold (request_blocks v regions t) (working p)
+      → WorkRelated regions (contents_of v area) m (slot_of v t) p
+      → RequestTold (request_blocks v regions t) (working p)
   unfolding count_at least_at is_return is_freeing is_without
   at-work w (r_a1 e) = quiet v area t w (at_place v t A1 none e refl) refl
   at-work w (r_popping Partial h) = quiet v area t w (in-move v t none (refl, refl, refl) h) refl

@@ -102,7 +102,8 @@ module _ {regions : ℕ} {m : Mem} (I : Invariant regions m) (r c : ℕ) (opened
           | same e ↦
               row-blocks r c (under_way p) (λ u h i. home-block u i
               (subst (λ (x : ℕ). Home m x u) (sym e) (under-home I t u l h)))
-              ∙ sym (ap (λ (x : ℕ). when c x (in_region r (under_way p))) (sym e) ∙ when-same c (in_region r (under_way p)))
+              ∙ sym (ap (λ (x : ℕ). when c x (in_region r (under_way p))) (sym e)
+              ∙ when-same c (in_region r (under_way p)))
           | other d ↦
               total-zero (per_region c) (λ i x. x) (λ i. count (unit_of r c i) (under_way p)) (λ i h.
               other-class (λ e. d (sym e)) (unit_of r c i) (region-again r c i h))
@@ -139,7 +140,8 @@ module _ {regions : ℕ} {a : Contents} {m : Mem} (S : SameObserved regions a m)
   running-there : sum (per_region c) (λ i. times_running m (unit_of r c i)) ≡ blocks_there (times_running m) r c
   running-there = there (times_running m) (λ i h. omega (arith, once i h))
 
-  times_chained-there : sum (per_region c) (λ i. times_chained m r (unit_of r c i)) ≡ blocks_there (times_chained m r) r c
+  times_chained-there :
+      sum (per_region c) (λ i. times_chained m r (unit_of r c i)) ≡ blocks_there (times_chained m r) r c
   times_chained-there = there (times_chained m r) (λ i h. omega (arith, once i h))
 
   module _ (t : ℕ) (task : t < TASKS) where
@@ -192,7 +194,8 @@ module _ {regions : ℕ} {a : Contents} {m : Mem} (S : SameObserved regions a m)
       ∙ times_chained-there
 
   -- "the four numbers of an open region add up to its n"
-  pub adds_up : blocks_there (times_in_hand m) r c + blocks_there (times_cached m) r c + blocks_there (times_running m) r c
+  pub adds_up :
+      blocks_there (times_in_hand m) r c + blocks_there (times_cached m) r c + blocks_there (times_running m) r c
       + blocks_there (times_chained m r) r c ≡ per_region c
   adds_up =
       let n = per_region c in

@@ -75,7 +75,8 @@ shorter PARTIAL n k l h s = s.1
 shorter FULL n k l h s = omega arith
 
 module _ {regions : ℕ} {m : Mem} (I : Invariant regions m) (r c : ℕ) where
-  chain-shorter : (z : ℕ) → z ≤ DESCRIPTORS → plain_class_by z r m ≡ suc c → length (plain_chain_by z r m) < per_region c
+  chain-shorter : (z : ℕ) → z ≤ DESCRIPTORS → plain_class_by z r m ≡ suc c
+      → length (plain_chain_by z r m) < per_region c
   chain-shorter zero l e = absurd (omega arith)
   chain-shorter (suc d) l e = by (opens? (m.descriptor d) r) e
     where

@@ -28,7 +28,8 @@ pub record LineTells (sheet : List ℕ) (m : Mem) (c r : ℕ) : Type 0 where
   pub caches : number_at sheet c r 1 ≡ blocks_there (times_cached m) r c
   pub requests : number_at sheet c r 2 ≡ blocks_there (times_running m) r c
   pub chain : number_at sheet c r 3 ≡ blocks_there (times_chained m r) r c
-  pub adds_up : number_at sheet c r 0 + number_at sheet c r 1 + number_at sheet c r 2 + number_at sheet c r 3 ≡ per_region c
+  pub adds_up :
+      number_at sheet c r 0 + number_at sheet c r 1 + number_at sheet c r 2 + number_at sheet c r 3 ≡ per_region c
 
 -- the sheet tells the plain pool: the lines of all classes and regions
 pub record SheetTells (sheet : List ℕ) (s : Pool) : Type 0 where

@@ -53,7 +53,8 @@ module _ (v : View) (regions r d : ℕ) {x : ℕ} (region : x ≡ v (DescriptorR
     is-empty b z = rw (← region, ← word, lt-ltb x regions h, eq-eqb x r e, b, eq-eqb (anchor_of w).state EMPTY z)
 
     -- the anchor is in range and not EMPTY
-    pub is_open : is_anchor w ≡ true → (anchor_of w).state ≢ EMPTY → open_as v d (anchor_of w).count ≡ open_by v regions r d
+    pub is_open : is_anchor w ≡ true → (anchor_of w).state ≢ EMPTY
+        → open_as v d (anchor_of w).count ≡ open_by v regions r d
     unfolding open_by
     is_open b z = rw (← region, ← word, lt-ltb x regions h, eq-eqb x r e, b, ne_eqb (anchor_of w).state EMPTY z)
 

@@ -43,8 +43,8 @@ pub paper-example : played example
       line 0 1 0 0 ∷ line 1 2 0 0 ∷ line 2 5 20 480 ∷ line 3 3 0 0 ∷ line 4 5 20 0 ∷ line 5 3 11 0 ∷ [],
       total 2 3 1,
     )
-unfolding table runs record_at wide_of counted get_le units per_region class_of unstarted both ℕ_discrete dec_lt dec_le update
-    Calls.plain_call Calls.start_mem Calls.rising Steps.step_of
+unfolding table runs record_at wide_of counted get_le units per_region class_of unstarted both ℕ_discrete dec_lt dec_le
+    update Calls.plain_call Calls.start_mem Calls.rising Steps.step_of
 paper-example = refl
 
 -- a task that leaves: it has one block cached, and all steps of its return, and the last, are in one run; it begins
@@ -70,8 +70,8 @@ pub leaving-example : played leaving
           ∷ line 7 5 20 0 ∷ line 8 6 0 0 ∷ line 9 4 20 0 ∷ line 10 6 5 0 ∷ line 11 6 15 0 ∷ [],
       total 4 5 3,
     )
-unfolding table runs record_at wide_of counted get_le units per_region class_of unstarted both ℕ_discrete dec_lt dec_le update
-    Calls.plain_call Calls.start_mem Calls.rising Steps.step_of Steps.leave_from
+unfolding table runs record_at wide_of counted get_le units per_region class_of unstarted both ℕ_discrete dec_lt dec_le
+    update Calls.plain_call Calls.start_mem Calls.rising Steps.step_of Steps.leave_from
 leaving-example = refl
 
 -- no input; a cut start; kind 0, after which nothing is read; an unknown kind; five regions and nine tasks, "more than
@@ -88,6 +88,6 @@ pub edge-cases : map played
     ∷ (line 0 5 0 0 ∷ [], total 0 1 0)
     ∷ (line 0 4 4 0 ∷ [], total 0 0 1)
     ∷ [])
-unfolding table runs record_at wide_of counted get_le units per_region class_of unstarted both ℕ_discrete dec_lt dec_le update
-    Calls.plain_call Calls.start_mem Calls.rising Steps.step_of
+unfolding table runs record_at wide_of counted get_le units per_region class_of unstarted both ℕ_discrete dec_lt dec_le
+    update Calls.plain_call Calls.start_mem Calls.rising Steps.step_of
 edge-cases = refl

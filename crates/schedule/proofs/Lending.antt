@@ -1,5 +1,6 @@
 -- A call that is lent a part of the area does what the stand's definition says.
-use Rattle.std.proofs.Common.{◌≡◌, ℕ, ◌*◌, ◌<◌, ◌≤◌, Bool, cond, ◌≢◌, List, sym, refl, ap, ◌∙◌, subst, le-ltb, lt-ltb, eq-eqb, ne_eqb}
+use Rattle.std.proofs.Common.{◌≡◌, ℕ, ◌*◌, ◌<◌, ◌≤◌, Bool, cond, ◌≢◌, List, sym, refl, ap, ◌∙◌, subst, le-ltb, lt-ltb}
+use Rattle.std.proofs.Common.{eq-eqb, ne_eqb}
 use borrow.Rule.Slice.PartMut.{mid_of, put_mid, put_same}
 use Rattle.limits.specs.Limits.{REGION_BYTES}
 use Rattle.fields.specs.Columns.{View}

@@ -1,6 +1,7 @@
 -- The records played one after the other: what the whole schedule leaves is what the records still ahead leave, and the
 -- last of them answers for it.
-use Rattle.std.proofs.Common.{◌≡◌, ℕ, zero, suc, ◌-◌, ◌*◌, ◌<◌, ◌≤◌, List, length, take, sym, refl, ap, ◌∙◌, subst, arith, le-ltb, lt-ltb}
+use Rattle.std.proofs.Common.{◌≡◌, ℕ, zero, suc, ◌-◌, ◌*◌, ◌<◌, ◌≤◌, List, length, take, sym, refl, ap, ◌∙◌, subst}
+use Rattle.std.proofs.Common.{arith, le-ltb, lt-ltb}
 use Rattle.limits.specs.Limits.{REGION_BYTES}
 use Rattle.control.specs.Layout.{seen}
 use Rattle.stepped.specs.Outcome.{Memories}

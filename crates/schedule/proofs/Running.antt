@@ -1,5 +1,6 @@
 -- One turn of a run.
-use Rattle.std.proofs.Common.{◌≡◌, ℕ, suc, ◌-◌, ◌≤◌, Bool, cond, eqb, ◌≢◌, List, sym, refl, ap, ◌∙◌, arith, eq-eqb, ne_eqb}
+use Rattle.std.proofs.Common.{◌≡◌, ℕ, suc, ◌-◌, ◌≤◌, Bool, cond, eqb, ◌≢◌, List, sym, refl, ap, ◌∙◌, arith, eq-eqb}
+use Rattle.std.proofs.Common.{ne_eqb}
 use Rattle.stepped.specs.Outcome.{Memories}
 use Rattle.plain.specs.Calls.{step}
 use Rattle.schedule.specs.Stand.{as_started, runs}

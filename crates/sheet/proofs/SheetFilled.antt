@@ -41,7 +41,8 @@ module _ (v : View) (link : ℕ → ℕ) (regions : ℕ) where
   -- ---- what is out of its range
 
   -- the caches of a class
-  pub caches-fail : (c : ℕ) → c < CLASSES → caches_in_range v link regions c ≡ false → sheet_in_range v link regions ≡ false
+  pub caches-fail : (c : ℕ) → c < CLASSES → caches_in_range v link regions c ≡ false
+      → sheet_in_range v link regions ≡ false
   unfolding sheet_in_range
   caches-fail c l e = rw (one-fails CLASSES (caches_in_range v link regions) c l e)
 
@@ -49,14 +50,16 @@ module _ (v : View) (link : ℕ → ℕ) (regions : ℕ) where
   pub requests-fail : requests_in_range v regions ≡ false → sheet_in_range v link regions ≡ false
   unfolding sheet_in_range
   requests-fail e =
-      behind (all_pass CLASSES (caches_in_range v link regions)) (requests_in_range v regions && regions_in_range v regions)
+      behind (all_pass CLASSES (caches_in_range v link regions))
+      (requests_in_range v regions && regions_in_range v regions)
       (rw e)
 
   -- what is read of a region
   pub regions_fail : regions_in_range v regions ≡ false → sheet_in_range v link regions ≡ false
   unfolding sheet_in_range
   regions_fail e =
-      behind (all_pass CLASSES (caches_in_range v link regions)) (requests_in_range v regions && regions_in_range v regions)
+      behind (all_pass CLASSES (caches_in_range v link regions))
+      (requests_in_range v regions && regions_in_range v regions)
       (behind (requests_in_range v regions) (regions_in_range v regions) e)
 
   -- ---- the numbers of the classes before c are filled in

@@ -41,4 +41,5 @@ pub record RowsAre (v : View) (regions : ℕ) (caches requests : List ℕ) (c : 
   pub kept_length : length after ≡ length before
   pub kept : (i : ℕ) → i < place_of c 0 → get_or after i 0 ≡ get_or before i 0
   pub rows : fits ≡ true → (r j : ℕ) → r < REGIONS → j < COLUMNS
-      → get_or after (place_of c r + j) 0 ≡ get_or (four_with v regions (get_or caches r 0) (get_or requests r 0) c r) j 0
+      → get_or after (place_of c r + j) 0
+      ≡ get_or (four_with v regions (get_or caches r 0) (get_or requests r 0) c r) j 0

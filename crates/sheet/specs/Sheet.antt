@@ -35,7 +35,8 @@ four_zeros = 0 ∷ 0 ∷ 0 ∷ 0 ∷ []
 -- and with requests; the fourth is the chain's
 abbrev pub four_by : (hand caches requests c : ℕ) → Opened → List ℕ
 four_by hand caches requests c Closed = four_zeros
-four_by hand caches requests c (Open class chain) = cond (eqb class c) (hand ∷ caches ∷ requests ∷ chain ∷ []) four_zeros
+four_by hand caches requests c (Open class chain) =
+    cond (eqb class c) (hand ∷ caches ∷ requests ∷ chain ∷ []) four_zeros
 four_by hand caches requests c Outside = four_zeros
 
 -- the numbers of the region r for the class c, where so many blocks are in caches and with requests; a region that is

@@ -8,7 +8,7 @@ use Rattle.words.specs.Anchor.{EMPTY, anchor_of, anchor_word, full}
 use Rattle.words.specs.Mark.{with_set}
 use Rattle.classes.specs.Classes.{per_region}
 use Rattle.classes.specs.Geometry.{unit_of}
-use Rattle.plain.specs.Moves.{nothing, anchor-empty, took, anchor-lost}
+use Rattle.plain.specs.Moves.{nothing, anchor_empty, took, anchor_lost}
 use Rattle.control.specs.Layout.{Anchor, Marks, TaskAnchor, CacheTop, CacheCount, TaskIndex, TaskLeft, TaskPlace}
 use Rattle.control.specs.Layout.{TaskDescriptor, TaskRegion, DescriptorRegion, DescriptorClass, Map}
 use Rattle.control.specs.Places.{IDLE, A1, A3_READ, A3_EXCHANGE, A4, A8}
@@ -57,7 +57,7 @@ module _ (v : View) (link : ℕ → ℕ) (regions t c : ℕ) where
       let word = v (Anchor d) in
       cond (is_anchor word)
       (cond (eqb (anchor_of word).state EMPTY)
-      (accept (anchor-empty d) (TaskPlace t := push_place Retire ∷ []) [])
+      (accept (anchor_empty d) (TaskPlace t := push_place Retire ∷ []) [])
       (cond (has_chain n word)
       (accept nothing (TaskPlace t := A3_EXCHANGE ∷ TaskAnchor t := word ∷ []) [])
       bad))
@@ -83,7 +83,7 @@ module _ (v : View) (link : ℕ → ℕ) (regions t c : ℕ) where
       ∷ [])
       [])
       bad)
-      (lose v t (anchor-lost d) A3_READ))
+      (lose v t (anchor_lost d) A3_READ))
       bad
 
   -- the exchange of the anchor of the descriptor in hand

@@ -1,7 +1,8 @@
 -- docs/POOL.md, "Calls and refusals"
 -- The calls of the stepped pool, with their tests in the paper's order: "Start tests 1, 2, 3. Other calls test 1, 4, 2,
 -- 5, then 6 or 7, then 8, 9 or 10, 11. 14 comes where the bad value is read."
-use Rattle.std.specs.Prelude.{ℕ, ◌*◌, ◌/◌, ◌%◌, ◌-◌, ◌≤◌, ◌<◌, ◌≡◌, ◌≢◌, Bool, cond, ◌&&◌, List, [], ◌∷◌, ltb, leb, eqb, length}
+use Rattle.std.specs.Prelude.{ℕ, ◌*◌, ◌/◌, ◌%◌, ◌-◌, ◌≤◌, ◌<◌, ◌≡◌, ◌≢◌, Bool, cond, ◌&&◌, List, [], ◌∷◌, ltb, leb, eqb}
+use Rattle.std.specs.Prelude.{length}
 use Rattle.limits.specs.Limits.{CONTROL_BYTES, REGIONS, REGION_BYTES, AREA_BYTES, TASKS, CLASSES, DESCRIPTORS}
 use Rattle.limits.specs.Limits.{LARGEST_SIZE, LARGEST_STRIP, WORD_MARKS, UNITS, STRIPS_BYTES}
 use Rattle.fields.specs.Columns.{View, ◌:=◌}

@@ -7,7 +7,7 @@ use Rattle.links.specs.Link.{◌⇒◌}
 use Rattle.words.specs.Anchor.{anchor_of, anchor_word, returned}
 use Rattle.classes.specs.Classes.{per_region}
 use Rattle.classes.specs.Geometry.{unit_of, region_of, index_of}
-use Rattle.plain.specs.Moves.{nothing, gave, anchor-lost}
+use Rattle.plain.specs.Moves.{nothing, gave, anchor_lost}
 use Rattle.control.specs.Layout.{Anchor, TaskAnchor, CacheTop, CacheCount, TaskUnit, GroupFirst, GroupLast}
 use Rattle.control.specs.Layout.{GroupCount, TaskPlace, TaskDescriptor, TaskRegion, TaskState, Map}
 use Rattle.control.specs.Places.{IDLE, F2, F3_READ, F3_LINK, F3_EXCHANGE, F4_CLEAR}
@@ -138,7 +138,7 @@ module _ (v : View) (link : ℕ → ℕ) (regions t c : ℕ) where
       cond (is_anchor (v (Anchor d)))
       (cond (eqb (v (Anchor d)) word)
       (f3_won d word first g)
-      (lose v t (anchor-lost d) F3_READ))
+      (lose v t (anchor_lost d) F3_READ))
       bad
 
   -- "Exchange", by the task's notes

@@ -42,22 +42,22 @@ push_place Offer = PUSH_OFFER
 
 -- what the items of a list are
 pub data Items : Type 0 where
-  descriptor-items region-items : Items
+  descriptor_items region_items : Items
 
 -- how many items of a kind there are, in an area of so many regions
 abbrev pub how_many : Items → ℕ → ℕ
-how_many descriptor-items regions = DESCRIPTORS
-how_many region-items regions = regions
+how_many descriptor_items regions = DESCRIPTORS
+how_many region_items regions = regions
 
 -- where the next of an item stands: "Each item's next is in control memory"
 abbrev pub next_field : Items → ℕ → Field
-next_field descriptor-items = DescriptorNext
-next_field region-items = RegionNext
+next_field descriptor_items = DescriptorNext
+next_field region_items = RegionNext
 
 -- where the item stands that the task t has in hand
 abbrev pub hand_field : Items → ℕ → Field
-hand_field descriptor-items = TaskDescriptor
-hand_field region-items = TaskRegion
+hand_field descriptor_items = TaskDescriptor
+hand_field region_items = TaskRegion
 
 -- ---- the list of a move, for a request of the class c, and what its items are
 
@@ -69,9 +69,9 @@ pop_list Region c = SPARE_REGIONS
 
 -- what the items of the list of a pop are
 abbrev pub pop_items : Pop → Items
-pop_items Partial = descriptor-items
-pop_items Spare = descriptor-items
-pop_items Region = region-items
+pop_items Partial = descriptor_items
+pop_items Spare = descriptor_items
+pop_items Region = region_items
 
 -- the list of a push
 abbrev pub push_list : Push → ℕ → ℕ
@@ -82,10 +82,10 @@ push_list Offer c = c
 
 -- what the items of the list of a push are; the task has in hand the one that it pushes
 abbrev pub push_items : Push → Items
-push_items Retire = descriptor-items
-push_items Back = descriptor-items
-push_items Release = region-items
-push_items Offer = descriptor-items
+push_items Retire = descriptor_items
+push_items Back = descriptor_items
+push_items Release = region_items
+push_items Offer = descriptor_items
 
 -- v: what stands in the fields; regions: the started number of them; t: the task, whose class is c
 module _ (v : View) (regions t c : ℕ) where

@@ -11,7 +11,7 @@ use Rattle.strip_tree.specs.Trees.{tree_with, without_free}
 use Rattle.strip_tree.specs.TreeMoves.{find, halving, joining, node_of, slot_of_node, can_begin}
 use Rattle.strip_tree.specs.SlotStates.{IN_HAND, FREE_BEGUN, LAST_BYTE, order_in}
 use Rattle.pieces.specs.StripUnits.{strip_unit, slot_of_unit, is_strip_unit}
-use Rattle.plain.specs.Moves.{nothing, strip-taken, strip-given, no_strip}
+use Rattle.plain.specs.Moves.{nothing, strip_taken, strip_given, no_strip}
 use Rattle.control.specs.Layout.{FreeNodes, SlotByte, TaskLost, TaskPlace, TaskUnit}
 use Rattle.control.specs.Places.{IDLE, STRIP_GIVE}
 use Rattle.control.specs.declared.answer.Answer.TheVariants.{Allocated, Freed, NoStrip}
@@ -38,7 +38,7 @@ module _ (v : View) (t c : ℕ) where
   unfoldable pub strip_take_at : ℕ → ℕ → Outcome
   strip_take_at i j =
       let s = slot_of_node j i in
-      over (Allocated (strip_unit s)) (strip-taken s)
+      over (Allocated (strip_unit s)) (strip_taken s)
       (TaskPlace t := IDLE ∷ SlotByte s := (IN_HAND + c) ∷ tree_writes (halving (without_free (tree_of v) i) (j - c) i))
       []
 
@@ -62,7 +62,7 @@ module _ (v : View) (t : ℕ) where
   strip_give_at s =
       let x = v (SlotByte s) in
       cond (leb FREE_BEGUN x && leb x LAST_BYTE && can_begin s (order_in x))
-      (over Freed (strip-given s)
+      (over Freed (strip_given s)
       (TaskPlace t := IDLE
       ∷ SlotByte s := 0
       ∷ tree_writes (joining (tree_of v) (WHOLE_ORDER - order_in x) (node_of (order_in x) s)))

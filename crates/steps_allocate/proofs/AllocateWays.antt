@@ -9,7 +9,7 @@ use Rattle.fields.specs.Columns.{View, ◌:=◌}
 use Rattle.words.specs.Anchor.{anchor_of}
 use Rattle.words.specs.Mark.{with_set}
 use Rattle.classes.specs.Classes.{per_region}
-use Rattle.plain.specs.Moves.{nothing, anchor-empty, took, anchor-lost}
+use Rattle.plain.specs.Moves.{nothing, anchor_empty, took, anchor_lost}
 use Rattle.control.specs.Layout.{Anchor, Marks, TaskAnchor, CacheTop, CacheCount, TaskIndex, TaskLeft, TaskPlace}
 use Rattle.control.specs.Layout.{TaskDescriptor, TaskRegion, DescriptorRegion}
 use Rattle.control.specs.declared.answer.Answer.TheVariants.{Allocated}
@@ -77,7 +77,7 @@ module _ (v : View) (link : ℕ → ℕ) (regions t c : ℕ) where
 
     module _ (a : is_anchor (v (Anchor d)) ≡ true) where
       pub a3_read_of-empty : is_empty (v (Anchor d)) ≡ true
-          → a3_read_of v link regions t c d ≡ accept (anchor-empty d) (TaskPlace t := PUSH_RETIRE ∷ []) []
+          → a3_read_of v link regions t c d ≡ accept (anchor_empty d) (TaskPlace t := PUSH_RETIRE ∷ []) []
       unfolding a3_read_of
       a3_read_of-empty h = rw (a, h)
 
@@ -108,7 +108,7 @@ module _ (v : View) (link : ℕ → ℕ) (regions t c : ℕ) where
 
     module _ (a : is_anchor (v (Anchor d)) ≡ true) where
       pub a3_exchange_of-lost : (v (Anchor d) ≡ word → ⊥)
-          → a3_exchange_of v link regions t c d word ≡ lose v t (anchor-lost d) A3_READ
+          → a3_exchange_of v link regions t c d word ≡ lose v t (anchor_lost d) A3_READ
       unfolding a3_exchange_of
       a3_exchange_of-lost h = rw (a, ne_eqb _ _ h)
 

@@ -14,7 +14,8 @@ use Rattle.control.specs.declared.moves.Pop.{Pop}
 use Rattle.control.specs.declared.moves.Pop.TheVariants.{Partial, Spare, Region}
 use Rattle.control.specs.Places.{TO_NEXT, TO_EXCHANGE}
 use Rattle.stepped.specs.Outcome.{bad, accept, over, lose}
-use Rattle.stepped.specs.Lists.{how_many, next_field, hand_field, pop_place, pop_list, pop_items, when_empty, when_popped}
+use Rattle.stepped.specs.Lists.{how_many, next_field, hand_field, pop_place, pop_list, pop_items, when_empty}
+use Rattle.stepped.specs.Lists.{when_popped}
 use Rattle.stepped.specs.Lists.{pop_read, pop_next_of, pop_next, pop_exchange}
 use Rattle.stepped.specs.Done.{Done}
 use Rattle.stepped.proofs.Doing.{done, does}

@@ -14,7 +14,8 @@ use Rattle.control.specs.declared.moves.Push.{Push}
 use Rattle.control.specs.declared.moves.Push.TheVariants.{Release, Offer}
 use Rattle.control.specs.Places.{TO_NEXT, TO_EXCHANGE}
 use Rattle.stepped.specs.Outcome.{bad, accept, lose}
-use Rattle.stepped.specs.Lists.{how_many, next_field, hand_field, push_place, push_list, push_items, when_pushed, push_read}
+use Rattle.stepped.specs.Lists.{how_many, next_field, hand_field, push_place, push_list, push_items, when_pushed}
+use Rattle.stepped.specs.Lists.{push_read}
 use Rattle.stepped.specs.Lists.{push_next, push_exchange}
 use Rattle.stepped.specs.Done.{Done}
 use Rattle.stepped.proofs.Doing.{does}

@@ -14,7 +14,7 @@ use Rattle.words.proofs.Anchors.{returned-fits}
 use Rattle.classes.specs.Classes.{per_region}
 use Rattle.classes.specs.Geometry.{unit_of}
 use Rattle.classes.proofs.Tables.{per_region-high}
-use Rattle.plain.specs.Moves.{nothing, gave, anchor-lost}
+use Rattle.plain.specs.Moves.{nothing, gave, anchor_lost}
 use Rattle.control.specs.Layout.{Anchor, TaskAnchor, GroupFirst, GroupLast, GroupCount, TaskPlace, TaskDescriptor}
 use Rattle.control.specs.Layout.{TaskRegion, TaskState, Map}
 use Rattle.control.specs.Places.{PUSH_OFFER, F1, F2, F3_READ, F3_LINK, F3_EXCHANGE, F4_CLEAR}
@@ -110,7 +110,8 @@ module _ (v : View) (link : ℕ → ℕ) (regions t c : ℕ) where
     -- r, i and w are what is read, u and x what the code computes from them
     pub link-written : {r i w u x : ℕ} → r ≡ v (TaskRegion t) → i ≡ v (GroupLast t) → w ≡ v (TaskAnchor t)
         → u ≡ unit_of r c i
-        → x ≡ (anchor_of w).avail → is_anchor (v (TaskAnchor t)) ≡ true → has_first (per_region c) (v (TaskAnchor t)) ≡ true
+        → x ≡ (anchor_of w).avail → is_anchor (v (TaskAnchor t)) ≡ true
+        → has_first (per_region c) (v (TaskAnchor t)) ≡ true
         → f3_link v link regions t c ≡ accept nothing (TaskPlace t := F3_EXCHANGE ∷ []) (u ⇒ x ∷ [])
     unfolding f3_link
     link-written p q s d e a b = rw (d, e, p, q, s, lt-ltb _ _ h, lt-ltb _ _ l, a, b)
@@ -163,7 +164,7 @@ module _ (v : View) (link : ℕ → ℕ) (regions t c : ℕ) where
     anchor-bad h = rw h
 
     pub anchor-changed : is_anchor (v (Anchor d)) ≡ true → (v (Anchor d) ≡ word → ⊥)
-        → f3_exchange_of v link regions t c d word first g ≡ lose v t (anchor-lost d) F3_READ
+        → f3_exchange_of v link regions t c d word first g ≡ lose v t (anchor_lost d) F3_READ
     unfolding f3_exchange_of
     anchor-changed h e = rw (h, ne_eqb _ _ e)
 

@@ -14,7 +14,7 @@ use Rattle.strip_tree.specs.Trees.{without_free}
 use Rattle.strip_tree.specs.TreeMoves.{find, halving, joining, node_of, slot_of_node, can_begin}
 use Rattle.strip_tree.specs.SlotStates.{IN_HAND, FREE_BEGUN, LAST_BYTE, order_in}
 use Rattle.pieces.specs.StripUnits.{strip_unit, slot_of_unit, is_strip_unit}
-use Rattle.plain.specs.Moves.{nothing, strip-taken, strip-given, no_strip}
+use Rattle.plain.specs.Moves.{nothing, strip_taken, strip_given, no_strip}
 use Rattle.control.specs.Layout.{changed, SlotByte, TaskLost, TaskPlace, TaskUnit}
 use Rattle.control.specs.Places.{IDLE, STRIP_GIVE}
 use Rattle.control.specs.declared.answer.Answer.TheVariants.{Allocated, Freed, NoStrip}
@@ -40,7 +40,7 @@ module _ (v : View) (t c : ℕ) where
   module _ (tree : Tree) (read : tree ≡ tree_of v) where
     pub cut : (i j : ℕ)
         → strip_take_at v t c i j
-        ≡ over (Allocated (strip_unit (slot_of_node j i))) (strip-taken (slot_of_node j i))
+        ≡ over (Allocated (strip_unit (slot_of_node j i))) (strip_taken (slot_of_node j i))
         (TaskPlace t := IDLE
         ∷ SlotByte (slot_of_node j i) := (IN_HAND + c)
         ∷ tree_writes (halving (without_free tree i) (j - c) i))
@@ -75,7 +75,8 @@ module _ (v : View) (t : ℕ) where
   unfolding begin_free_strip
   begin-nowhere u h = rw h
 
-  pub begin-there : (u s : ℕ) → s ≡ slot_of_unit u → is_strip_unit u ≡ true → begin_free_strip v t u ≡ begin_free_at v t u s
+  pub begin-there : (u s : ℕ) → s ≡ slot_of_unit u → is_strip_unit u ≡ true
+      → begin_free_strip v t u ≡ begin_free_at v t u s
   unfolding begin_free_strip
   begin-there u s e h = rw (e, h)
 
@@ -99,7 +100,7 @@ module _ (v : View) (t : ℕ) where
 
         pub give-done : can_begin s k ≡ true
             → strip_give_at v t s
-            ≡ over Freed (strip-given s)
+            ≡ over Freed (strip_given s)
             (TaskPlace t := IDLE
             ∷ SlotByte s := 0
             ∷ tree_writes (joining (tree_of v) (WHOLE_ORDER - k) (node_of k s)))

@@ -31,7 +31,8 @@ module _ (t : Tree) where
   lowest-zero zero i p e y a b = absurd (omega arith)
   lowest-zero (suc n) i p e y a b = by (true? (is_free_node t i)) (same? y i) (lowest-zero n (suc i) (omega arith))
     where
-      by : Truth (is_free_node t i) → Equality y i → (lowest t n (suc i) ≡ 0 → NoneOf n (suc i)) → is_free_node t y ≡ false
+      by : Truth (is_free_node t i) → Equality y i → (lowest t n (suc i) ≡ 0 → NoneOf n (suc i))
+          → is_free_node t y ≡ false
       by (holds d) o f =
           let z : i ≡ 0 = rw d at e in
           absurd (omega arith)

@@ -40,7 +40,8 @@ module _ (t : Tree) where
   lowest-found (suc n) i x a b e h = by (same? i x) (lowest-found n (suc i) x)
     where
       by : Equality i x
-          → (suc i ≤ x → x < suc i + n → is_free_node t x ≡ true → ((y : ℕ) → suc i ≤ y → y < x → is_free_node t y ≡ false)
+          → (suc i ≤ x → x < suc i + n → is_free_node t x ≡ true
+          → ((y : ℕ) → suc i ≤ y → y < x → is_free_node t y ≡ false)
           → lowest t n (suc i) ≡ x) → lowest t (suc n) i ≡ x
       by (same d) f = rw (d, e)
       by (other d) f =
@@ -66,7 +67,8 @@ module _ (t : Tree) where
         bit : bit_at x (count_trailing_zeros WORD_MARKS x) ≡ 1
         bit = (zeros-set WORD_MARKS x h wide).1
 
-        below : (y : ℕ) → count_trailing_zeros WORD_MARKS x < p → from ≤ y → y < from + count_trailing_zeros WORD_MARKS x
+        below : (y : ℕ) → count_trailing_zeros WORD_MARKS x < p → from ≤ y
+            → y < from + count_trailing_zeros WORD_MARKS x
             → is_free_node t y ≡ false
         below y l a b =
             let d : from + (y - from) ≡ y = omega arith in
@@ -77,7 +79,8 @@ module _ (t : Tree) where
         at (before l) =
             lowest-found p from (from + count_trailing_zeros WORD_MARKS x) (omega arith) (omega arith)
             (are (count_trailing_zeros WORD_MARKS x) l ∙ eq-eqb _ _ bit) (λ y a b. below y l a b)
-        at (after g) = absurd (omega (arith, bit, bit_past x (count_trailing_zeros WORD_MARKS x) (omega (arith, pow_mono g))))
+        at (after g) =
+            absurd (omega (arith, bit, bit_past x (count_trailing_zeros WORD_MARKS x) (omega (arith, pow_mono g))))
 
     pub in-word : low_bit x from ≡ lowest t p from
     in-word = by (same? x 0)
@@ -88,7 +91,8 @@ module _ (t : Tree) where
 
   -- ---- the nodes of a word
 
-  nodes-of : (w from y : ℕ) → from ≡ WORD_MARKS * w → y < WORD_MARKS → is_free_node t (from + y) ≡ is_set (tree_word t w) y
+  nodes-of : (w from y : ℕ) → from ≡ WORD_MARKS * w → y < WORD_MARKS
+      → is_free_node t (from + y) ≡ is_set (tree_word t w) y
   unfolding is_free_node
   nodes-of w from y e h =
       let q : (from + y) / WORD_MARKS ≡ w = omega arith in

@@ -53,12 +53,14 @@ module _ (t : Tree) (i : ℕ) (fits : i < NODES) (w : ℕ) where
   unfolding is_free_node
   changed-here b e = rw word-here e
 
-  changed-other : (j : ℕ) → j ≢ i → ((x : ℕ) → x ≢ i % WORD_MARKS → bit_at w x ≡ bit_at (tree_word t (i / WORD_MARKS)) x)
+  changed-other : (j : ℕ) → j ≢ i
+      → ((x : ℕ) → x ≢ i % WORD_MARKS → bit_at w x ≡ bit_at (tree_word t (i / WORD_MARKS)) x)
       → is_free_node (with_word t (i / WORD_MARKS) w) j ≡ is_free_node t j
   unfolding is_free_node
   changed-other j d h = by (same? (j / WORD_MARKS) (i / WORD_MARKS))
     where
-      by : Equality (j / WORD_MARKS) (i / WORD_MARKS) → is_free_node (with_word t (i / WORD_MARKS) w) j ≡ is_free_node t j
+      by : Equality (j / WORD_MARKS) (i / WORD_MARKS)
+          → is_free_node (with_word t (i / WORD_MARKS) w) j ≡ is_free_node t j
       by (same e) = rw (e, word-here, h (j % WORD_MARKS) (λ f. d (omega arith)))
       by (other e) = rw (word-other t (i / WORD_MARKS) w (j / WORD_MARKS) e)
 

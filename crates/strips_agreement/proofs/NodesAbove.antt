@@ -62,7 +62,8 @@ pub record Halves (a b c : ℕ) : Type 0 where
   pub above : a < b
   pub beside : a < c
   pub apart : (m n y : ℕ) → node_above m y ≡ b → node_above n y ≡ c → ⊥
-  pub either : (m y : ℕ) → node_above m y ≡ a → y ≢ a → ((n : ℕ) × (node_above n y ≡ b)) ⊎ ((n : ℕ) × (node_above n y ≡ c))
+  pub either : (m y : ℕ) → node_above m y ≡ a → y ≢ a
+      → ((n : ℕ) × (node_above n y ≡ b)) ⊎ ((n : ℕ) × (node_above n y ≡ c))
 
 pub lower-first : (a : ℕ) → 1 ≤ a → Halves a (2 * a) (2 * a + 1)
 lower-first a h = record {

@@ -61,7 +61,8 @@ module _ (t : Tree) (byte task : ℕ → ℕ) where
       rw (f, d) at (h 0 n x refl (some n))
 
   whole-shows : (n i s : ℕ) (u : PieceState) → n ≤ WHOLE_ORDER → Image t i (whole {n = n} u)
-      → Bytes byte (whole {n = n} u) s → Tasks (whole {n = n} u) s → observed_pieces t byte task n i s ≡ piece s n u ∷ []
+      → Bytes byte (whole {n = n} u) s → Tasks (whole {n = n} u) s
+      → observed_pieces t byte task n i s ≡ piece s n u ∷ []
   whole-shows zero i s u g im b k =
       whole-shown 0 i s u [] im g (first_byte byte (whole {n = 0} u) s b) (whole-tasks 0 s u k)
   whole-shows (suc n) i s u g im b k =

@@ -82,7 +82,8 @@ none_free (whole {n} (begun t)) q k e =
     omega arith
 none_free (halves {n} l r) q k e = by (order? q (slots_in n)) (none_free l q k) (none_free r (q - slots_in n) k)
   where
-    by : Order q (slots_in n) → (strip_starts l q ≡ here k free → ⊥) → (strip_starts r (q - slots_in n) ≡ here k free → ⊥)
+    by : Order q (slots_in n) → (strip_starts l q ≡ here k free → ⊥)
+        → (strip_starts r (q - slots_in n) ≡ here k free → ⊥)
         → ⊥
     by (before c) f g = f (rw (lt-ltb _ _ c) at e)
     by (after c) f g = g (rw (le-ltb _ _ c) at e)

@@ -32,7 +32,8 @@ pub data Joining (t w : Tree) (a : ℕ) {n : ℕ} (new : Pieces n) (e : ℕ) : T
 record Makes (a b c : ℕ) {n : ℕ} (x y : Pieces n) (new : Pieces (suc n)) : Type 0 where
   both : is_free_piece x ≡ true → is_free_piece y ≡ true → is_free_piece new ≡ true
   used : (is_free_piece x && is_free_piece y) ≡ false → is_free_piece new ≡ false
-  image : (w : Tree) → (is_free_piece x && is_free_piece y) ≡ false → is_free_node w a ≡ false → Image w b x → Image w c y
+  image : (w : Tree) → (is_free_piece x && is_free_piece y) ≡ false → is_free_node w a ≡ false → Image w b x
+      → Image w c y
       → Image w a new
 
 and_comm : (x y : Bool) → (x && y) ≡ (y && x)
@@ -67,7 +68,8 @@ module _ {a b c : ℕ} (h : Halves a b c) (pair : buddy b ≡ c) (fits-b : b < N
     cleared-bare : is_free_piece y ≡ true → Bare (without_free u c) a
     cleared-bare f m z p = by (same? z a)
       where
-        at : ((k : ℕ) × (node_above k z ≡ b)) ⊎ ((k : ℕ) × (node_above k z ≡ c)) → is_free_node (without_free u c) z ≡ false
+        at : ((k : ℕ) × (node_above k z ≡ b)) ⊎ ((k : ℕ) × (node_above k z ≡ c))
+            → is_free_node (without_free u c) z ≡ false
         at (inl q) = clear-other-node u c fits-c z (λ e. h.apart q.0 0 z q.1 e) ∙ bare-b q.0 z q.1
         at (inr q) =
             clear-bare u c fits-c
@@ -200,6 +202,8 @@ joins t a (halves {n} l r) k q s room im e =
         → (strip_starts r (q - slots_in n) ≡ here k s
         → Joins t (2 * a + 1) (give_strip (q - slots_in n) r) k (q - slots_in n))
         → Joins t a (give_strip q (halves l r)) k q
-    by (before h) f g = rw (lt-ltb _ _ h) (lower-joins t a l r k q room im (give_strip q l) (f (rw (lt-ltb _ _ h) at e)))
+    by (before h) f g =
+        rw (lt-ltb _ _ h) (lower-joins t a l r k q room im (give_strip q l) (f (rw (lt-ltb _ _ h) at e)))
     by (after h) f g =
-        rw (le-ltb _ _ h) (upper-joins t a l r k q room im (give_strip (q - slots_in n) r) h (g (rw (le-ltb _ _ h) at e)))
+        rw (le-ltb _ _ h)
+        (upper-joins t a l r k q room im (give_strip (q - slots_in n) r) h (g (rw (le-ltb _ _ h) at e)))

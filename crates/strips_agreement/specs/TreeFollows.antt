@@ -18,7 +18,8 @@ node_above (suc m) y = node_above m (y / 2)
 -- a whole piece the node is free exactly where the piece is, and no node below it; of halves the node is not free
 abbrev pub Image : Tree → ℕ → {n : ℕ} → Pieces n → Type 0
 Image t i (whole {n} s) =
-    (is_free_node t i ≡ is_free_piece (whole {n = n} s)) × ((m y : ℕ) → node_above m y ≡ i → y ≢ i → is_free_node t y ≡ false)
+    (is_free_node t i ≡ is_free_piece (whole {n = n} s))
+    × ((m y : ℕ) → node_above m y ≡ i → y ≢ i → is_free_node t y ≡ false)
 Image t i (halves l r) = (is_free_node t i ≡ false) × Image t (2 * i) l × Image t (2 * i + 1) r
 
 -- "where no strip starts", "whose free has begun": the byte of a slot, by what starts there

@@ -53,4 +53,5 @@ total_word = 116 ∷ 111 ∷ 116 ∷ 97 ∷ 108 ∷ 32 ∷ []
 
 -- "The last line counts codes 20, codes 0 and the others."
 unfoldable pub total_text : ℕ → ℕ → ℕ → List ℕ
-total_text finished accepted others = total_word ++ field_text finished 32 ++ field_text accepted 32 ++ field_text others 10
+total_text finished accepted others =
+    total_word ++ field_text finished 32 ++ field_text accepted 32 ++ field_text others 10

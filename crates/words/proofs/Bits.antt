@@ -1,6 +1,7 @@
 -- The bits of a number. Adding 2 ^ i to a number whose bit i is 0 changes that bit alone; a mask with one bit
 -- set adds that bit by `or`, and its complement takes it away by `and`.
-use Rattle.std.proofs.Common.{◌≡◌, ℕ, ◌+◌, ◌-◌, ◌*◌, ◌/◌, ◌%◌, ◌^◌, ◌<◌, ◌≢◌, sym, ap, ◌∙◌, subst, ap₂, mod-lt, mod-eq_of_lt, div-add-mod', arith, pow_pos, pow-add, shr-shr, shr_lt}
+use Rattle.std.proofs.Common.{◌≡◌, ℕ, ◌+◌, ◌-◌, ◌*◌, ◌/◌, ◌%◌, ◌^◌, ◌<◌, ◌≢◌, sym, ap, ◌∙◌, subst, ap₂, mod-lt}
+use Rattle.std.proofs.Common.{mod-eq_of_lt, div-add-mod', arith, pow_pos, pow-add, shr-shr, shr_lt}
 use native.Mathlib.Nat.{add-div_right, add-mod_right}
 use native.Mathlib.Decide.{dec_lt}
 use lib.Bits.{bit_and, bit_or, and_high, or_add_and, and_block, and_mask}

@@ -28,7 +28,8 @@ module _ (n k : ℕ) where
   low_of (suc d) e i f h = absurd (omega arith)
 
 -- the lowest set bit is set
-pub zeros-set : (k n : ℕ) → 0 < n → n < 2 ^ k → (count_trailing_zeros k n < k) × (bit_at n (count_trailing_zeros k n) ≡ 1)
+pub zeros-set : (k n : ℕ) → 0 < n → n < 2 ^ k
+    → (count_trailing_zeros k n < k) × (bit_at n (count_trailing_zeros k n) ≡ 1)
 unfolding count_trailing_zeros
 zeros-set zero n h l = absurd (omega arith)
 zeros-set (suc k) n h l =

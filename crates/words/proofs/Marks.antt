@@ -1,5 +1,6 @@
 -- Setting and clearing a mark changes its own bit of the word alone.
-use Rattle.std.proofs.Common.{◌≡◌, ℕ, ◌+◌, ◌-◌, ◌*◌, ◌/◌, ◌%◌, ◌^◌, ◌<◌, eqb, ◌≢◌, ◌⊎◌, sym, refl, ap, ◌∙◌, inl, inr, one-mul, arith, pow_pos, shl_exact, eq-eqb, ne_eqb}
+use Rattle.std.proofs.Common.{◌≡◌, ℕ, ◌+◌, ◌-◌, ◌*◌, ◌/◌, ◌%◌, ◌^◌, ◌<◌, eqb, ◌≢◌, ◌⊎◌, sym, refl, ap, ◌∙◌, inl, inr}
+use Rattle.std.proofs.Common.{one-mul, arith, pow_pos, shl_exact, eq-eqb, ne_eqb}
 use native.Mathlib.Nat.{add-div_right}
 use native.Mathlib.Decide.{dec_lt}
 use lib.Bits.{bit_and, bit_or, and_mask, and_le_l, or_lt}

@@ -11,10 +11,12 @@ use Rattle.holders.proofs.in_cache.Goals as goal
 
 pub added-requires : goal.added-requires
 added-requires c =
-    let has : ℕ → ℕ = λ r. in_region r (cache_row (seen c.args.control.now) (link c.args.area.now) c.args.task c.args.class) in
+    let has : ℕ → ℕ =
+    λ r. in_region r (cache_row (seen c.args.control.now) (link c.args.area.now) c.args.task c.args.class) in
     (omega arith, omega arith, task-small has c.cache.ensures _ (omega arith) (λ r e. cache-max _ _ _ _ _ r e))
 
 pub returns : goal.returns
 returns c =
-    let has : ℕ → ℕ = λ r. in_region r (cache_row (seen c.args.control.now) (link c.args.area.now) c.args.task c.args.class) in
+    let has : ℕ → ℕ =
+    λ r. in_region r (cache_row (seen c.args.control.now) (link c.args.area.now) c.args.task c.args.class) in
     task-number has c.cache.ensures _ _ _ (omega arith) c.added.ensures

@@ -8,4 +8,5 @@ use Rattle.links.proofs.write_in_region.Goals as goal
 pub returns : goal.returns
 returns c =
     let s = REGION_BYTES * c.args.region in
-    cc (link-part c.args.area.now c.args.region (s + REGION_BYTES - s) c.args.unit c.args.to (omega arith) (omega arith))
+    cc (link-part c.args.area.now c.args.region (s + REGION_BYTES - s) c.args.unit c.args.to (omega arith)
+    (omega arith))

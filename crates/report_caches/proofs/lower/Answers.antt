@@ -5,7 +5,8 @@ use Rattle.report_caches.proofs.LowestBlocks.{lower-elsewhere, lower-there, lowe
 use Rattle.report_caches.proofs.lower.Goals as goal
 
 pub returns-then-region_of-region : goal.returns-then-region_of-region
-returns-then-region_of-region c = sym (lower-elsewhere _ _ _ (λ e. c.if-region_of-region.true (c.region_of.ensures ∙ e)))
+returns-then-region_of-region c =
+    sym (lower-elsewhere _ _ _ (λ e. c.if-region_of-region.true (c.region_of.ensures ∙ e)))
 
 pub returns-then-unit-low : goal.returns-then-unit-low
 returns-then-unit-low c =

@@ -24,7 +24,12 @@ overflow_add-counts c =
     )
 
 pub read-unit-requires : goal.read-unit-requires
-read-unit-requires c = omega (arith, block-passed c.args.regions c.args.class c.loop-left.unit (sym c.is_block.ensures ∙ c.if-not-is_block.false), c.requires)
+read-unit-requires c = omega (
+  arith,
+  block-passed c.args.regions c.args.class c.loop-left.unit
+      (sym c.is_block.ensures ∙ c.if-not-is_block.false),
+  c.requires,
+)
 
 pub loop-left-preserved : goal.loop-left-preserved
 loop-left-preserved c =
@@ -37,16 +42,40 @@ returns c = walk_ends c.loop-left.invariant (omega arith) refl
 
 pub offset_bounds-counts-region : goal.offset_bounds-counts-region
 offset_bounds-counts-region c =
-    omega (arith, block-passed c.args.regions c.args.class c.loop-left.unit (sym c.is_block.ensures ∙ c.if-not-is_block.false), c.region_of-region.ensures, c.requires)
+    omega (
+      arith,
+      block-passed c.args.regions c.args.class c.loop-left.unit
+          (sym c.is_block.ensures ∙ c.if-not-is_block.false),
+      c.region_of-region.ensures,
+      c.requires,
+    )
 
 pub bounds-counts-region : goal.bounds-counts-region
 bounds-counts-region c =
-    omega (arith, block-passed c.args.regions c.args.class c.loop-left.unit (sym c.is_block.ensures ∙ c.if-not-is_block.false), c.region_of-region.ensures, c.requires)
+    omega (
+      arith,
+      block-passed c.args.regions c.args.class c.loop-left.unit
+          (sym c.is_block.ensures ∙ c.if-not-is_block.false),
+      c.region_of-region.ensures,
+      c.requires,
+    )
 
 pub offset_bounds-counts-region-in-loop-left : goal.offset_bounds-counts-region-in-loop-left
 offset_bounds-counts-region-in-loop-left c =
-    omega (arith, block-passed c.args.regions c.args.class c.loop-left.unit (sym c.is_block.ensures ∙ c.if-not-is_block.false), c.region_of-region.ensures, c.requires)
+    omega (
+      arith,
+      block-passed c.args.regions c.args.class c.loop-left.unit
+          (sym c.is_block.ensures ∙ c.if-not-is_block.false),
+      c.region_of-region.ensures,
+      c.requires,
+    )
 
 pub bounds-counts-region-in-loop-left : goal.bounds-counts-region-in-loop-left
 bounds-counts-region-in-loop-left c =
-    omega (arith, block-passed c.args.regions c.args.class c.loop-left.unit (sym c.is_block.ensures ∙ c.if-not-is_block.false), c.region_of-region.ensures, c.requires)
+    omega (
+      arith,
+      block-passed c.args.regions c.args.class c.loop-left.unit
+          (sym c.is_block.ensures ∙ c.if-not-is_block.false),
+      c.region_of-region.ensures,
+      c.requires,
+    )

@@ -14,7 +14,8 @@ use Rattle.report_marks.proofs.in_hand.Goals as goal
 pub loop-word-init : goal.loop-word-init
 loop-word-init c = (
   omega arith,
-  sym (passing-none 0 (first_marked (seen c.args.control.now) c.args.region c.args.class) (λ i l. absurd (omega arith))),
+  sym (passing-none 0 (first_marked (seen c.args.control.now) c.args.region c.args.class)
+      (λ i l. absurd (omega arith))),
 )
 
 pub overflow_cast-held : goal.overflow_cast-held

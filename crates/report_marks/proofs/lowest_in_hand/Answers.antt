@@ -20,7 +20,8 @@ returns-then-held-ne0 c =
     first-in-word v c.args.region c.args.class k _ _ c.marks-marks.ensures c.mask.ensures
     c.loop-word.invariant.1 c.if-held-ne0.true in
     let low = count_trailing_zeros WORD_MARKS (bit_and c.marks-marks.result c.mask.result) in
-    let e : REGION_UNITS * c.args.region + WORD_MARKS * k + low ≡ REGION_UNITS * c.args.region + (WORD_MARKS * k + low) =
+    let e :
+    REGION_UNITS * c.args.region + WORD_MARKS * k + low ≡ REGION_UNITS * c.args.region + (WORD_MARKS * k + low) =
     omega arith in
     e ∙ lowest-found v c.args.region c.args.class (WORD_MARKS * k + low) (omega (arith, found.0)) found.1 found.2
 

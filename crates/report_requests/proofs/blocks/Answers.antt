@@ -8,10 +8,12 @@ pub returns-then-place-eq-A4 : goal.returns-then-place-eq-A4
 returns-then-place-eq-A4 c = blocks-left _ _ _ _ (omega arith) c.task_left.ensures
 
 pub returns-then-n-index : goal.returns-then-n-index
-returns-then-n-index c = blocks-carved _ _ _ _ (λ e. omega arith) (omega arith) (omega (arith, c.task_index-index.ensures))
+returns-then-n-index c =
+    blocks-carved _ _ _ _ (λ e. omega arith) (omega arith) (omega (arith, c.task_index-index.ensures))
 
 pub returns-then-place-eq-A8 : goal.returns-then-place-eq-A8
-returns-then-place-eq-A8 c = blocks-carved _ _ _ _ (λ e. omega arith) (omega arith) (omega (arith, c.task_index-index.ensures))
+returns-then-place-eq-A8 c =
+    blocks-carved _ _ _ _ (λ e. omega arith) (omega arith) (omega (arith, c.task_index-index.ensures))
 
 pub returns : goal.returns
 returns c = blocks-grouped _ _ _ _ (omega arith) (omega arith) c.group_count.ensures

@@ -29,8 +29,8 @@ loop-region-preserved c =
       omega arith,
       subst (λ (q : List ℕ). RowsTo v c.args.regions c.args.caches c.args.requests c.args.class first (x.region + 1) q)
           (sym c.put.ensures)
-          (rows_next v c.args.regions c.args.caches c.args.requests c.args.class first x.region x.numbers c.four_of-four.result
-          (omega arith) (omega arith) (omega arith) x.invariant.1 c.four_of-four.ensures
+          (rows_next v c.args.regions c.args.caches c.args.requests c.args.class first x.region x.numbers
+          c.four_of-four.result (omega arith) (omega arith) (omega arith) x.invariant.1 c.four_of-four.ensures
           (passed refl c.if-not-four.false)),
     )
 

@@ -7,7 +7,8 @@ use Rattle.sheet.proofs.rows.Given as goal
 
 abbrev pub invariant-loop-region : goal.invariant-loop-region
 invariant-loop-region l =
-    (l.region ≤ REGIONS) × RowsTo (seen l.control) l.regions l.caches l.requests l.class l.initial.numbers l.region l.numbers
+    (l.region ≤ REGIONS)
+    × RowsTo (seen l.control) l.regions l.caches l.requests l.class l.initial.numbers l.region l.numbers
 
 abbrev pub decreases-loop-region : goal.decreases-loop-region
 decreases-loop-region l = REGIONS - l.region

@@ -7,7 +7,8 @@ use Rattle.start.proofs.clear.Given as goal
 
 abbrev pub invariant-loop-i : goal.invariant-loop-i
 invariant-loop-i l =
-    (l.i ≤ length l.initial.control) × (l.control ≡ replicate l.i 0 ++ drop l.i l.initial.control) × (length l.control ≡ length l.initial.control)
+    (l.i ≤ length l.initial.control) × (l.control ≡ replicate l.i 0 ++ drop l.i l.initial.control)
+    × (length l.control ≡ length l.initial.control)
 
 abbrev pub decreases-loop-i : goal.decreases-loop-i
 decreases-loop-i l = length l.initial.control - l.i

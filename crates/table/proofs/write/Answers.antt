@@ -21,7 +21,8 @@ loop-at-preserved c =
     let entry = c.numbered-entry.ensures in
     let done = c.treat_with-treated.ensures in
     let short-is =
-    short _ input c.loop-at.at c.loop-at.number entry (omega (arith, inv.0.few, c.requires.1, c.loop-at-test.true)) done.0
+    short _ input c.loop-at.at c.loop-at.number entry (omega (arith, inv.0.few, c.requires.1, c.loop-at-test.true))
+    done.0
     (omega (arith, c.treat_with-treated.type_inv)) (omega (arith, c.treat_with-treated.type_inv)) in (
       goes_on _ input inv.0 (omega arith) entry done.0 (written, short-is) done.1 c.end-at.ensures,
       search (rules, inv.1),

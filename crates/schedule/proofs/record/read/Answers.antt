@@ -17,10 +17,12 @@ pub returns-then-kind-eq-STEP_KIND : goal.returns-then-kind-eq-STEP_KIND
 returns-then-kind-eq-STEP_KIND c = step-whole _ _ (omega arith) (omega arith) (omega arith) (omega arith)
 
 pub returns-then-left-lt-TASK_BYTES-2 : goal.returns-then-left-lt-TASK_BYTES-2
-returns-then-left-lt-TASK_BYTES-2 c = leave-cut _ _ (omega arith) (omega arith) (λ e. omega arith) (omega arith) (omega arith)
+returns-then-left-lt-TASK_BYTES-2 c =
+    leave-cut _ _ (omega arith) (omega arith) (λ e. omega arith) (omega arith) (omega arith)
 
 pub returns-then-kind-eq-LEAVE_KIND : goal.returns-then-kind-eq-LEAVE_KIND
-returns-then-kind-eq-LEAVE_KIND c = leave-whole _ _ (omega arith) (omega arith) (λ e. omega arith) (omega arith) (omega arith)
+returns-then-kind-eq-LEAVE_KIND c =
+    leave-whole _ _ (omega arith) (omega arith) (λ e. omega arith) (omega arith) (omega arith)
 
 pub returns-then-left-lt-START_BYTES : goal.returns-then-left-lt-START_BYTES
 returns-then-left-lt-START_BYTES c =

@@ -16,7 +16,8 @@ pub returns-then-place-eq-A3_READ : goal.returns-then-place-eq-A3_READ
 returns-then-place-eq-A3_READ c = does-in (at _ _ _ _ _ A3_READ refl (omega arith)) (lends (c.read.ensures _ _))
 
 pub returns-then-place-eq-A3_EXCHANGE : goal.returns-then-place-eq-A3_EXCHANGE
-returns-then-place-eq-A3_EXCHANGE c = does-in (at _ _ _ _ _ A3_EXCHANGE refl (omega arith)) (lends (c.exchange.ensures _))
+returns-then-place-eq-A3_EXCHANGE c =
+    does-in (at _ _ _ _ _ A3_EXCHANGE refl (omega arith)) (lends (c.exchange.ensures _))
 
 pub returns : goal.returns
 returns c = does-in (at _ _ _ _ _ A7 refl (omega arith)) (lends (c.open.ensures _))

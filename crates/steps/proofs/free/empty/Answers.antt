@@ -16,7 +16,8 @@ pub returns-then-place-eq-F3_LINK : goal.returns-then-place-eq-F3_LINK
 returns-then-place-eq-F3_LINK c = does-in (at _ _ _ _ _ F3_LINK refl (omega arith)) c.write_last.ensures
 
 pub returns-then-place-eq-F3_EXCHANGE : goal.returns-then-place-eq-F3_EXCHANGE
-returns-then-place-eq-F3_EXCHANGE c = does-in (at _ _ _ _ _ F3_EXCHANGE refl (omega arith)) (lends (c.exchange.ensures _))
+returns-then-place-eq-F3_EXCHANGE c =
+    does-in (at _ _ _ _ _ F3_EXCHANGE refl (omega arith)) (lends (c.exchange.ensures _))
 
 pub returns : goal.returns
 returns c = does-in (at _ _ _ _ _ F4_CLEAR refl (omega arith)) (lends (c.clear.ensures _))

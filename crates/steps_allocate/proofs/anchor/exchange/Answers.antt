@@ -12,7 +12,8 @@ pub returns-then-descriptor-ge-DESCRIPTORS : goal.returns-then-descriptor-ge-DES
 returns-then-descriptor-ge-DESCRIPTORS c link = done (a3_exchange-none _ _ _ _ _ (omega arith)) refl refl refl
 
 pub returns-then-not-has_chain : goal.returns-then-not-has_chain
-returns-then-not-has_chain c link = done (a3_exchange-chain _ _ _ _ _ (omega arith) (search (failed-for has_chain))) refl refl refl
+returns-then-not-has_chain c link =
+    done (a3_exchange-chain _ _ _ _ _ (omega arith) (search (failed-for has_chain))) refl refl refl
 
 pub returns : goal.returns
 returns c link =

@@ -10,7 +10,8 @@ use Rattle.steps_allocate.proofs.AllocateWays.{a3_exchange_of-won}
 use Rattle.steps_allocate.proofs.anchor.exchange_of.Goals as goal
 
 pub returns-then-not-is_anchor : goal.returns-then-not-is_anchor
-returns-then-not-is_anchor c link = done (a3_exchange_of-none _ _ _ _ _ _ _ (search (failed-at is_anchor))) refl refl refl
+returns-then-not-is_anchor c link =
+    done (a3_exchange_of-none _ _ _ _ _ _ _ (search (failed-at is_anchor))) refl refl refl
 
 pub returns-then-found-word : goal.returns-then-found-word
 returns-then-found-word c link =

@@ -8,7 +8,8 @@ use Rattle.steps_allocate.proofs.AllocateWays.{a3_read_of-none, a3_read_of-empty
 use Rattle.steps_allocate.proofs.anchor.read_of.Goals as goal
 
 pub returns-then-not-is_anchor : goal.returns-then-not-is_anchor
-returns-then-not-is_anchor c regions link = done (a3_read_of-none _ _ _ _ _ _ (search (failed-at is_anchor))) refl refl refl
+returns-then-not-is_anchor c regions link =
+    done (a3_read_of-none _ _ _ _ _ _ (search (failed-at is_anchor))) refl refl refl
 
 pub returns-then-is_empty : goal.returns-then-is_empty
 returns-then-is_empty c regions link =

@@ -15,4 +15,5 @@ pub returns-then-left-lt1 : goal.returns-then-left-lt1
 returns-then-left-lt1 c = done-in (a4-none _ _ _ _ _ (omega arith) (omega arith) (omega arith)) refl refl refl
 
 pub returns-then-n-left : goal.returns-then-n-left
-returns-then-n-left c = done-in (a4-many _ _ _ _ _ (omega arith) (omega arith) (omega arith) (omega arith)) refl refl refl
+returns-then-n-left c =
+    done-in (a4-many _ _ _ _ _ (omega arith) (omega arith) (omega arith) (omega arith)) refl refl refl

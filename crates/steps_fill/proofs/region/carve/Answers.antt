@@ -18,7 +18,8 @@ pub returns-then-n-count : goal.returns-then-n-count
 returns-then-n-count c = done-in (a8-full _ _ _ _ _ (omega arith) (omega arith) (omega arith)) refl refl refl
 
 pub returns-then-not-is_top : goal.returns-then-not-is_top
-returns-then-not-is_top c = done-in (a8-top _ _ _ _ _ (omega arith) (omega arith) (omega arith) (search failed-top)) refl refl refl
+returns-then-not-is_top c =
+    done-in (a8-top _ _ _ _ _ (omega arith) (omega arith) (omega arith) (search failed-top)) refl refl refl
 
 pub returns : goal.returns
 returns c =

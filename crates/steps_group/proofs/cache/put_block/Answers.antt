@@ -10,7 +10,8 @@ use Rattle.steps_group.proofs.PuttingWays.{no_block, no_top, is-put}
 use Rattle.steps_group.proofs.cache.put_block.Goals as goal
 
 pub returns-then-not-is_block : goal.returns-then-not-is_block
-returns-then-not-is_block c = done-in (no_block _ _ _ _ _ _ _ _ (failed c.is_block.ensures (ap not c.if-not-is_block.true))) refl refl refl
+returns-then-not-is_block c =
+    done-in (no_block _ _ _ _ _ _ _ _ (failed c.is_block.ensures (ap not c.if-not-is_block.true))) refl refl refl
 
 pub returns-then-not-is_top : goal.returns-then-not-is_top
 returns-then-not-is_top c =

@@ -9,7 +9,8 @@ use Rattle.steps_group.proofs.GroupingWays.{top-bad, top-first, region-bad, top-
 use Rattle.steps_group.proofs.group.take_top.Goals as goal
 
 pub returns-then-not-is_block : goal.returns-then-not-is_block
-returns-then-not-is_block c = done-in (top-bad _ _ _ _ _ _ _ _ (failed c.is_block.ensures (ap not c.if-not-is_block.true))) refl refl refl
+returns-then-not-is_block c =
+    done-in (top-bad _ _ _ _ _ _ _ _ (failed c.is_block.ensures (ap not c.if-not-is_block.true))) refl refl refl
 
 pub returns-then-group-eq0 : goal.returns-then-group-eq0
 returns-then-group-eq0 c =

@@ -16,7 +16,8 @@ pub returns-then-most-next : goal.returns-then-most-next
 returns-then-most-next c = done (after-large _ _ _ _ _ (omega arith) (omega arith) (omega arith)) refl refl refl
 
 pub returns-then-most-top : goal.returns-then-most-top
-returns-then-most-top c = done (head-large _ _ _ _ _ (omega arith) (omega arith) (omega arith) (omega arith)) refl refl refl
+returns-then-most-top c =
+    done (head-large _ _ _ _ _ (omega arith) (omega arith) (omega arith) (omega arith)) refl refl refl
 
 pub returns-then-word-noted : goal.returns-then-word-noted
 returns-then-word-noted c =

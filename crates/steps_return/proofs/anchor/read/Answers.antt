@@ -12,7 +12,8 @@ pub returns-then-group-lt1 : goal.returns-then-group-lt1
 returns-then-group-lt1 c = λ link. done (read-no-group _ link _ _ _ (omega arith) (omega arith)) refl refl refl
 
 pub returns-then-per_region-group : goal.returns-then-per_region-group
-returns-then-per_region-group c = λ link. done (read-large _ link _ _ _ (omega arith) (omega arith) (omega arith)) refl refl refl
+returns-then-per_region-group c =
+    λ link. done (read-large _ link _ _ _ (omega arith) (omega arith) (omega arith)) refl refl refl
 
 pub returns : goal.returns
 returns c =

@@ -9,7 +9,8 @@ pub returns-then-entry-lt1 : goal.returns-then-entry-lt1
 returns-then-entry-lt1 c = λ link. done (entry-none _ link _ _ _ _ _ (omega arith)) refl refl refl
 
 pub returns-then-entry-gt-DESCRIPTORS : goal.returns-then-entry-gt-DESCRIPTORS
-returns-then-entry-gt-DESCRIPTORS c = λ link. done (entry-large _ link _ _ _ _ _ (omega arith) (omega arith)) refl refl refl
+returns-then-entry-gt-DESCRIPTORS c =
+    λ link. done (entry-large _ link _ _ _ _ _ (omega arith) (omega arith)) refl refl refl
 
 pub returns : goal.returns
 returns c =

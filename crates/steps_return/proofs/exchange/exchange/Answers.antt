@@ -13,13 +13,15 @@ use Rattle.steps_return.proofs.ReturningWays.{has-room, no_room, room}
 use Rattle.steps_return.proofs.exchange.exchange.Goals as goal
 
 pub returns-then-descriptor-ge-DESCRIPTORS : goal.returns-then-descriptor-ge-DESCRIPTORS
-returns-then-descriptor-ge-DESCRIPTORS c = λ link. done (exchange-no-descriptor _ link _ _ _ (omega arith)) refl refl refl
+returns-then-descriptor-ge-DESCRIPTORS c =
+    λ link. done (exchange-no-descriptor _ link _ _ _ (omega arith)) refl refl refl
 
 pub returns-then-n-first : goal.returns-then-n-first
 returns-then-n-first c = λ link. done (exchange-no-first _ link _ _ _ (omega arith) (omega arith)) refl refl refl
 
 pub returns-then-group-lt1 : goal.returns-then-group-lt1
-returns-then-group-lt1 c = λ link. done (exchange-no-group _ link _ _ _ (omega arith) (omega arith) (omega arith)) refl refl refl
+returns-then-group-lt1 c =
+    λ link. done (exchange-no-group _ link _ _ _ (omega arith) (omega arith) (omega arith)) refl refl refl
 
 pub returns-then-n-group : goal.returns-then-n-group
 returns-then-n-group c =

@@ -9,12 +9,13 @@ use Rattle.steps_strips.proofs.StripWays.{stored, give-small, give-large, give-b
 use Rattle.steps_strips.proofs.give.give_at.Goals as goal
 
 pub returns-then-byte-lt-FREE_BEGUN : goal.returns-then-byte-lt-FREE_BEGUN
-returns-then-byte-lt-FREE_BEGUN c = done (give-small _ _ _ _ c.slot_byte-byte.ensures c.if-byte-lt-FREE_BEGUN.true) refl refl refl
+returns-then-byte-lt-FREE_BEGUN c =
+    done (give-small _ _ _ _ c.slot_byte-byte.ensures c.if-byte-lt-FREE_BEGUN.true) refl refl refl
 
 pub returns-then-byte-gt-LAST_BYTE : goal.returns-then-byte-gt-LAST_BYTE
 returns-then-byte-gt-LAST_BYTE c =
-    done (give-large _ _ _ _ c.slot_byte-byte.ensures c.if-byte-lt-FREE_BEGUN.false c.if-byte-gt-LAST_BYTE.true) refl refl
-    refl
+    done (give-large _ _ _ _ c.slot_byte-byte.ensures c.if-byte-lt-FREE_BEGUN.false c.if-byte-gt-LAST_BYTE.true)
+    refl refl refl
 
 pub returns-then-not-divides : goal.returns-then-not-divides
 returns-then-not-divides c =

@@ -7,7 +7,8 @@ use Rattle.steps_strips.proofs.halve.+halve_low.Goals as goal
 
 pub returns-then-order-wanted : goal.returns-then-order-wanted
 returns-then-order-wanted t c =
-    rw (← halve-done (tree_with c.args.a c.args.b c.args.c c.args.d) c.args.order c.args.wanted c.args.node (omega arith))
+    rw (← halve-done (tree_with c.args.a c.args.b c.args.c c.args.d) c.args.order c.args.wanted c.args.node
+    (omega arith))
     c.set_tree.ensures
 
 pub halve_low-requires : goal.halve_low-requires

@@ -20,7 +20,8 @@ returns-then-order-eq0 c =
 
 pub returns-then-order-eq1 : goal.returns-then-order-eq1
 returns-then-order-eq1 c =
-    rw c.if-order-eq1.true (c.lowest-then-order-eq1.ensures.value ∙ sym (level-one c.args.t c.lowest-then-order-eq1.ensures.word))
+    rw c.if-order-eq1.true
+    (c.lowest-then-order-eq1.ensures.value ∙ sym (level-one c.args.t c.lowest-then-order-eq1.ensures.word))
 
 pub upper_of-requires : goal.upper_of-requires
 upper_of-requires c =

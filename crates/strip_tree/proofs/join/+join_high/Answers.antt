@@ -14,7 +14,8 @@ use Rattle.strip_tree.proofs.join.+join_high.Goals as goal
 pub returns-then-order-eq-WHOLE_ORDER : goal.returns-then-order-eq-WHOLE_ORDER
 returns-then-order-eq-WHOLE_ORDER t c x y z =
     ap (λ (w : ℕ). tree_with w x y z) c.set.ensures.value
-    ∙ sym (low-mark c.args.a x y z c.args.node (in-first c.args.order c.args.node (omega arith) (omega arith) (omega arith)))
+    ∙ sym (low-mark c.args.a x y z c.args.node
+    (in-first c.args.order c.args.node (omega arith) (omega arith) (omega arith)))
     ∙ join-top (tree_with c.args.a x y z) c.args.order c.args.node (omega arith)
 
 pub test-requires : goal.test-requires
@@ -59,6 +60,7 @@ returns t c x y z =
     let l = in-first c.args.order (buddy c.args.node) (omega arith) (omega arith)
     (omega (arith, twice c.args.order (omega arith))) in
     ap (λ (w : ℕ). tree_with w x y z) c.set-2.ensures.value
-    ∙ sym (low-mark c.args.a x y z c.args.node (in-first c.args.order c.args.node (omega arith) (omega arith) (omega arith)))
+    ∙ sym (low-mark c.args.a x y z c.args.node
+    (in-first c.args.order c.args.node (omega arith) (omega arith) (omega arith)))
     ∙ join-no (tree_with c.args.a x y z) c.args.order c.args.node (omega arith)
     (low-test c.args.a x y z (buddy c.args.node) l ∙ sym c.test.ensures ∙ c.if-test.false)
