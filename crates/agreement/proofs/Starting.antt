@@ -14,7 +14,7 @@ use Rattle.plain.specs.Invariant.{Good}
 use Rattle.plain.proofs.StartInvariant.{start-inv}
 use Rattle.plain.proofs.StripInvariant.{start-strips}
 use Rattle.plain.proofs.CallTests.{start-failed, start-passed}
-use Rattle.plain.proofs.CallTests.{started as startedPool}
+use Rattle.plain.proofs.CallTests.{started as started_pool}
 use Rattle.control.specs.Layout.{CACHES, layout, Tasks, Regions, seen, DescriptorNext, RegionNext, TopOfCache}
 use Rattle.control.specs.Layout.{descriptor_nexts}
 use Rattle.control.specs.Layout.{region_nexts, cache_tops}
@@ -106,7 +106,7 @@ new b regions = record { tasks = b.tasks; regions = regions; mem = Plain.start_m
 -- an accepted start, in both pools: the control memory may have looked like a started pool, or have held anything
 new-alike : (b : Start) (lent : Lent) → StartTested b (lengths lent)
     → Good (new b (length lent.area / REGION_BYTES))
-    → Alike (λ z. Unit {0}) (ran (start_effect b lent)) (startedPool b (lengths lent))
+    → Alike (λ z. Unit {0}) (ran (start_effect b lent)) (started_pool b (lengths lent))
 new-alike b lent T g =
     let regions = length lent.area / REGION_BYTES in
     record {

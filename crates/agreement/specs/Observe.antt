@@ -134,13 +134,13 @@ pub data Holder : Type 0 where
 
 -- the first of the n tasks from t on that has the block, else the chain if it has it
 abbrev pub holder_of : ℕ → (ℕ → ℕ) → ℕ → ℕ → Holder
-holder_of zero has inChain t = if (dec_le 1 inChain) chain nowhere
-holder_of (suc n) has inChain t = if (dec_le 1 (has t)) (task t) (holder_of n has inChain (suc t))
+holder_of zero has in_chain t = if (dec_le 1 in_chain) chain nowhere
+holder_of (suc n) has in_chain t = if (dec_le 1 (has t)) (task t) (holder_of n has in_chain (suc t))
 
 -- the holder of a block: a user's hands if its mark is set, else the first task that has it, else the chain if it has
 -- it
 abbrev pub holder : ℕ → (ℕ → ℕ) → ℕ → Holder
-holder mark has inChain = if (dec_le 1 mark) hands (holder_of TASKS has inChain 0)
+holder mark has in_chain = if (dec_le 1 mark) hands (holder_of TASKS has in_chain 0)
 
 -- the holder of the block v with regard to the region r, in the memories
 abbrev pub holder_in : Contents → ℕ → ℕ → Holder

@@ -96,8 +96,8 @@ module _ {link : ℕ → ℕ} {regions c top k : ℕ} {from : List ℕ} where
 
 -- ---- the cache of a task and class: its fields are k and u
 
-module _ (v : View) (link : ℕ → ℕ) (regions t c : ℕ) (from : List ℕ) {n k : ℕ} (isN : n ≡ per_region c)
-    (isCount : k ≡ v (CacheCount t c)) where
+module _ (v : View) (link : ℕ → ℕ) (regions t c : ℕ) (from : List ℕ) {n k : ℕ} (is_n : n ≡ per_region c)
+    (is_count : k ≡ v (CacheCount t c)) where
   -- a count past n is refused
   pub cache-long : n < k
       → Counted (is_cache v link regions t c) (λ r. get_or from r 0 + in_region r (cache_row v link t c))
@@ -110,7 +110,7 @@ module _ (v : View) (link : ℕ → ℕ) (regions t c : ℕ) (from : List ℕ) {
       → Walked link regions c u k from tally
       → Counted (is_cache v link regions t c) (λ r. get_or from r 0 + in_region r (cache_row v link t c)) tally
   unfolding is_cache
-  cache-walked is_top h w = rw (le-leb (v (CacheCount t c)) (per_region c) (omega arith), ← isCount, ← is_top) w
+  cache-walked is_top h w = rw (le-leb (v (CacheCount t c)) (per_region c) (omega arith), ← is_count, ← is_top) w
 
 -- a cache in range has at most n blocks in a region
 pub cache-max : (v : View) (link : ℕ → ℕ) (regions t c r : ℕ) → is_cache v link regions t c ≡ true

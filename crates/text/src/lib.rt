@@ -3,13 +3,13 @@
 #![tactic(auto)]
 
 ghost use Rattle.std.specs.Prelude.{◌+◌, ◌≤◌, length};
-ghost use Rattle.text.specs.Texts.{decimal as decimalText, Appended};
+ghost use Rattle.text.specs.Texts.{decimal as decimal_text, Appended};
 ghost use Rattle.text.specs.Lines.{FIELD_BYTES, LINE_ROOM, field_text, columns_text, line_text, total_text};
 
 // A number in decimal. Callers: `field`, and itself with all digits but the last.
 fn decimal(out: &mut [u8], at: usize, number: u64) -> usize
-    requires { at + length (decimalText number) ≤ length out.old }
-    ensures { Appended out.old out.new at (decimalText number) result }
+    requires { at + length (decimal_text number) ≤ length out.old }
+    ensures { Appended out.old out.new at (decimal_text number) result }
 {
     if number < 10 {
         out[at] = 48 + number as u8;
