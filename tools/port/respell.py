@@ -6,7 +6,8 @@ usage: python3 tools/port/respell.py [FOLDER]       FOLDER is the repository, th
 It is run once, on a tree that Rattle's own port.py has just turned, and goes over each .rt and .antt file below crates/.
 A row of names.tsv is: old, a tab, new; or old, new and a beginning of the paths, below crates/, to which it applies.
 A name turns where it stands as a whole word. In a comment it turns if it has a capital inside, since then it is no word
-of English, or stands in backticks. A string of a .rt file stays. A second run changes nothing.
+of English, or stands in backticks. A string of a .rt file stays. A second run would do harm: a row with a path may take
+back what port.py did to a name that another row brings into being.
 `respell.py --names` writes the rows without a path anew from the declarations that it finds.
 """
 
@@ -17,9 +18,10 @@ import sys
 HERE = os.path.dirname(os.path.realpath(__file__))
 TABLE = os.path.join(HERE, "names.tsv")
 WORD = re.compile(r'[^\s(){}.;,@"«»\[\]`]+')
+# One name, or several of one type; not those of a `let`, which no other file can see, and no comment.
 DECLARED = re.compile(
-    r"(?m)^ *(?:(?:pub|abbrev|unfoldable) )*(?:(?:data|record|module) )?(?:pub )?"
-    r'([^\s(){}.;,@"«»:]+)(?: \{[^{}\n]*\}| \([^()\n]*\))* :(?= |$)'
+    r"(?m)^ *(?!let |--)(?:(?:pub|abbrev|unfoldable) )*(?:(?:data|record|module) )?(?:pub )?"
+    r'((?:[^\s(){}.;,@"«»:]+ )*[^\s(){}.;,@"«»:]+)(?: \{[^{}\n]*\}| \([^()\n]*\))* :(?= |$)'
 )
 QUIET = {
     ".antt": re.compile(r"(?<![^\s(){}.;,])(--[^\n]*)"),
@@ -57,8 +59,9 @@ def declared(root):
     for path in texts(root):
         if path.endswith(".antt"):
             with open(path, encoding="utf-8") as f:
-                for m in DECLARED.finditer(f.read()):
-                    found[m[1]] = found.get(m[1], False) or "/specs/" in path
+                names = [it for m in DECLARED.finditer(f.read()) for it in m[1].split()]
+            for it in names:
+                found[it] = found.get(it, False) or "/specs/" in path
     rows = ((old, spelled(old, found[old])) for old in sorted(found))
     return [(old, new) for old, new in rows if old != new]
 
