@@ -34,6 +34,11 @@ row-max link u k r = omega (arith, region-max r (row_from link u k), row-length 
 
 -- ---- the walk
 
+-- the region of a block has a count
+pub region-counted : (regions c u : ℕ) {r : ℕ} → regions ≤ REGIONS → is_block regions c u ≡ true → r ≡ region_of u
+    → r < REGIONS
+region-counted regions c u few e f = omega (arith, block-passed regions c u e, f)
+
 -- Of the row with the top `top` and k blocks, `left` are left from the unit u on; those before it are blocks, and are
 -- counted.
 pub record Walking (link : ℕ → ℕ) (regions c top k : ℕ) (from : List ℕ) (u left : ℕ) (counts : List ℕ) : Type 0 where

@@ -5,6 +5,7 @@ use native.Mathlib.Nat.{mul-lt-mul_of_pos_right, mul-le-mul_right, mod-eq_of_lt}
 use native.Mathlib.Omega.{arith}
 use lib.Pow.{pow_pos, shr_lt, shl_lt}
 use Rattle.limits.specs.Limits.{SLOTS, WORD_MARKS, WHOLE_ORDER, ORDERS}
+use Rattle.strip_tree.specs.Trees.{buddy}
 
 -- what holds of each order holds of all eight
 pub each : (P : ℕ → Type 0) → P 0 → P 1 → P 2 → P 3 → P 4 → P 5 → P 6 → P 7 → (j : ℕ) → j < ORDERS → P j
@@ -106,6 +107,15 @@ place-shifted j i h b = mod-eq_of_lt (omega (arith, node-most j i h b))
 -- a node of an order from 2 on is in the first word
 pub in-first : (j i : ℕ) → j < ORDERS → 2 ≤ j → i < 2 ^ (ORDERS - j) → i < WORD_MARKS
 in-first j i h g l = omega (arith, twice j h, low_word j h g)
+
+-- so is the other half of the piece of which it is one half
+pub buddy-first : (j i : ℕ) → j < WHOLE_ORDER → 2 ≤ j → i < 2 ^ (ORDERS - j) → buddy i < WORD_MARKS
+buddy-first j i h g l = in-first j (buddy i) (omega arith) g (omega (arith, twice j (omega arith)))
+
+-- and the upper one of its own halves, if they are of order 2 or more
+pub upper-first : (j i : ℕ) → j < ORDERS → 3 ≤ j → i < 2 ^ (ORDERS - j) → 2 * i + 1 < WORD_MARKS
+upper-first j i h g l =
+    in-first (j - 1) (2 * i + 1) (omega arith) (omega arith) (omega (arith, raised j h (omega arith)))
 
 -- the node of order 2 that begins where a larger one does
 pub shifted_down : (j i : ℕ) → j < ORDERS → 2 ≤ j → i < 2 ^ (ORDERS - j) → i * 2 ^ (j - 2) < 64

@@ -3,7 +3,7 @@ use mathlib.Core.Path.{refl, sym, ◌∙◌}
 use native.Mathlib.Omega.{arith}
 use borrow.Author.Rules.{rules}
 use Rattle.ranges.proofs.Passed.{block-passed}
-use Rattle.report_caches.proofs.Walking.{walk_begins, walk-room, walk-goes, walk-stops, walk_ends}
+use Rattle.report_caches.proofs.Walking.{region-counted, walk_begins, walk-room, walk-goes, walk-stops, walk_ends}
 use Rattle.report_caches.proofs.walk.Goals as goal
 
 pub loop-left-init : goal.loop-left-init
@@ -42,40 +42,20 @@ returns c = walk_ends c.loop-left.invariant (omega arith) refl
 
 pub offset_bounds-counts-region : goal.offset_bounds-counts-region
 offset_bounds-counts-region c =
-    omega (
-      arith,
-      block-passed c.args.regions c.args.class c.loop-left.unit
-          (sym c.is_block.ensures ∙ c.if-not-is_block.false),
-      c.region_of-region.ensures,
-      c.requires,
-    )
+    let e = sym c.is_block.ensures ∙ c.if-not-is_block.false in
+    omega (arith, region-counted _ _ _ c.requires.1 e c.region_of-region.ensures)
 
 pub bounds-counts-region : goal.bounds-counts-region
 bounds-counts-region c =
-    omega (
-      arith,
-      block-passed c.args.regions c.args.class c.loop-left.unit
-          (sym c.is_block.ensures ∙ c.if-not-is_block.false),
-      c.region_of-region.ensures,
-      c.requires,
-    )
+    let e = sym c.is_block.ensures ∙ c.if-not-is_block.false in
+    omega (arith, region-counted _ _ _ c.requires.1 e c.region_of-region.ensures)
 
 pub offset_bounds-counts-region-in-loop-left : goal.offset_bounds-counts-region-in-loop-left
 offset_bounds-counts-region-in-loop-left c =
-    omega (
-      arith,
-      block-passed c.args.regions c.args.class c.loop-left.unit
-          (sym c.is_block.ensures ∙ c.if-not-is_block.false),
-      c.region_of-region.ensures,
-      c.requires,
-    )
+    let e = sym c.is_block.ensures ∙ c.if-not-is_block.false in
+    omega (arith, region-counted _ _ _ c.requires.1 e c.region_of-region.ensures)
 
 pub bounds-counts-region-in-loop-left : goal.bounds-counts-region-in-loop-left
 bounds-counts-region-in-loop-left c =
-    omega (
-      arith,
-      block-passed c.args.regions c.args.class c.loop-left.unit
-          (sym c.is_block.ensures ∙ c.if-not-is_block.false),
-      c.region_of-region.ensures,
-      c.requires,
-    )
+    let e = sym c.is_block.ensures ∙ c.if-not-is_block.false in
+    omega (arith, region-counted _ _ _ c.requires.1 e c.region_of-region.ensures)

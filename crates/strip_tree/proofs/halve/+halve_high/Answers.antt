@@ -4,7 +4,7 @@ use mathlib.Core.Path.{sym, ap, ◌∙◌}
 use Rattle.strip_tree.specs.declared.tree.Tree.{Tree}
 use Rattle.strip_tree.specs.Trees.{tree_with}
 use Rattle.strip_tree.specs.TreeMoves.{halving}
-use Rattle.strip_tree.proofs.Powers.{raised, in-first}
+use Rattle.strip_tree.proofs.Powers.{raised, upper-first}
 use Rattle.strip_tree.proofs.NodeBits.{low-mark}
 use Rattle.strip_tree.proofs.Finding.{halve-done, halve-next}
 use Rattle.strip_tree.proofs.halve.+halve_high.Goals as goal
@@ -15,8 +15,7 @@ returns-then-order-wanted t c x y z =
 
 pub set-requires : goal.set-requires
 set-requires t c =
-    in-first (c.args.order - 1) (2 * c.args.node + 1) (omega arith) (omega arith)
-    (omega (arith, raised c.args.order (omega arith) (omega arith)))
+    upper-first c.args.order c.args.node (omega arith) (omega arith) (omega arith)
 
 pub halve_high-requires : goal.halve_high-requires
 halve_high-requires t c = (
@@ -33,8 +32,7 @@ halve_high-requires t c = (
 
 pub returns : goal.returns
 returns t c x y z =
-    let l = in-first (c.args.order - 1) (2 * c.args.node + 1) (omega arith) (omega arith)
-    (omega (arith, raised c.args.order (omega arith) (omega arith))) in
+    let l = upper-first c.args.order c.args.node (omega arith) (omega arith) (omega arith) in
     c.halve_high.ensures x y z
     ∙ ap (λ (w : ℕ). halving (tree_with w x y z) (c.args.order - 1 - c.args.wanted) (2 * c.args.node))
     c.set.ensures.value

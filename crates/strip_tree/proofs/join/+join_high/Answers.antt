@@ -3,12 +3,11 @@ use Rattle.std.proofs.Common.{◌+◌, ◌-◌, ◌/◌, ℕ, arith}
 use mathlib.Core.Path.{sym, ap, ◌∙◌}
 use Rattle.limits.specs.Limits.{WHOLE_ORDER}
 use Rattle.strip_tree.specs.declared.tree.Tree.{Tree}
-use Rattle.strip_tree.specs.Trees.{tree_with}
+use Rattle.strip_tree.specs.Trees.{tree_with, buddy}
 use Rattle.strip_tree.specs.TreeMoves.{joining}
-use Rattle.strip_tree.proofs.Powers.{twice, half-below, in-first}
+use Rattle.strip_tree.proofs.Powers.{half-below, in-first, buddy-first}
 use Rattle.strip_tree.proofs.NodeBits.{low-mark, low_clear, low-test}
 use Rattle.strip_tree.proofs.Finding.{join-top, join-no, join-next}
-use Rattle.strip_tree.specs.Trees.{tree_with, buddy}
 use Rattle.strip_tree.proofs.join.+join_high.Goals as goal
 
 pub returns-then-order-eq-WHOLE_ORDER : goal.returns-then-order-eq-WHOLE_ORDER
@@ -20,13 +19,11 @@ returns-then-order-eq-WHOLE_ORDER t c x y z =
 
 pub test-requires : goal.test-requires
 test-requires t c =
-    in-first c.args.order (buddy c.args.node) (omega arith) (omega arith)
-    (omega (arith, twice c.args.order (omega arith)))
+    buddy-first c.args.order c.args.node (omega arith) (omega arith) (omega arith)
 
 pub clear-requires : goal.clear-requires
 clear-requires t c =
-    in-first c.args.order (buddy c.args.node) (omega arith) (omega arith)
-    (omega (arith, twice c.args.order (omega arith)))
+    buddy-first c.args.order c.args.node (omega arith) (omega arith) (omega arith)
 
 pub join_high-requires : goal.join_high-requires
 join_high-requires t c = (
@@ -42,8 +39,7 @@ join_high-requires t c = (
 
 pub returns-then-test : goal.returns-then-test
 returns-then-test t c x y z =
-    let l = in-first c.args.order (buddy c.args.node) (omega arith) (omega arith)
-    (omega (arith, twice c.args.order (omega arith))) in
+    let l = buddy-first c.args.order c.args.node (omega arith) (omega arith) (omega arith) in
     c.join_high.ensures x y z
     ∙ ap (λ (w : ℕ). joining (tree_with w x y z) (WHOLE_ORDER - (c.args.order + 1)) (c.args.node / 2))
     c.clear.ensures.value
@@ -57,8 +53,7 @@ set-requires-2 t c = in-first c.args.order c.args.node (omega arith) (omega arit
 
 pub returns : goal.returns
 returns t c x y z =
-    let l = in-first c.args.order (buddy c.args.node) (omega arith) (omega arith)
-    (omega (arith, twice c.args.order (omega arith))) in
+    let l = buddy-first c.args.order c.args.node (omega arith) (omega arith) (omega arith) in
     ap (λ (w : ℕ). tree_with w x y z) c.set-2.ensures.value
     ∙ sym (low-mark c.args.a x y z c.args.node
     (in-first c.args.order c.args.node (omega arith) (omega arith) (omega arith)))
