@@ -5,9 +5,9 @@ usage: python3 tools/port/respell.py [FOLDER]       FOLDER is the repository, th
 
 It is run once, on a tree that Rattle's own port.py has just turned, and goes over each .rt and .antt file below crates/.
 A row of names.tsv is: old, a tab, new; or old, new and a beginning of the paths, below crates/, to which it applies.
-A name turns where it stands as a whole word. In a comment it turns if it has a capital inside, since then it is no word
-of English, or stands in backticks. A string of a .rt file stays. A second run would do harm: a row with a path may take
-back what port.py did to a name that another row brings into being.
+A name turns where it stands as a whole word. In a comment it turns if it has a capital inside, or a dash between two
+capitals, since then it is no word of English, or if it stands in backticks. A string of a .rt file stays. A second run
+would do harm: a row with a path may take back what port.py did to a name that another row brings into being.
 `respell.py --names` writes the rows without a path anew from the declarations that it finds.
 """
 
@@ -85,7 +85,7 @@ def turned(text, kind, table):
         def one(m):
             quoted = part[m.start() - 1 : m.start()] == "`" and part[m.end() : m.end() + 1] == "`"
             bare = m[0].rstrip(":'?")
-            if quoted or re.search(r"[a-z0-9][A-Z]", bare):
+            if quoted or re.search(r"[a-z0-9][A-Z]|[A-Z]-[A-Z]", bare):
                 return table.get(m[0]) or table.get(bare, bare) + m[0][len(bare) :]
             return m[0]
 

@@ -27,7 +27,7 @@ abbrev pub REGION_UNITS : ℕ
 REGION_UNITS = 512
 
 -- how many units the area has: "a block is named by its first unit, 0 to 8,191"; in a cache's links 8,192 is the
--- bottom. The units of strips go on from here, up to BOTH-UNITS
+-- bottom. The units of strips go on from here, up to BOTH_UNITS
 abbrev pub UNITS : ℕ
 UNITS = 8192
 

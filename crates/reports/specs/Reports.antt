@@ -21,7 +21,7 @@ report_refusal lent v =
     14)
     1
 
--- The answer of a report that has passed these tests, and the row that it leaves. `inRange` tells whether all that it
+-- The answer of a report that has passed these tests, and the row that it leaves. `in_range` tells whether all that it
 -- reads is in its range, and of the keepers also whether each region has one; `numbers` are those that it writes.
 -- "Memory that is out of range is answered with 14" (the request for the stock sheet); then comes 23, where the row is
 -- too short for the numbers; else 20, with the numbers at the row's start. A refused report leaves the row.

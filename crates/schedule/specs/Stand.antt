@@ -38,7 +38,7 @@ line_of e r = record {
 }
 
 -- a pool: its state, and what a call makes of it, with the answer as one number: the code, CODES times the value, and
--- ONE-LOST times the lost exchanges that it tells
+-- ONE_LOST times the lost exchanges that it tells
 module _ {S : Type 0} (call : Call → Lends → S → S × ℕ) where
   -- "run (task, most steps ..), which stops at a finish, an end or a refusal (most 0: code 0, no call made)"; "A run
   -- shows its last call's answer". The last answer so far is a.

@@ -88,7 +88,7 @@ tells {n} {y} N = record {
       omega (arith, N.code, N.value, l, e);
 }
 
--- numbers below ONE-LOST are the same
+-- numbers below ONE_LOST are the same
 pub same-small : (n : ℕ) → n < ONE_LOST → SameNumber n n
 same-small n l = record { without-lost = omega (arith, l); none = λ e. e }
 

@@ -52,7 +52,7 @@ most_of (Run a most) = most
 most_of (Leave a) = 1
 most_of Bad = 0
 
--- a record makes at most MOST-CALLS calls, has at least a byte, and ends within the schedule
+-- a record makes at most MOST_CALLS calls, has at least a byte, and ends within the schedule
 pub record Fits (at end : ℕ) (r : Record) : Type 0 where
   pub most : most_of r ≤ MOST_CALLS
   pub from : at < end_of r at end

@@ -3,11 +3,11 @@
 use Rattle.std.specs.Prelude.{ℕ, ◌+◌, ◌-◌, ◌%◌}
 use Rattle.limits.specs.Limits.{WHOLE_ORDER, ORDERS}
 
--- a strip of order k in hand has the byte IN-HAND + k
+-- a strip of order k in hand has the byte IN_HAND + k
 abbrev pub IN_HAND : ℕ
 IN_HAND = 1
 
--- "one whose free has begun is 11": a strip of order k whose free has begun has the byte FREE-BEGUN + k
+-- "one whose free has begun is 11": a strip of order k whose free has begun has the byte FREE_BEGUN + k
 abbrev pub FREE_BEGUN : ℕ
 FREE_BEGUN = IN_HAND + ORDERS
 

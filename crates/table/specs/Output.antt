@@ -12,7 +12,7 @@ use Rattle.schedule.specs.Plain.{on_plain}
 use Rattle.text.specs.Texts.{Appended}
 use Rattle.text.specs.Lines.{columns_text, line_text, total_text}
 
--- room for the longest table: 65,536 lines of at most LINE-BYTES bytes, the first line and the last
+-- room for the longest table: 65,536 lines of at most LINE_BYTES bytes, the first line and the last
 abbrev pub TABLE_BYTES : ℕ
 TABLE_BYTES = 2228480
 

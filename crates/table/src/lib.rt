@@ -9,7 +9,7 @@ ghost use Rattle.table.specs.Output.{TABLE_BYTES, output};
 
 use schedule::{record, tallied, tally};
 
-// Room for the longest table. A line has at most 34 bytes (LINE-BYTES) and its record at least one, so that the lines
+// Room for the longest table. A line has at most 34 bytes (LINE_BYTES) and its record at least one, so that the lines
 // of 65,536 bytes of records fit into 65,536 * 34 bytes; the first and the last line fit into the rest.
 pub const TABLE_BYTES: usize = 2228480;
 

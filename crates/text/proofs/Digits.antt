@@ -59,12 +59,12 @@ short (suc f) k n h = elim (dec_lt n 10) [
 pub twenty : (n : ℕ) → n < 2 ^ 64 → length (decimal n) ≤ 20
 twenty n h = short (suc n) 19 n (omega arith)
 
--- the line of column names has at most COLUMNS-BYTES bytes
+-- the line of column names has at most COLUMNS_BYTES bytes
 pub short-columns : (shown : Bool) → length (columns_text shown) ≤ COLUMNS_BYTES
 short-columns true = omega arith
 short-columns false = omega arith
 
--- the line of a record of the stand has at most LINE-BYTES bytes
+-- the line of a record of the stand has at most LINE_BYTES bytes
 pub short-line : (shown : Bool) (number kind code value lost : ℕ)
     → number < 10 ^ 5 → kind < 10 ^ 3 → code < 10 ^ 3 → value < 10 ^ 8 → lost < 10 ^ 10
     → length (line_text shown number kind code value lost) ≤ LINE_BYTES

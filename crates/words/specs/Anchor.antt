@@ -38,7 +38,7 @@ pub record AnchorFits (a : Anchor) : Type 0 where
 abbrev pub full : ℕ → Anchor
 full n = record { state = FULL; avail = n; count = 0 }
 
--- a group may be returned: the count would not pass n, and no class has more than MOST-BLOCKS in a region
+-- a group may be returned: the count would not pass n, and no class has more than MOST_BLOCKS in a region
 pub record Room (a : Anchor) (group n : ℕ) : Type 0 where
   pub count : a.count + group ≤ n
   pub blocks : n ≤ MOST_BLOCKS
