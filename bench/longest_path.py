@@ -6,14 +6,13 @@ found need not be one that can be taken, so the number is a bound and not a meas
 the library adds that function's longest path. A jump through a table may go to every entry of the table whose address
 is taken right before it, or, where that is not seen, to every entry of every table of the function.
 
-The loops and the functions that call themselves, with their bounds (crates/steps_strips/src, crates/strip_tree/src,
-crates/steps_leave/src):
+The loops and the functions that call themselves, with their bounds (crates/strip_tree/src, crates/steps_leave/src):
 
-- `halve_low` halves from order 2 at most, and `join` calls itself from the orders 0 and 1: as a function each is
-  entered three times at most, one in the other. As a loop, which finds the word of a node by a shift of 6, `halve_low`
-  makes two turns.
-- The search for the smallest sufficient piece of the strips looks at each order once, 0 to 7, and ends at order 7. Six
-  of the orders have their nodes in the first word: only for them it shifts, to the right and to the left.
+- `halve_low` halves from order 2 at most: as a function it is entered three times at most, one in the other. As a loop,
+  which finds the word of a node by a shift of 6, it makes two turns.
+- The search for the smallest sufficient piece of the strips looks at each order once, 0 to 7, and ends behind order 7.
+  Six of the orders have their nodes in the first word: only for them it shifts, to the right and to the left. The back
+  end makes several copies of this loop, and a path may take one behind the other.
 - The halvings in the first word are at most five, from order 7 to order 2. The back end puts several of them into a
   turn, each a shift by a register, and makes those that are left over, fewer than such a turn has, in a loop of one
   each.
@@ -36,7 +35,7 @@ NAMES = {
     "pool_begin_leave": "longest path, beginning of leaving",
     "pool_step": "longest path, step",
 }
-ENTRIES = {"steps_strips::halve::halve_low": 3, "steps_strips::join::join": 3}
+ENTRIES = {"strip_tree::halve::halve_low": 3}
 WITHOUT_STRIPS = "longest path without strips, step"
 ORDERS, FIRST_WORD_ORDERS, HALVINGS, LOW_HALVINGS, JOININGS, CLASSES = 8, 6, 5, 2, 5, 13
 IMPOSSIBLE = -(1 << 32)
@@ -149,7 +148,7 @@ class Loop:
         self.part = part
         left, right, orders, counts, words, bits = [
             {one for one in part if re.match(pattern, texts[one])} for pattern in (
-                r"shl\s+%cl,", r"shr\s+%cl,", rf"cmp\s+\$0x{ORDERS - 1:x},", r"movzwl \S*\(%\w+,%\w+,2\),",
+                r"shl\s+%cl,", r"shr\s+%cl,", rf"cmp\s+\$0x{ORDERS:x},", r"movzwl \S*\(%\w+,%\w+,2\),",
                 r"shr\s+\$0x6,", r"bt\s+%")]
         self.halves = bool(left) and not right | words | bits
         if left and not right and (words or bits):

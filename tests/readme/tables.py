@@ -77,7 +77,7 @@ def columns():
 
 
 def layout():
-    """The document's rows are the columns with their fields; the code's constants are their first bytes."""
+    """The document's rows are the columns with their fields; the code's constants have their first bytes and widths."""
     known = named(LIMITS, LAYOUT)
     fields = {column: field for field, column in re.findall(r'^(\w+) = field_of (\w+)', read(LAYOUT), re.M)}
     there = [(name, fields.get(name), *numbers) for name, *numbers in columns()]
@@ -86,11 +86,15 @@ def layout():
     result = only(told, there, LAYOUT_DOCUMENT, LAYOUT)
     if not there or [row[0] for row in told] != [row[0] for row in there]:
         result.append(f'{LAYOUT_DOCUMENT}: the columns are not those of {LAYOUT} in their order')
-    due = {name.upper(): start for name, _, start, _, _ in there}
+    due = {name.upper(): (start, width) for name, _, start, width, _ in there}
+    for name, kind, start in re.findall(r'^pub const (\w+): Column<(\w+), \w+> = Column {\s*start: ([\d_]+),',
+                                        read(CONSTANTS), re.M):
+        found, expected = (int(start.replace('_', '')), int(kind[1:]) // 8), due.pop(name, None)
+        if found != expected:
+            result.append(f'{CONSTANTS}: {name} has first byte and width {found}; {LAYOUT} has {expected}')
     for name, number in re.findall(r'^pub const (\w+): \w+ = ([\d_]+);', read(CONSTANTS), re.M):
-        number = int(number.replace('_', ''))
-        expected = due.pop(name) if name in due else value(name, known) if name in known else None
-        if number != expected:
+        expected = value(name, known) if name in known else None
+        if int(number.replace('_', '')) != expected:
             result.append(f'{CONSTANTS}: {name} is {number}; {LAYOUT} has {expected}')
     return result + [f'{CONSTANTS}: there is no {name}' for name in due]
 

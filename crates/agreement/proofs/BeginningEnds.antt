@@ -21,9 +21,9 @@ use Rattle.control.specs.Layout.{Anchor, Marks, TaskPlace, DescriptorRegion, Des
 use Rattle.control.specs.Layout.{Map, Regions}
 use Rattle.control.specs.Places.{IDLE, PLACES}
 use Rattle.plain.specs.Calls.{Start, Lengths}
-use Rattle.control.specs.declared.answer.Answer.{Answer}
-use Rattle.control.specs.declared.answer.Answer.TheVariants.{Accepted, Allocated, Freed, NoDescriptor, NoRegion}
-use Rattle.control.specs.declared.answer.Answer.TheVariants.{NoStrip, Refused}
+use Rattle.control.specs.Answers.{Answer}
+use Rattle.control.specs.Answers.{Accepted, Allocated, Freed, NoDescriptor, NoRegion}
+use Rattle.control.specs.Answers.{NoStrip, Refused}
 use Rattle.stepped.specs.Outcome.{Outcome, refuse, accept, Memories, effect, memories_after}
 use Rattle.stepped.specs.Ranges.{is_anchor}
 use Rattle.stepped.specs.Calls as Calls

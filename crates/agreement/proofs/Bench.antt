@@ -17,9 +17,11 @@ use Rattle.rows.proofs.Update.{update_same}
 use Rattle.fields.specs.Columns.{View, ◌:=◌}
 use Rattle.words.specs.Head.{word, next_tag}
 use Rattle.classes.specs.Classes.{units, per_region}
+use Rattle.std.specs.Prelude.{Ok, Err}
+use Rattle.limits.specs.declared.refusal.Refusal.TheVariants.{SizeZero, SizeTooLarge}
 use Rattle.classes.specs.Sizes.{class_of, choice}
 use Rattle.classes.specs.Geometry.{unit_of}
-use Rattle.classes.specs.declared.size.Choice.TheVariants.{Class, Strip, Refused}
+use Rattle.classes.specs.declared.size.Choice.TheVariants.{Class, Strip}
 use Rattle.classes.proofs.Sizes.{is_class}
 use Rattle.classes.proofs.Tables.{per_region-high}
 use Rattle.plain.specs.State.{a1, working, Mem, set_task}
@@ -65,7 +67,7 @@ stepped-size s t v = by (eqb s 0) (ltb LARGEST_STRIP s) (ltb LARGEST_SIZE s)
         → stepped_begins v t (cond a (refuse 8) (cond b (refuse 9)
         (cond c (accept nothing (TaskPlace t := STRIP_TAKE ∷ TaskClass t := order_of s ∷ TaskLost t := 0 ∷ []) [])
         (accept nothing (TaskPlace t := A1 ∷ TaskClass t := class_of s ∷ TaskLost t := 0 ∷ []) []))))
-        ≡ served s (cond a (Refused 8) (cond b (Refused 9) (cond c Strip (Class (class_of s)))))
+        ≡ served s (cond a (Err SizeZero) (cond b (Err SizeTooLarge) (cond c (Ok Strip) (Ok (Class (class_of s))))))
     by true b c = refl
     by false true c = refl
     by false false true = rw (eq-eqb t t refl)

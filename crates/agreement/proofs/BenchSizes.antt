@@ -3,9 +3,14 @@ use mathlib.Core.Path.{◌≡◌, refl}
 use mathlib.Core.List.{List, [], ◌∷◌, map}
 use Prim.Native.Nat.{ℕ}
 use Rattle.classes.specs.Classes.{units, block}
+use Rattle.std.specs.Prelude.{Ok, Err}
+use Rattle.std.specs.declared.result.Result.{Result}
+use Rattle.limits.specs.declared.refusal.Refusal.{Refusal}
+use Rattle.limits.specs.declared.refusal.Refusal.TheVariants.{SizeZero, SizeTooLarge}
+use Rattle.control.specs.Answers.{refusal_number}
 use Rattle.classes.specs.Sizes.{class_of, choice}
 use Rattle.classes.specs.declared.size.Choice.{Choice}
-use Rattle.classes.specs.declared.size.Choice.TheVariants.{Class, Strip, Refused}
+use Rattle.classes.specs.declared.size.Choice.TheVariants.{Class, Strip}
 use Rattle.pieces.specs.StripSizes.{strip_bytes, order_from, order_of}
 
 -- what a row shows for a size: the bytes of the block or of the strip that serves it, or the number that refuses it
@@ -14,10 +19,10 @@ pub data Served : Type 0 where
   strip : ℕ → Served
   number : ℕ → Served
 
-abbrev pub served : ℕ → Choice → Served
-served s (Class c) = bytes (block c)
-served s Strip = strip (strip_bytes (order_of s))
-served s (Refused n) = number n
+abbrev pub served : ℕ → Result Choice Refusal → Served
+served s (Ok (Class c)) = bytes (block c)
+served s (Ok Strip) = strip (strip_bytes (order_of s))
+served s (Err e) = number (refusal_number e)
 
 -- the rows: a size, and what is served for it
 abbrev pub sizes : List (ℕ × Served)

@@ -23,7 +23,7 @@ use Rattle.plain.specs.Held.{under_way}
 use Rattle.plain.proofs.Owners.{home_of}
 use Rattle.plain.proofs.PlaceAlone.{task_of}
 use Rattle.control.specs.Answers.{code_of, value_of}
-use Rattle.control.specs.declared.answer.Answer.{Answer}
+use Rattle.control.specs.Answers.{Answer}
 use Rattle.control.specs.Layout
 use Rattle.control.specs.Layout.{layout, Tasks, Regions, CacheTop, CacheCount, TaskClass}
 use Rattle.stepped.specs.Outcome.{over}

@@ -15,9 +15,9 @@ use Rattle.control.specs.Layout.{Head, TaskHead, TaskPlace, TaskClass}
 use Rattle.control.specs.Layout.{Regions, seen}
 use Rattle.control.specs.Places.{IDLE}
 use Rattle.plain.specs.Calls.{Call, start, allocate, free, leave, step, Lengths}
-use Rattle.control.specs.declared.answer.Answer.{Answer}
-use Rattle.control.specs.declared.answer.Answer.TheVariants.{Accepted, Allocated, Freed, NoDescriptor, NoRegion}
-use Rattle.control.specs.declared.answer.Answer.TheVariants.{Refused}
+use Rattle.control.specs.Answers.{Answer}
+use Rattle.control.specs.Answers.{Accepted, Allocated, Freed, NoDescriptor, NoRegion}
+use Rattle.control.specs.Answers.{Refused}
 use Rattle.control.specs.declared.moves.Pop.{Pop}
 use Rattle.control.specs.declared.moves.Pop.TheVariants.{Spare, Region}
 use Rattle.control.specs.declared.moves.Push.{Push}
@@ -38,10 +38,11 @@ use Rattle.agreement.proofs.Ways.{accepted-no, more, among-tests, Cause}
 use Rattle.agreement.proofs.Ways.{Ending, CallEnding, refused}
 use Rattle.agreement.proofs.Ways.{going, ended, at_call, sent}
 use Rattle.agreement.proofs.StepWays.{step-at}
-use Rattle.control.specs.declared.answer.Answer.TheVariants.{NoStrip}
+use Rattle.control.specs.Answers.{NoStrip}
 use Rattle.limits.specs.Limits.{ORDERS}
+use Rattle.std.specs.declared.option.Option.{Option}
+use Rattle.std.specs.declared.option.Option.TheVariants.{None}
 use Rattle.strip_tree.specs.declared.find.Found.{Found}
-use Rattle.strip_tree.specs.declared.find.Found.TheVariants.{Nothing}
 use Rattle.strip_tree.specs.TreeMoves.{find}
 use Rattle.strip_tree.proofs.NoFreeNodes.{finds-none}
 use Rattle.stepped.specs.StripSteps.{tree_of, strip_take, strip_take_by}
@@ -179,8 +180,8 @@ module _ (lent : Lengths) (v : View) (link : ℕ → ℕ) (t : ℕ) where
   unfolding strip_take
   finds-no-piece F =
       let c = v (TaskClass t) in
-      let e : find (tree_of v) c ≡ Nothing = finds-none (tree_of v) c F.order F.none in
-      rw (lt-ltb c ORDERS F.order) (ap (λ (f : Found). (strip_take_by v t c f).answer) e)
+      let e : find (tree_of v) c ≡ None = finds-none (tree_of v) c F.order F.none in
+      rw (lt-ltb c ORDERS F.order) (ap (λ (f : Option Found). (strip_take_by v t c f).answer) e)
 
   -- "16 ends a request", where the tree has no free piece that is sufficient
   pub no_strip : (o.answer ≡ NoStrip) ↔ (Tested lent v t × FindsNoPiece v t)

@@ -30,7 +30,7 @@ use Rattle.plain.proofs.Owners.{home_of}
 use Rattle.plain.proofs.PlaceAlone.{place_holds}
 use Rattle.control.specs.Layout.{TaskPlace, TaskClass, TaskRegion, TaskIndex, TaskLeft, CacheTop, CacheCount}
 use Rattle.control.specs.Places.{A1, A4, A8}
-use Rattle.control.specs.declared.answer.Answer.TheVariants.{Accepted}
+use Rattle.control.specs.Answers.{Accepted}
 use Rattle.stepped.specs.Ranges.{one_to, is_top}
 use Rattle.stepped.specs.Allocate as Allocate
 use Rattle.agreement.specs.Contents.{slot_of}

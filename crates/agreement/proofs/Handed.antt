@@ -6,6 +6,7 @@ use Prim.Native.Nat.{ℕ, ◌≤◌, ◌<◌}
 use native.Mathlib.Omega.{arith}
 use borrow.Author.Tests.{ltb-true}
 use lib.Dec.{ltb}
+use Rattle.std.specs.declared.option.Option.TheVariants.{None}
 use Rattle.limits.specs.Limits.{TASKS, CLASSES, ORDERS, WHOLE_ORDER}
 use Rattle.fields.specs.Columns.{View}
 use Rattle.links.specs.Link.{link}
@@ -16,7 +17,7 @@ use Rattle.plain.specs.Requests.{strip_allocation, frees_strip}
 use Rattle.plain.specs.Calls.{Pool, Lengths}
 use Rattle.control.specs.Layout.{SlotByte, TaskUnit, TaskPlace, TaskClass, Regions, seen}
 use Rattle.control.specs.Places.{A1, STRIP_TAKE}
-use Rattle.control.specs.declared.answer.Answer.TheVariants.{Allocated, Freed, NoStrip}
+use Rattle.control.specs.Answers.{Allocated, Freed, NoStrip}
 use Rattle.stepped.specs.Outcome.{Memories}
 use Rattle.stepped.specs.Ranges.{is_block}
 use Rattle.stepped.specs.Calls.{Tested, step_outcome}
@@ -40,9 +41,8 @@ use Rattle.pieces.proofs.FreeStretches.{none-exactly}
 use Rattle.pieces.proofs.StripGiving.{give-joined}
 use Rattle.pieces.proofs.StripSizes.{rounds, less-than-twice}
 use Rattle.pieces.proofs.Strips.{taken-row, taken-fits, taken-aligned, given-row, none_left}
-use Rattle.strip_tree.specs.declared.find.Found.TheVariants.{At, Nothing}
-use Rattle.strip_tree.specs.TreeMoves.{find, slot_of_node}
-use Rattle.strip_tree.proofs.NoFreeNodes.{none_free, finds-none}
+use Rattle.strip_tree.specs.TreeMoves.{find, found_at, slot_of_node}
+use Rattle.strip_tree.proofs.NoFreeNodes.{none_free, finds-none, found-once, found-none}
 use Rattle.strips_agreement.specs.TreeFollows.{Follows}
 use Rattle.strips_agreement.specs.StripsAgree.{TakeAgrees}
 use Rattle.strips_agreement.proofs.StripsAgree.{take-agrees}
@@ -113,13 +113,11 @@ module _ {h : History} {s₁ : Memories} {s : Pool} (R : Reached h s₁ s) (lent
       → (m.task t).place ≡ working (strip-take (v (TaskClass t)))
       → (size : ℕ) → StripServes size (v (TaskClass t)) → StripHanded m.strips after.strips size u
   taken K none_found e A p size Z =
-      let f : At K.node K.found-order ≡ Nothing = sym K.found ∙ A in
-      let y : ◌≡◌ {A = ℕ} 0 1 = cc in
-      absurd (omega arith)
+      found-none (sym K.found ∙ A)
   taken {u} K (strip_at q pieces) e A p size Z =
-      let f : At A.node A.order ≡ At K.node K.found-order = sym A.found ∙ K.found in
-      let i : A.node ≡ K.node = cc in
-      let j : A.order ≡ K.found-order = cc in
+      let f = found-once (sym A.found ∙ K.found) in
+      let i = f.0 in
+      let j = f.1 in
       let here : slot_of_node K.found-order K.node ≡ q = rw (i, j) at A.slot in
       let c = v (TaskClass t) in
       let r = rounds size Z.1 in
@@ -203,18 +201,17 @@ module _ {h : History} {s₁ : Memories} {s : Pool} (R : Reached h s₁ s) (lent
 
   -- the search finds nothing exactly where the plain pool has no strip
   none_alike : Tested lent v t → v (TaskClass t) < ORDERS
-      → (find (tree_of v) (v (TaskClass t)) ≡ Nothing) ↔ (take_strip (v (TaskClass t)) m.strips ≡ none_found)
+      → (find (tree_of v) (v (TaskClass t)) ≡ None) ↔ (take_strip (v (TaskClass t)) m.strips ≡ none_found)
   none_alike T few =
       by (take_strip (v (TaskClass t)) m.strips) refl
       (take-agrees (tree_of v) (λ q. v (SlotByte q)) m.strips (follows T) (v (TaskClass t)) few)
     where
       by : (x : StripTaken) → take_strip (v (TaskClass t)) m.strips ≡ x
           → TakeAgrees (tree_of v) (λ q. v (SlotByte q)) (v (TaskClass t)) x
-          → (find (tree_of v) (v (TaskClass t)) ≡ Nothing) ↔ (take_strip (v (TaskClass t)) m.strips ≡ none_found)
+          → (find (tree_of v) (v (TaskClass t)) ≡ None) ↔ (take_strip (v (TaskClass t)) m.strips ≡ none_found)
       by none_found e A = (λ f. e, λ f. A)
       by (strip_at q pieces) e A = (
-        λ f. let g : At A.node A.order ≡ Nothing = sym A.found ∙ f in
-            let y : ◌≡◌ {A = ℕ} 0 1 = cc in absurd (omega arith),
+        λ f. found-none (sym A.found ∙ f),
         λ f. let g : strip_at q pieces ≡ none_found = sym e ∙ f in
             let y : ◌≡◌ {A = ℕ} 0 1 = cc in absurd (omega arith),
       )

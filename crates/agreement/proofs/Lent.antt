@@ -9,9 +9,9 @@ use Rattle.plain.specs.Calls.{Start, Call, start, allocate, free, leave, step, L
 use Rattle.plain.proofs.CallTests.{start-tested, start-numbers}
 use Rattle.control.specs.Layout.{seen}
 use Rattle.control.specs.Answers.{code_of}
-use Rattle.control.specs.declared.answer.Answer.{Answer}
-use Rattle.control.specs.declared.answer.Answer.TheVariants.{Accepted, Allocated, Freed, NoDescriptor, NoRegion}
-use Rattle.control.specs.declared.answer.Answer.TheVariants.{NoStrip, Refused}
+use Rattle.control.specs.Answers.{Answer}
+use Rattle.control.specs.Answers.{Accepted, Allocated, Freed, NoDescriptor, NoRegion}
+use Rattle.control.specs.Answers.{NoStrip, Refused}
 use Rattle.stepped.specs.Outcome.{Effect, effect, step_effect, refuse, Memories}
 use Rattle.stepped.specs.Calls.{Lent, lengths, effect_in}
 use Rattle.stepped.specs.Calls as Stepped

@@ -20,9 +20,8 @@ use Rattle.plain.proofs.CallTests.{start-numbers}
 use Rattle.control.specs.Layout.{seen, changed, Tasks, TaskLost}
 use Rattle.control.specs.Losts.{MOST_LOST, one_more}
 use Rattle.control.specs.Answers as Answers
-use Rattle.control.specs.declared.answer.Answer.TheVariants.{Accepted, Allocated, Freed, NoDescriptor, NoRegion}
-use Rattle.control.specs.declared.answer.Answer.TheVariants.{NoStrip, Refused}
-use Rattle.control.specs.declared.answer.Answer as Declared
+use Rattle.control.specs.Answers.{Accepted, Allocated, Freed, NoDescriptor, NoRegion}
+use Rattle.control.specs.Answers.{NoStrip, Refused}
 use Rattle.control.proofs.Fields.{seen-changed}
 use Rattle.stepped.specs.Outcome.{Memories, Outcome, Effect}
 use Rattle.stepped.specs.Calls as Calls
@@ -107,12 +106,12 @@ module _ (h : History) where
         either true = refl
         either false = old j l
 
-        by : (a : Declared.Answer) → o.answer ≡ a → Begins ns a
+        by : (a : Answers.Answer) → o.answer ≡ a → Begins ns a
             → assigned o.writes v (TaskLost j) ≡ after k (answer_of o) j
         by Accepted e b =
             B.cleared e j
             ∙ either (eqb t j)
-            ∙ ap told (sym (is j (answer_of o) es ∙ ap (λ (a : Declared.Answer). begun (Answers.code_of a)) e))
+            ∙ ap told (sym (is j (answer_of o) es ∙ ap (λ (a : Answers.Answer). begun (Answers.code_of a)) e))
         by (Allocated u) e b = absurd b
         by Freed e b = absurd b
         by NoDescriptor e b = absurd b
@@ -123,7 +122,7 @@ module _ (h : History) where
             ap (λ ws. assigned ws v (TaskLost j)) (B.nothing n e).0
             ∙ old j l
             ∙ ap told (sym (is j (answer_of o) es
-            ∙ ap (λ (a : Declared.Answer). begun (Answers.code_of a)) e
+            ∙ ap (λ (a : Answers.Answer). begun (Answers.code_of a)) e
             ∙ ap (λ (b : Bool). cond (b && eqb t j) [] es) (ne_eqb n 0 z)))
 
     -- a step counts the exchange that it loses

@@ -21,7 +21,7 @@ use Rattle.plain.specs.Steps.{Result, at_place}
 use Rattle.plain.proofs.PlaceAlone.{task_of}
 use Rattle.control.specs.Layout.{Head, DescriptorNext, RegionNext, TaskPlace, TaskHead}
 use Rattle.control.specs.Answers.{code_of, value_of}
-use Rattle.control.specs.declared.answer.Answer.{Answer}
+use Rattle.control.specs.Answers.{Answer}
 use Rattle.stepped.specs.Outcome.{Outcome, accept, over}
 use Rattle.stepped.specs.Lists.{Items, how_many, next_field}
 use Rattle.agreement.specs.Contents.{Slot, slot_of, contents_of}

@@ -20,7 +20,7 @@ use Rattle.plain.specs.Steps as Steps
 use Rattle.control.specs.Layout.{Head, TaskPlace, TaskHead, TaskNext, TaskClass, TaskDescriptor, TaskRegion}
 use Rattle.control.specs.Places.{IDLE, POP_SPARE, POP_REGION, PUSH_BACK, A3_READ, A7}
 use Rattle.control.specs.Places.{TO_NEXT, TO_EXCHANGE}
-use Rattle.control.specs.declared.answer.Answer.TheVariants.{Accepted, NoDescriptor}
+use Rattle.control.specs.Answers.{Accepted, NoDescriptor}
 use Rattle.control.specs.declared.moves.Pop.{Pop}
 use Rattle.control.specs.declared.moves.Pop.TheVariants.{Partial, Spare, Region}
 use Rattle.control.specs.declared.moves.Push.TheVariants.{Back}

@@ -17,7 +17,7 @@ use Rattle.control.specs.Layout.{layout, Head, GroupCount, TaskPlace, TaskHead, 
 use Rattle.control.specs.Layout.{TaskState, LEAVING}
 use Rattle.control.specs.Places.{PUSH_OFFER, F1, F2, LEAVE_END}
 use Rattle.control.specs.Answers.{code_of, value_of}
-use Rattle.control.specs.declared.answer.Answer.{Answer}
+use Rattle.control.specs.Answers.{Answer}
 use Rattle.control.specs.declared.moves.Push.TheVariants.{Offer}
 use Rattle.stepped.specs.Outcome.{over}
 use Rattle.stepped.specs.Lists as Lists

@@ -22,7 +22,7 @@ use Rattle.plain.specs.Steps as Steps
 use Rattle.control.specs.Layout.{Head, TaskPlace, TaskHead, TaskClass, TaskUnit, TaskDescriptor, TaskRegion, TaskState}
 use Rattle.control.specs.Places.{IDLE, POP_PARTIAL}
 use Rattle.control.specs.Places.{TO_NEXT, TO_EXCHANGE}
-use Rattle.control.specs.declared.answer.Answer.TheVariants.{Accepted, NoRegion}
+use Rattle.control.specs.Answers.{Accepted, NoRegion}
 use Rattle.control.specs.declared.moves.Pop.TheVariants.{Partial}
 use Rattle.control.specs.declared.moves.Push.{Push}
 use Rattle.control.specs.declared.moves.Push.TheVariants.{Retire, Back, Release, Offer}

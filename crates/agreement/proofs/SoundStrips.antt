@@ -11,8 +11,9 @@ use Rattle.limits.specs.Limits.{TASKS, ORDERS, SLOTS, UNITS, BOTH_UNITS, SLOT_UN
 use Rattle.fields.specs.Columns.{View, ◌:=◌, Sound}
 use Rattle.pieces.specs.StripUnits.{slot_of_unit, is_strip_unit}
 use Rattle.strip_tree.specs.declared.tree.Tree.{Tree}
+use Rattle.std.specs.declared.option.Option.{Option}
+use Rattle.std.specs.declared.option.Option.TheVariants.{None, Some}
 use Rattle.strip_tree.specs.declared.find.Found.{Found}
-use Rattle.strip_tree.specs.declared.find.Found.TheVariants.{At, Nothing}
 use Rattle.strip_tree.specs.Trees.{without_free}
 use Rattle.strip_tree.specs.TreeMoves.{find, joining, node_of, can_begin}
 use Rattle.strip_tree.specs.SlotStates.{FREE_BEGUN, LAST_BYTE, order_in}
@@ -55,9 +56,11 @@ module _ (v : View) (fits : Fitting v) {t : ℕ} (task : t < TASKS) where
 
   -- ---- the steps
 
-  pub take_found : {c : ℕ} → c < ORDERS → (f : Found) → find (tree_of v) c ≡ f → Fit t (Strips.strip_take_by v t c f)
+  pub take_found : {c : ℕ} → c < ORDERS → (f : Option Found) → find (tree_of v) c ≡ f → Fit t (Strips.strip_take_by v t c f)
   unfolding Strips.strip_take_at
-  take_found {c} few (At i j) e =
+  take_found {c} few (Some f) e =
+      let i = f.node in
+      let j = f.order in
       let x = in-level (tree_of v) c i j (finds (tree_of v) c i j few e) in
       let S = halving-small (j - c) (without_free (tree_of v) i) i (cleared-small (tree_of v) i small-tree) in
       record {
@@ -70,7 +73,7 @@ module _ (v : View) (fits : Fitting v) {t : ℕ} (task : t < TASKS) where
         );
         own = omega arith;
       }
-  take_found few Nothing e = record { sound = omega (arith, task); own = omega arith }
+  take_found few None e = record { sound = omega (arith, task); own = omega arith }
 
   pub strip-take : (c : ℕ) → Fit t (Strips.strip_take v t c)
   unfolding Strips.strip_take

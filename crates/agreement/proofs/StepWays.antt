@@ -33,8 +33,9 @@ use Rattle.agreement.proofs.MoveWays.{pop-read, pop-next, pop-exchange, push-rea
 use mathlib.Core.Logic.{inl, inr}
 use Rattle.limits.specs.Limits.{ORDERS}
 use Rattle.pieces.specs.StripUnits.{slot_of_unit, is_strip_unit}
+use Rattle.std.specs.declared.option.Option.{Option}
+use Rattle.std.specs.declared.option.Option.TheVariants.{None, Some}
 use Rattle.strip_tree.specs.declared.find.Found.{Found}
-use Rattle.strip_tree.specs.declared.find.Found.TheVariants.{At, Nothing}
 use Rattle.strip_tree.specs.TreeMoves.{find, can_begin}
 use Rattle.strip_tree.specs.SlotStates.{FREE_BEGUN, LAST_BYTE, order_in}
 use Rattle.control.specs.Layout.{SlotByte}
@@ -180,13 +181,13 @@ module _ (v : View) (link : ℕ → ℕ) (t : ℕ) (fits : v (TaskClass t) < CLA
       (f5 v t fits a.state (gave d) ws (λ u. (refl, λ j. refl)) refl))
       (back F3_READ (λ i. absurd (omega arith)) refl)))
 
-  take_found : v (TaskPlace t) ≡ STRIP_TAKE → c < ORDERS → (f : Found) → find (tree_of v) c ≡ f
+  take_found : v (TaskPlace t) ≡ STRIP_TAKE → c < ORDERS → (f : Option Found) → find (tree_of v) c ≡ f
       → End (Strips.strip_take_by v t c f)
   unfolding Strips.strip_take_at
-  take_found here few (At i j) e =
-      finish (inr (record { place = here; order = few; node = i; found-order = j; found = e; is = refl }))
+  take_found here few (Some f) e =
+      finish (inr (record { place = here; order = few; node = f.node; found-order = f.order; found = e; is = refl }))
       (λ u. (refl, λ j. refl)) refl
-  take_found here few Nothing e =
+  take_found here few None e =
       finish (record { place = here; order = few; none = none_free (tree_of v) c few e }) (λ u. (refl, λ j. refl)) refl
 
   strip-take : v (TaskPlace t) ≡ STRIP_TAKE → End (Strips.strip_take v t c)

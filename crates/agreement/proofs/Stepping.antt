@@ -16,7 +16,7 @@ use Rattle.control.specs.Layout.{TaskPlace, TaskClass}
 use Rattle.control.specs.Places.{IDLE}
 use Rattle.stepped.specs.Steps as Stepped
 use Rattle.plain.specs.Moves.{nothing}
-use Rattle.control.specs.declared.answer.Answer.TheVariants.{Freed}
+use Rattle.control.specs.Answers.{Freed}
 use Rattle.agreement.proofs.MoveSteps.{moves}
 use Rattle.agreement.specs.Contents.{slot_of, contents_of}
 use Rattle.agreement.specs.Relation.{WorkRelated, r_a1, r_popping, r_pushing, r_a3_read, r_a3_exchange, r_a4}

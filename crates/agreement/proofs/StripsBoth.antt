@@ -15,11 +15,13 @@ use Rattle.pieces.specs.Strips.{StripTaken, none_found, strip_at, take_strip, St
 use Rattle.pieces.specs.Strips.{free_begun, give_strip}
 use Rattle.pieces.specs.StripUnits.{strip_unit, slot_of_unit, is_strip_unit}
 use Rattle.strip_tree.specs.declared.tree.Tree.{Tree}
+use Rattle.std.specs.declared.option.Option.{Option}
+use Rattle.std.specs.declared.option.Option.TheVariants.{None, Some}
 use Rattle.strip_tree.specs.declared.find.Found.{Found}
-use Rattle.strip_tree.specs.declared.find.Found.TheVariants.{At as FoundAt, Nothing}
 use Rattle.strip_tree.specs.Trees.{without_free}
-use Rattle.strip_tree.specs.TreeMoves.{find, halving, joining, node_of, slot_of_node, can_begin}
+use Rattle.strip_tree.specs.TreeMoves.{find, found_at, halving, joining, node_of, slot_of_node, can_begin}
 use Rattle.strip_tree.specs.SlotStates.{IN_HAND, FREE_BEGUN, LAST_BYTE, order_in}
+use Rattle.strip_tree.proofs.NoFreeNodes.{found-once, found-none}
 use Rattle.strips_agreement.specs.TreeFollows.{Follows}
 use Rattle.strips_agreement.specs.StripsAgree.{TakeAgrees, BegunAgrees, StartAgrees}
 use Rattle.strips_agreement.proofs.StripsAgree.{take-agrees, start-agrees}
@@ -86,7 +88,7 @@ module _ {regions : ℕ} {v : View} {area : List ℕ} {m : Mem} {t : ℕ} {p : P
 
   -- ---- the step that takes a strip
 
-  taken : (i j : ℕ) (q : Pieces WHOLE_ORDER) → find (tree_of v) (v (TaskClass t)) ≡ FoundAt i j
+  taken : (i j : ℕ) (q : Pieces WHOLE_ORDER) → find (tree_of v) (v (TaskClass t)) ≡ found_at i j
       → v (TaskClass t) < ORDERS
       → Follows (halving (without_free (tree_of v) i) (j - v (TaskClass t)) i)
       (update byte (slot_of_node j i) (IN_HAND + v (TaskClass t))) q
@@ -97,18 +99,15 @@ module _ {regions : ℕ} {v : View} {area : List ℕ} {m : Mem} {t : ℕ} {p : P
     says = refl;
     keeps = (refl, refl);
     rel = idle-after (slot_of_node j i) (IN_HAND + v (TaskClass t)) _ q F;
-    sound = (Sound.take_found v w.fitting w.pair.turn.fits few (FoundAt i j) e).sound;
+    sound = (Sound.take_found v w.fitting w.pair.turn.fits few (found_at i j) e).sound;
     apart = tt;
   }
 
-  take_by : (x : StripTaken) (f : Found) → find (tree_of v) (v (TaskClass t)) ≡ f
+  take_by : (x : StripTaken) (f : Option Found) → find (tree_of v) (v (TaskClass t)) ≡ f
       → v (TaskClass t) < ORDERS → TakeAgrees (tree_of v) byte (v (TaskClass t)) x
       → Both regions v area m (Strips.strip_take_by v t (v (TaskClass t)) f) (Steps.strip_take_step t k x m)
-  take_by none_found (FoundAt i j) e few A =
-      let y : FoundAt i j ≡ Nothing = sym e ∙ A in
-      let y : ◌≡◌ {A = ℕ} 0 1 = cc in
-      absurd (omega arith)
-  take_by none_found Nothing e few A = record {
+  take_by none_found (Some f) e few A = found-none (sym e ∙ A)
+  take_by none_found None e few A = record {
     says = refl;
     keeps = (refl, refl);
     rel =
@@ -117,14 +116,13 @@ module _ {regions : ℕ} {v : View} {area : List ℕ} {m : Mem} {t : ℕ} {p : P
     sound = omega (arith, w.pair.turn.fits);
     apart = tt;
   }
-  take_by (strip_at s q) Nothing e few A =
-      let y : FoundAt A.node A.order ≡ Nothing = sym A.found ∙ e in
-      let y : ◌≡◌ {A = ℕ} 0 1 = cc in
-      absurd (omega arith)
-  take_by (strip_at s q) (FoundAt i j) e few A =
-      let y : FoundAt A.node A.order ≡ FoundAt i j = sym A.found ∙ e in
-      let a : A.node ≡ i = cc in
-      let b : A.order ≡ j = cc in
+  take_by (strip_at s q) None e few A = found-none (sym A.found ∙ e)
+  take_by (strip_at s q) (Some f) e few A =
+      let i = f.node in
+      let j = f.order in
+      let y = found-once (sym A.found ∙ e) in
+      let a = y.0 in
+      let b = y.1 in
       let here : slot_of_node j i ≡ s = rw (a, b) at A.slot in
       let tree = halving (without_free (tree_of v) i) (j - v (TaskClass t)) i in
       let F : Follows tree (update byte s (IN_HAND + v (TaskClass t))) q = rw (a, b) at A.after in

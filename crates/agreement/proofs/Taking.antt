@@ -24,7 +24,7 @@ use Rattle.plain.specs.Steps as Steps
 use Rattle.plain.proofs.PlaceAlone.{task_of, lengths}
 use Rattle.control.specs.Layout.{TaskPlace, TaskClass, CacheTop, CacheCount, Marks}
 use Rattle.control.specs.Places.{IDLE, POP_PARTIAL}
-use Rattle.control.specs.declared.answer.Answer.TheVariants.{Allocated}
+use Rattle.control.specs.Answers.{Allocated}
 use Rattle.stepped.specs.Outcome.{over}
 use Rattle.stepped.specs.Ranges
 use Rattle.stepped.specs.Ranges.{is_top}

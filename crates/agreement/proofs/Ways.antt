@@ -16,15 +16,14 @@ use Rattle.plain.proofs.CallTests.{start-tested}
 use Rattle.control.specs.Layout.{CacheTop, TaskLost, TaskPlace, TaskClass, Tasks, Regions}
 use Rattle.control.specs.Losts.{one_more}
 use Rattle.control.specs.Places.{IDLE, A1, F1, STRIP_TAKE, STRIP_GIVE, LEAVE_END}
-use Rattle.control.specs.declared.answer.Answer.{Answer}
-use Rattle.control.specs.declared.answer.Answer.TheVariants.{Accepted, Allocated, Freed, NoDescriptor, NoRegion}
-use Rattle.control.specs.declared.answer.Answer.TheVariants.{NoStrip, Refused}
+use Rattle.control.specs.Answers.{Answer}
+use Rattle.control.specs.Answers.{Accepted, Allocated, Freed, NoDescriptor, NoRegion}
+use Rattle.control.specs.Answers.{NoStrip, Refused}
 use Rattle.control.specs.declared.moves.Pop.TheVariants.{Spare, Region}
 use Rattle.control.specs.declared.moves.Push.TheVariants.{Back}
 use Rattle.stepped.specs.Outcome.{Outcome, refuse, bad, accept, over, lose, Memories, Effect, effect}
 use Rattle.pieces.specs.StripUnits.{strip_unit}
-use Rattle.strip_tree.specs.declared.find.Found.TheVariants.{At}
-use Rattle.strip_tree.specs.TreeMoves.{find, slot_of_node}
+use Rattle.strip_tree.specs.TreeMoves.{find, found_at, slot_of_node}
 use Rattle.stepped.specs.StripSteps.{tree_of}
 use Rattle.stepped.specs.Ranges.{one_to, is_block}
 use Rattle.stepped.specs.Calls as Calls
@@ -149,7 +148,7 @@ pub record TakesStrip (v : View) (t u : ℕ) : Type 0 where
   pub order : v (TaskClass t) < ORDERS
   pub node : ℕ
   pub found-order : ℕ
-  pub found : find (tree_of v) (v (TaskClass t)) ≡ At node found-order
+  pub found : find (tree_of v) (v (TaskClass t)) ≡ found_at node found-order
   pub is : u ≡ strip_unit (slot_of_node found-order node)
 
 -- why a step gives an answer that ends the request

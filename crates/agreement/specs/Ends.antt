@@ -15,9 +15,9 @@ use Rattle.pieces.specs.StripSizes.{order_of, RoundsTo}
 use Rattle.strip_tree.specs.Trees.{is_free_node}
 use Rattle.control.specs.Places.{IDLE, A1, STRIP_TAKE}
 use Rattle.control.specs.Places.{TO_EXCHANGE}
-use Rattle.control.specs.declared.answer.Answer.{Answer}
-use Rattle.control.specs.declared.answer.Answer.TheVariants.{Accepted, Allocated, Freed, NoDescriptor}
-use Rattle.control.specs.declared.answer.Answer.TheVariants.{NoRegion, NoStrip, Refused}
+use Rattle.control.specs.Answers.{Answer}
+use Rattle.control.specs.Answers.{Accepted, Allocated, Freed, NoDescriptor}
+use Rattle.control.specs.Answers.{NoRegion, NoStrip, Refused}
 use Rattle.control.specs.declared.moves.Pop.{Pop}
 use Rattle.control.specs.declared.moves.Push.{Push}
 use Rattle.stepped.specs.Outcome.{Outcome, Memories, Effect, memories_after}

@@ -1,6 +1,6 @@
 -- The beginning of a free, one law for each way out.
-use Rattle.std.proofs.Common.{◌≡◌, ℕ, ◌+◌, ◌-◌, ◌/◌, ◌%◌, ◌<◌, ◌≤◌, Bool, true, false, cond, ◌≢◌, List, [], ◌∷◌, sym}
-use Rattle.std.proofs.Common.{refl, ap, ◌∙◌, subst, arith, le-ltb, lt-ltb, eq-eqb, ne_eqb, le-leb}
+use Rattle.std.proofs.Common.{◌≡◌, ℕ, ◌+◌, ◌-◌, ◌/◌, ◌%◌, ◌<◌, ◌≤◌, Bool, true, false, cond, ◌≢◌, [], ◌∷◌, sym}
+use Rattle.std.proofs.Common.{ap, ◌∙◌, subst, arith, le-ltb, lt-ltb, eq-eqb, ne_eqb, le-leb}
 use borrow.Author.Tests.{lt-leb}
 use Rattle.limits.specs.Limits.{CLASSES, DESCRIPTORS, WORD_MARKS, UNITS}
 use Rattle.fields.specs.Columns.{View, ◌:=◌}
@@ -8,21 +8,17 @@ use Rattle.words.specs.Anchor.{EMPTY, anchor_of}
 use Rattle.words.specs.Mark.{is_set, with_clear}
 use Rattle.classes.specs.Geometry.{region_of, is_first}
 use Rattle.plain.specs.Moves.{nothing}
-use Rattle.control.specs.Layout.{changed, Anchor, Marks, TaskUnit, TaskLost, TaskPlace, TaskClass, DescriptorRegion}
+use Rattle.control.specs.Layout.{Anchor, Marks, TaskUnit, TaskLost, TaskPlace, TaskClass, DescriptorRegion}
 use Rattle.control.specs.Layout.{DescriptorClass, Map}
-use Rattle.control.specs.declared.answer.Answer.TheVariants.{Accepted}
-use Rattle.control.specs.Places.{IDLE, F1}
+use Rattle.control.specs.Places.{F1}
 use Rattle.stepped.specs.Outcome.{Outcome, refuse, bad, accept}
 use Rattle.stepped.specs.Ranges.{is_anchor}
-use Rattle.stepped.specs.Calls.{when_idle, begin_free, begin_free_small, free_entry, free_by, free_open, free_marked}
+use Rattle.stepped.specs.Calls.{begin_free, begin_free_small, free_entry, free_by, free_open, free_marked}
 use Rattle.stepped.specs.StripSteps.{begin_free_strip}
-use Rattle.stepped.specs.Done.{Done}
-use Rattle.stepped.proofs.Doing.{done}
-use Rattle.begins.proofs.Beginning.{idle-is}
 
 module _ (v : View) (t u c : ℕ) where
   -- the request begins, and the unit's word of marks becomes x
-  abbrev begun : ℕ → Outcome
+  abbrev pub begun : ℕ → Outcome
   begun x =
       accept nothing
       (TaskPlace t := F1
@@ -38,7 +34,7 @@ module _ (v : View) (t u c : ℕ) where
   unfolding free_marked
   mark-clear w e h = rw (subst (λ (x : ℕ). is_set x (u % WORD_MARKS) ≡ false) e h)
 
-  mark_set : (w cleared : ℕ) → w ≡ v (Marks (u / WORD_MARKS)) → is_set w (u % WORD_MARKS) ≡ true
+  pub mark_set : (w cleared : ℕ) → w ≡ v (Marks (u / WORD_MARKS)) → is_set w (u % WORD_MARKS) ≡ true
       → cleared ≡ with_clear w (u % WORD_MARKS)
       → free_marked v t u c ≡ begun cleared
   unfolding free_marked
@@ -46,21 +42,6 @@ module _ (v : View) (t u c : ℕ) where
       ap (λ (b : Bool). cond b (begun (with_clear (v (Marks (u / WORD_MARKS))) (u % WORD_MARKS))) (refuse 11))
       (subst (λ (x : ℕ). is_set x (u % WORD_MARKS) ≡ true) e h)
       ∙ ap begun (sym (k ∙ ap (λ (x : ℕ). with_clear x (u % WORD_MARKS)) e))
-
-  -- the five stores of an accepted beginning
-  pub stored : (w cleared : ℕ) → w ≡ v (Marks (u / WORD_MARKS)) → is_set w (u % WORD_MARKS) ≡ true
-      → cleared ≡ with_clear w (u % WORD_MARKS)
-      → (before : List ℕ) {b₁ b₂ b₃ b₄ b₅ : List ℕ} → b₁ ≡ changed (TaskPlace t := F1 ∷ []) before
-      → b₂ ≡ changed (TaskClass t := c ∷ []) b₁
-      → b₃ ≡ changed (TaskUnit t := u ∷ []) b₂
-      → b₄ ≡ changed (TaskLost t := 0 ∷ []) b₃
-      → b₅ ≡ changed (Marks (u / WORD_MARKS) := cleared ∷ []) b₄ → Done (free_marked v t u c) before b₅ Accepted
-  stored w cleared e h k before h₁ h₂ h₃ h₄ h₅ =
-      done (mark_set w cleared e h k) refl
-      (h₅ ∙ ap (changed (Marks (u / WORD_MARKS) := cleared ∷ []))
-      (h₄ ∙ ap (changed (TaskLost t := 0 ∷ []))
-      (h₃ ∙ ap (changed (TaskUnit t := u ∷ [])) (h₂ ∙ ap (changed (TaskClass t := c ∷ [])) h₁))))
-      refl
 
 module _ (v : View) (t u d : ℕ) where
   pub no-class : CLASSES ≤ v (DescriptorClass d) → free_open v t u d ≡ bad
@@ -136,22 +117,22 @@ module _ (v : View) (regions t u entry : ℕ) where
       let less : entry - 1 ≡ d = omega arith in
       rw (ne_eqb entry 0 (λ z. omega arith), le-leb entry DESCRIPTORS (omega arith), less)
 
-module _ (v : View) (regions t u : ℕ) (idle : v (TaskPlace t) ≡ IDLE) where
+module _ (v : View) (regions t u : ℕ) where
   -- a unit from UNITS up is one of strips
-  pub of-strips : UNITS ≤ u → when_idle v t (begin_free v regions t u) ≡ begin_free_strip v t u
+  pub of-strips : UNITS ≤ u → begin_free v regions t u ≡ begin_free_strip v t u
   unfolding begin_free
-  of-strips h = idle-is v t _ idle ∙ rw (le-ltb u UNITS h)
+  of-strips h = rw (le-ltb u UNITS h)
 
-  of_blocks : u < UNITS → when_idle v t (begin_free v regions t u) ≡ begin_free_small v regions t u
+  pub of_blocks : u < UNITS → begin_free v regions t u ≡ begin_free_small v regions t u
   unfolding begin_free
-  of_blocks h = idle-is v t _ idle ∙ rw (lt-ltb u UNITS h)
+  of_blocks h = rw (lt-ltb u UNITS h)
 
-  pub no-unit : u < UNITS → regions ≤ region_of u → when_idle v t (begin_free v regions t u) ≡ refuse 10
+  pub no-unit : regions ≤ region_of u → begin_free_small v regions t u ≡ refuse 10
   unfolding begin_free_small
-  no-unit l h = of_blocks l ∙ rw (le-ltb (region_of u) regions h)
+  no-unit h = rw (le-ltb (region_of u) regions h)
 
-  pub in-area : u < UNITS → (r entry : ℕ) → r ≡ region_of u → r < regions → entry ≡ v (Map r)
-      → when_idle v t (begin_free v regions t u) ≡ free_entry v regions t u entry
+  pub in-area : (r entry : ℕ) → r ≡ region_of u → r < regions → entry ≡ v (Map r)
+      → begin_free_small v regions t u ≡ free_entry v regions t u entry
   unfolding begin_free_small
-  in-area l r entry e h k =
-      of_blocks l ∙ rw (lt-ltb (region_of u) regions (omega arith), k ∙ ap (λ (x : ℕ). v (Map x)) e)
+  in-area r entry e h k =
+      rw (lt-ltb (region_of u) regions (omega arith), k ∙ ap (λ (x : ℕ). v (Map x)) e)

@@ -3,5 +3,6 @@
 
 pub mod allocate;
 pub mod free;
+pub mod idle;
 pub mod leave;
 pub mod tests;

@@ -1,5 +1,7 @@
 -- The laws of the class that serves a size.
 use mathlib.Core.Path.{◌≡◌, subst}
+use Rattle.std.specs.Prelude.{Ok, Err}
+use Rattle.limits.specs.declared.refusal.Refusal.TheVariants.{SizeZero, SizeTooLarge}
 use mathlib.Core.Bool.{Bool}
 use mathlib.Core.List.{List, [], ◌∷◌}
 use Prim.Native.Nat.{ℕ, zero, suc, ◌+◌, ◌*◌, ◌-◌, ◌/◌, ◌≤◌, ◌<◌}
@@ -11,7 +13,7 @@ use borrow.Author.Tests.{le-leb, lt-leb, lt-ltb, le-ltb, eq-eqb, ne_eqb}
 use Rattle.limits.specs.Limits.{UNIT_BYTES, CLASSES, LARGEST_SIZE, LARGEST_STRIP}
 use Rattle.classes.specs.Classes.{block_sizes, SMALLEST_SIZE, units, block}
 use Rattle.classes.specs.Sizes.{first_holding, class_of, choice}
-use Rattle.classes.specs.declared.size.Choice.TheVariants.{Class, Strip, Refused}
+use Rattle.classes.specs.declared.size.Choice.TheVariants.{Class, Strip}
 use Rattle.classes.proofs.Below.{at}
 use Rattle.classes.proofs.Tables.{rows}
 
@@ -90,21 +92,21 @@ unfolding class_of units
 not-at-36 h = omega arith
 
 -- size 0 is refused by 8
-pub refuses-none : (s : ℕ) → s ≡ 0 → choice s ≡ Refused 8
+pub refuses-none : (s : ℕ) → s ≡ 0 → choice s ≡ Err SizeZero
 unfolding choice
 refuses-none s e = rw (eq-eqb s 0 e)
 
 -- a size above the largest is refused by 9
-pub refuses-large : (s : ℕ) → LARGEST_STRIP < s → choice s ≡ Refused 9
+pub refuses-large : (s : ℕ) → LARGEST_STRIP < s → choice s ≡ Err SizeTooLarge
 unfolding choice
 refuses-large s h = rw (ne_eqb s 0 (omega arith), lt-ltb LARGEST_STRIP s h)
 
 -- a size up to that, above the largest of a small block, gets a strip
-pub gets-strip : (s : ℕ) → LARGEST_SIZE < s → s ≤ LARGEST_STRIP → choice s ≡ Strip
+pub gets-strip : (s : ℕ) → LARGEST_SIZE < s → s ≤ LARGEST_STRIP → choice s ≡ Ok Strip
 unfolding choice
 gets-strip s l h = rw (ne_eqb s 0 (omega arith), le-ltb LARGEST_STRIP s h, lt-ltb LARGEST_SIZE s l)
 
 -- every other size is served by its class
-pub serves : (s : ℕ) → 1 ≤ s → s ≤ LARGEST_SIZE → choice s ≡ Class (class_of s)
+pub serves : (s : ℕ) → 1 ≤ s → s ≤ LARGEST_SIZE → choice s ≡ Ok (Class (class_of s))
 unfolding choice
 serves s l h = rw (ne_eqb s 0 (omega arith), le-ltb LARGEST_STRIP s (omega arith), le-ltb LARGEST_SIZE s h)

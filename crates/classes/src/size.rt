@@ -4,12 +4,14 @@ ghost use Rattle.limits.specs.Limits.{UNIT_BYTES, LARGEST_SIZE};
 ghost use Rattle.classes.specs.Classes.{LARGEST_UNITS};
 ghost use Rattle.classes.specs.Sizes.{choice, class_of};
 
-// The class that serves a size, that a strip does, or the number that refuses it.
-#[derive(Drop)]
+use limits::index::Class;
+use limits::refusal::Refusal;
+
+// What serves a size: the smallest class whose block holds it, or a strip.
+#[derive(Clone, Copy)]
 pub enum Choice {
-    Class(u8),
+    Class(Class),
     Strip,
-    Refused(u8),
 }
 
 // Hexadecimal digit p is the class of the smallest size s with the leading bit of s - 1 at place p.
@@ -34,28 +36,29 @@ fn class_of(units: usize) -> u8
     (first_class + (next_two >> unread)) as u8
 }
 
-// What a size above the largest of a small block is given: a strip, or 9 above the largest strip. Caller: `size_class`.
-fn strip_or_nine(bytes: usize) -> Choice
+// What a size above the largest of a small block is given: a strip, if the largest is no smaller. Caller: `size_class`.
+fn strip(bytes: usize) -> Result<Choice, Refusal>
     requires { LARGEST_SIZE < bytes }
     ensures { result ≡ choice bytes }
 {
     if limits::LARGEST_STRIP < bytes {
-        return Choice::Refused(9);
+        return Err(Refusal::SizeTooLarge);
     }
-    Choice::Strip
+    Ok(Choice::Strip)
 }
 
-// The class of the smallest block that holds the size, or a strip; 8 refuses size 0, and 9 a size above the largest.
-pub fn size_class(size: u64) -> Choice
+// The class of the smallest block that holds the size, or a strip; size 0 and a size above the largest are refused.
+pub fn size_class(size: u64) -> Result<Choice, Refusal>
     ensures { result ≡ choice size }
 {
     let bytes = size as usize;
     if bytes == 0 {
-        return Choice::Refused(8);
+        return Err(Refusal::SizeZero);
     }
     if limits::LARGEST_SIZE < bytes {
-        return strip_or_nine(bytes);
+        return strip(bytes);
     }
     let units = (bytes + limits::UNIT_BYTES - 1) / limits::UNIT_BYTES;
-    Choice::Class(class_of(units))
+    let class = class_of(units) as usize;
+    Ok(Choice::Class(Class::new(class)))
 }

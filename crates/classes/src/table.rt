@@ -1,18 +1,18 @@
 // The table of classes. Each row is a match, which becomes one read from a table; a constant array would be copied to
 // the stack at each read. The last arm is past the table and has what class 0 has, as the definitions do. No caller
 // comes there; were it the last class's, the compiler would ask for that class before each read.
-ghost use Rattle.std.specs.Prelude.{◌≡◌, ◌<◌};
-ghost use Rattle.limits.specs.Limits.{CLASSES};
+ghost use Rattle.std.specs.Prelude.{◌≡◌};
 ghost use Rattle.classes.specs.Classes.{units, per_region};
 ghost use Rattle.classes.specs.Factors.{Factor};
 
+use limits::index::Class;
+
 // The units of a block of the class. Callers have the class of a request, which its step has tested: `first_unit`,
 // `index_of`, and the steps that name a block by its index.
-pub fn units(class: usize) -> usize
-    requires { class < CLASSES }
+pub fn units(class: Class) -> usize
     ensures { result ≡ units class }
 {
-    match class {
+    match class.get() {
         0 => 1,
         1 => 2,
         2 => 4,
@@ -32,11 +32,10 @@ pub fn units(class: usize) -> usize
 
 // How many blocks of the class a region has, n. Callers have the class as those of `units` do: the steps that compare
 // an index, or the count of a cache, a group or an anchor, with n.
-pub fn per_region(class: usize) -> usize
-    requires { class < CLASSES }
+pub fn per_region(class: Class) -> usize
     ensures { result ≡ per_region class }
 {
-    match class {
+    match class.get() {
         0 => 512,
         1 => 256,
         2 => 128,
@@ -56,11 +55,10 @@ pub fn per_region(class: usize) -> usize
 
 // A number that tells the first units of the class's blocks by one product, without a division. Any with its property
 // would do; docs/DECISIONS.md says how these were found. Caller: `is_first`.
-pub fn factor(class: usize) -> usize
-    requires { class < CLASSES }
+pub fn factor(class: Class) -> usize
     ensures { Factor class result }
 {
-    match class {
+    match class.get() {
         0 => 128,
         1 => 2147483776,
         2 => 1073741953,

@@ -4,9 +4,9 @@ use mathlib.Core.Path.{◌≡◌, refl}
 use Prim.Native.Nat.{◌+◌, ◌*◌}
 use native.Mathlib.Omega.{arith}
 use Rattle.control.specs.Answers.{CODES, code_of, value_of, number_of, number_telling, number_with}
-use Rattle.control.specs.declared.answer.Answer.{Answer}
-use Rattle.control.specs.declared.answer.Answer.TheVariants.{Accepted, Allocated, Freed, Refused}
-use Rattle.control.specs.declared.answer.Answer.TheVariants.{NoDescriptor, NoRegion, NoStrip}
+use Rattle.control.specs.Answers.{Answer}
+use Rattle.control.specs.Answers.{Accepted, Allocated, Freed, Refused}
+use Rattle.control.specs.Answers.{NoDescriptor, NoRegion, NoStrip}
 
 pub number_is : (a : Answer) → number_of a ≡ code_of a + CODES * value_of a
 number_is Accepted = refl

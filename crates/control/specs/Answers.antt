@@ -1,9 +1,48 @@
 -- docs/POOL.md, "Calls and refusals"
--- The paper's number and value for each answer.
-use Rattle.std.specs.Prelude.{ℕ, ◌+◌, ◌*◌, ◌/◌, ◌%◌}
-use Rattle.control.specs.declared.answer.Answer.{Answer}
-use Rattle.control.specs.declared.answer.Answer.TheVariants.{Accepted, Allocated, Freed, Refused}
-use Rattle.control.specs.declared.answer.Answer.TheVariants.{NoDescriptor, NoRegion, NoStrip}
+-- What a call answers, and the paper's number and value for each answer.
+use Rattle.std.specs.Prelude.{ℕ, ◌+◌, ◌*◌, ◌/◌, ◌%◌, Ok, Err}
+use Rattle.std.specs.declared.result.Result.{Result}
+use Rattle.control.specs.declared.answer.Answer.{Answer as Returned}
+use Rattle.control.specs.declared.answer.Answer.TheVariants as returned
+use Rattle.limits.specs.declared.refusal.Refusal.{Refusal}
+use Rattle.limits.specs.declared.refusal.Refusal.TheVariants as refusal
+
+-- accepted or still under way; a finished allocation with its unit; a finished free, or leaving; a request that ends
+-- with 12, 13 or 16; and a refusal by its number
+pub data Answer : Type 0 where
+  Accepted : Answer
+  Allocated : ℕ → Answer
+  Freed : Answer
+  NoDescriptor : Answer
+  NoRegion : Answer
+  NoStrip : Answer
+  Refused : ℕ → Answer
+
+-- "A refused call answers the number" (the paper's list of them)
+abbrev pub refusal_number : Refusal → ℕ
+refusal_number refusal.ControlLength = 1
+refusal_number refusal.AreaLength = 2
+refusal_number refusal.TaskCount = 3
+refusal_number refusal.NotStarted = 4
+refusal_number refusal.NoTask = 5
+refusal_number refusal.Busy = 6
+refusal_number refusal.Idle = 7
+refusal_number refusal.SizeZero = 8
+refusal_number refusal.SizeTooLarge = 9
+refusal_number refusal.NoBlock = 10
+refusal_number refusal.NotInHand = 11
+refusal_number refusal.OutOfRange = 14
+refusal_number refusal.RowTooShort = 23
+
+-- the answer of a call, by what its function returns
+abbrev pub answer_of : Result Returned Refusal → Answer
+answer_of (Ok returned.Accepted) = Accepted
+answer_of (Ok (returned.Allocated u)) = Allocated u
+answer_of (Ok returned.Freed) = Freed
+answer_of (Ok returned.NoDescriptor) = NoDescriptor
+answer_of (Ok returned.NoRegion) = NoRegion
+answer_of (Ok returned.NoStrip) = NoStrip
+answer_of (Err e) = Refused (refusal_number e)
 
 -- "Code 0 is accepted or still under way, 20 finished"; "12 no descriptor; 13 no region"; "16 ends a request exactly if
 -- no aligned free stretch of the rounded size exists"; "A refused call answers the number"

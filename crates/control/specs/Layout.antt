@@ -2,10 +2,10 @@
 -- The layout of the control memory. Each column is defined once, with its first byte, its width and how many numbers it
 -- has, and below it the field that stands in it; `layout` lists the columns in their order. A further column is its
 -- definition and a line of the list. docs/LAYOUT.md gives each field's range and says what the gaps are kept for.
-use Rattle.std.specs.Prelude.{ℕ, ◌+◌, ◌*◌, ◌/◌, ◌≡◌, List, [], ◌∷◌, length}
+use Rattle.std.specs.Prelude.{ℕ, ◌+◌, ◌*◌, ◌/◌, ◌≡◌, ◌≤◌, List, [], ◌∷◌, length}
 use Rattle.limits.specs.Limits.{CONTROL_BYTES, UNITS, TASKS, REGIONS, DESCRIPTORS, LISTS, WORD_MARKS, SLOTS}
 use Rattle.limits.specs.Limits.{BOTH_UNITS}
-use Rattle.fields.specs.Columns.{Column, Field, View, Write, view, written}
+use Rattle.fields.specs.Columns.{Column, Field, View, Write, column_of, past_of, view, written}
 
 -- `count` numbers of `width` bytes each, from the byte `start` on
 abbrev column : ℕ → ℕ → ℕ → Column
@@ -14,6 +14,10 @@ column start width count = record { start = start; width = width; count = count 
 -- the number of a column at an index
 abbrev pub field_of : Column → ℕ → Field
 field_of k index = record { column = k.start; index = index }
+
+-- the field at an index of the column that starts at a byte
+abbrev pub field_at : ℕ → ℕ → Field
+field_at start index = record { column = start; index = index }
 
 -- how many words the marks of all units take, 64 in each
 abbrev pub MARK_WORDS : ℕ
@@ -282,6 +286,10 @@ layout =
     ∷ bytes_of_slots
     ∷ []
 
+-- the byte that a column starts at
+abbrev pub start_of : Column → ℕ
+start_of k = k.start
+
 -- what stands in each field of a control memory
 abbrev pub seen : List ℕ → View
 seen = view layout
@@ -293,3 +301,8 @@ changed = written layout
 -- a control memory: every call tests its length first
 abbrev pub Control : List ℕ → Type 0
 Control b = length b ≡ CONTROL_BYTES
+
+-- the layout has a column that starts there, of so many numbers of so many bytes, and it lies in the control memory
+pub record IsColumn (start width count : ℕ) : Type 0 where
+  pub is_listed : column_of layout start ≡ column start width count
+  pub is_inside : past_of (column start width count) ≤ CONTROL_BYTES

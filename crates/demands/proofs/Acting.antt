@@ -10,9 +10,9 @@ use Rattle.plain.specs.Moves as Moves
 use Rattle.plain.specs.Calls.{Call, Start, start, allocate, free, leave, step}
 use Rattle.control.specs.Layout.{seen}
 use Rattle.control.specs.Answers.{code_of, value_of, number_of, code_in}
-use Rattle.control.specs.declared.answer.Answer.{Answer}
-use Rattle.control.specs.declared.answer.Answer.TheVariants.{Accepted, Allocated, Freed, NoDescriptor, NoRegion}
-use Rattle.control.specs.declared.answer.Answer.TheVariants.{NoStrip, Refused}
+use Rattle.control.specs.Answers.{Answer}
+use Rattle.control.specs.Answers.{Accepted, Allocated, Freed, NoDescriptor, NoRegion}
+use Rattle.control.specs.Answers.{NoStrip, Refused}
 use Rattle.stepped.specs.Outcome.{Outcome, refuse, Effect, effect, Memories}
 use Rattle.stepped.specs.Calls.{effect_of, lengths, lending, control_fails}
 use Rattle.stepped.specs.Calls as Calls

@@ -14,7 +14,7 @@ use Rattle.fields.specs.Columns.{View, Write, ◌:=◌, assigned}
 use Rattle.words.specs.Head.{item_of}
 use Rattle.plain.specs.Calls.{Lengths}
 use Rattle.control.specs.Layout.{Head, TaskHead, TaskPlace, TaskClass, TaskDescriptor, Regions, DescriptorNext}
-use Rattle.control.specs.declared.answer.Answer.TheVariants.{NoRegion}
+use Rattle.control.specs.Answers.{NoRegion}
 use Rattle.control.specs.declared.moves.Push.TheVariants.{Back}
 use Rattle.stepped.specs.Outcome.{Outcome}
 use Rattle.stepped.specs.Lists as Lists

@@ -20,7 +20,7 @@ use Rattle.plain.specs.Calls.{Pool, Call, Start, start, allocate, free, leave, s
 use Rattle.plain.specs.Calls as Plain
 use Rattle.control.specs.Layout.{seen, changed, TaskPlace, TaskClass, TaskLost, Regions}
 use Rattle.control.specs.Answers.{code_of, number_with, code_in}
-use Rattle.control.specs.declared.answer.Answer.{Answer}
+use Rattle.control.specs.Answers.{Answer}
 use Rattle.control.proofs.AnswerNumber.{tells_none}
 use Rattle.stepped.specs.Steps.{step_at}
 use Rattle.stepped.specs.Outcome.{Outcome, Memories}

@@ -12,8 +12,8 @@ use Rattle.plain.specs.Calls.{Pool, Call, start, allocate, free, leave, step, Le
 use Rattle.control.specs.Layout.{seen, TaskPlace}
 use Rattle.control.specs.Places.{IDLE, STRIP_TAKE}
 use Rattle.control.specs.Answers.{code_of, code_in}
-use Rattle.control.specs.declared.answer.Answer.{Answer}
-use Rattle.control.specs.declared.answer.Answer.TheVariants.{NoDescriptor, NoRegion, NoStrip}
+use Rattle.control.specs.Answers.{Answer}
+use Rattle.control.specs.Answers.{NoDescriptor, NoRegion, NoStrip}
 use Rattle.control.specs.declared.moves.Pop.TheVariants.{Spare, Region}
 use Rattle.control.specs.declared.moves.Push.TheVariants.{Back}
 use Rattle.stepped.specs.Outcome.{Outcome, Memories}

@@ -14,8 +14,8 @@ use Rattle.plain.specs.Calls.{Pool, Lengths, step}
 use Rattle.control.specs.Layout.{seen, TaskPlace, TaskClass, Regions}
 use Rattle.control.specs.Places.{A1}
 use Rattle.control.specs.Answers.{value_of, code_in, value_in}
-use Rattle.control.specs.declared.answer.Answer.{Answer}
-use Rattle.control.specs.declared.answer.Answer.TheVariants.{Allocated, Freed}
+use Rattle.control.specs.Answers.{Answer}
+use Rattle.control.specs.Answers.{Allocated, Freed}
 use Rattle.stepped.specs.Outcome.{Outcome, Memories}
 use Rattle.stepped.specs.Calls.{Tested, lending, lengths, step_outcome}
 use Rattle.agreement.specs.Events.{whole}

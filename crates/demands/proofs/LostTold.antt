@@ -14,9 +14,9 @@ use Rattle.plain.specs.Moves.{Answer}
 use Rattle.plain.specs.Calls.{Pool, Call, Start, start, allocate, free, leave, step, unstarted, Lengths}
 use Rattle.control.specs.Layout.{seen, changed, Tasks, Regions, TaskLost}
 use Rattle.control.specs.Answers.{CODES, lost_told, code_in, lost_in}
-use Rattle.control.specs.declared.answer.Answer as Declared
-use Rattle.control.specs.declared.answer.Answer.TheVariants.{Accepted, Allocated, Freed, NoDescriptor, NoRegion}
-use Rattle.control.specs.declared.answer.Answer.TheVariants.{NoStrip, Refused}
+use Rattle.control.specs.Answers as Declared
+use Rattle.control.specs.Answers.{Accepted, Allocated, Freed, NoDescriptor, NoRegion}
+use Rattle.control.specs.Answers.{NoStrip, Refused}
 use Rattle.stepped.specs.Outcome.{Outcome, bad, Memories}
 use Rattle.stepped.specs.Calls.{effect_of, step_outcome, is_started_lengths, lending, lengths}
 use Rattle.stepped.specs.Calls as Calls

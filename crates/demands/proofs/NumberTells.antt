@@ -16,9 +16,9 @@ use Rattle.plain.specs.Calls.{Call, start, allocate, free, leave, step, Lengths}
 use Rattle.control.specs.Layout.{seen, Regions, TaskClass}
 use Rattle.control.specs.Answers.{CODES, VALUES, ONE_LOST, code_of, value_of, lost_told, code_in, value_in, lost_in}
 use Rattle.control.specs.Answers.{number_with}
-use Rattle.control.specs.declared.answer.Answer.{Answer}
-use Rattle.control.specs.declared.answer.Answer.TheVariants.{Accepted, Allocated, Freed, NoDescriptor, NoRegion}
-use Rattle.control.specs.declared.answer.Answer.TheVariants.{NoStrip, Refused}
+use Rattle.control.specs.Answers.{Answer}
+use Rattle.control.specs.Answers.{Accepted, Allocated, Freed, NoDescriptor, NoRegion}
+use Rattle.control.specs.Answers.{NoStrip, Refused}
 use Rattle.agreement.specs.Ends.{one_of, Begins, StepAnswers, IsEnd, start_refusals, allocate_refusals, free_refusals}
 use Rattle.agreement.specs.Ends.{leave_refusals, step_refusals}
 use Rattle.control.proofs.AnswerNumber.{number_is}

@@ -13,7 +13,7 @@ use Rattle.limits.specs.Limits.{TASKS, CLASSES}
 use Rattle.control.specs.Places.{IDLE, PLACES}
 use Rattle.control.specs.Layout.{seen, changed, TaskPlace, TaskUnit, TaskLost, CacheCount, LEAVING}
 use Rattle.control.specs.Answers.{code_in}
-use Rattle.control.specs.declared.answer.Answer.TheVariants.{Accepted}
+use Rattle.control.specs.Answers.{Accepted}
 use Rattle.fields.specs.Columns.{View, ◌:=◌}
 use Rattle.links.specs.Link.{with_links}
 use Rattle.plain.specs.State.{Place, idle, working}

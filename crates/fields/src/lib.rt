@@ -1,74 +1,124 @@
-// Little-endian numbers in a slice of bytes: a load and a store for each width that the pool's memories use.
+// Little-endian numbers in a slice of bytes.
 //
-// Every access of the two lent memories goes through these eight functions. Each asks that the number lies in the
-// slice; the callers are the getters and setters of the control memory, at the places of its layout, and the
-// functions that read and write a block's link.
+// Every access of the two lent memories goes through this trait. Each method asks that the number lies in the slice;
+// the callers are the columns of the control memory, the links of the area's blocks, the rows of the reports, and the
+// records of a schedule.
 #![tactic(auto)]
 
-ghost use Rattle.std.specs.Prelude.{◌≡◌, ◌+◌, ◌≤◌, length};
+ghost use Rattle.std.specs.Prelude.{◌≡◌, ℕ, ◌+◌, ◌≤◌, length, refl};
 ghost use Rattle.fields.specs.Little.{get_le, set_le};
 
-pub fn load8(s: &[u8], at: usize) -> u8
-    requires { at + 1 ≤ length s.now }
-    ensures { result ≡ get_le s.now at 1 }
-{
-    s[at]
+// A number of one of the widths that the pool's memories use.
+pub trait Number: Copy {
+    // How many bytes it takes.
+    ghost width: { ℕ };
+
+    // The number that a value of the type is.
+    ghost value: { Self → ℕ };
+
+    ghost WIDTH: { ℕ };
+
+    const WIDTH: usize;
+
+    // The number that begins at a byte.
+    fn load(s: &[u8], at: usize) -> Self
+        requires { at + width ≤ length s.now }
+        ensures { value result ≡ get_le s.now at width };
+
+    // Writes the number from a byte on.
+    fn store(self, s: &mut [u8], at: usize)
+        requires { at + width ≤ length s.old }
+        ensures { s.new ≡ set_le s.old at width (value self) };
+
+    // The constant that the code uses is the width.
+    ghost is_width: { WIDTH ≡ width };
 }
 
-pub fn load16(s: &[u8], at: usize) -> u16
-    requires { at + 2 ≤ length s.now }
-    ensures { result ≡ get_le s.now at 2 }
-{
-    let low = load8(s, at);
-    let high = load8(s, at + 1);
-    (low as u16) + (high as u16) * 256
+impl Number for u8 {
+    ghost width = { 1 };
+
+    ghost value = { λ n. n };
+
+    ghost WIDTH = { 1 };
+
+    ghost is_width = { refl };
+
+    const WIDTH: usize = 1;
+
+    fn load(s: &[u8], at: usize) -> u8 {
+        s[at]
+    }
+
+    fn store(self, s: &mut [u8], at: usize) {
+        s[at] = self;
+    }
 }
 
-pub fn load32(s: &[u8], at: usize) -> u32
-    requires { at + 4 ≤ length s.now }
-    ensures { result ≡ get_le s.now at 4 }
-{
-    let low = load16(s, at);
-    let high = load16(s, at + 2);
-    (low as u32) + (high as u32) * 65_536
+impl Number for u16 {
+    ghost width = { 2 };
+
+    ghost value = { λ n. n };
+
+    ghost WIDTH = { 2 };
+
+    ghost is_width = { refl };
+
+    const WIDTH: usize = 2;
+
+    fn load(s: &[u8], at: usize) -> u16 {
+        let low = u8::load(s, at);
+        let high = u8::load(s, at + 1);
+        (low as u16) + (high as u16) * 256
+    }
+
+    fn store(self, s: &mut [u8], at: usize) {
+        ((self % 256) as u8).store(s, at);
+        ((self / 256) as u8).store(s, at + 1);
+    }
 }
 
-pub fn load64(s: &[u8], at: usize) -> u64
-    requires { at + 8 ≤ length s.now }
-    ensures { result ≡ get_le s.now at 8 }
-{
-    let low = load32(s, at);
-    let high = load32(s, at + 4);
-    (low as u64) + (high as u64) * 4_294_967_296
+impl Number for u32 {
+    ghost width = { 4 };
+
+    ghost value = { λ n. n };
+
+    ghost WIDTH = { 4 };
+
+    ghost is_width = { refl };
+
+    const WIDTH: usize = 4;
+
+    fn load(s: &[u8], at: usize) -> u32 {
+        let low = u16::load(s, at);
+        let high = u16::load(s, at + 2);
+        (low as u32) + (high as u32) * 65_536
+    }
+
+    fn store(self, s: &mut [u8], at: usize) {
+        ((self % 65_536) as u16).store(s, at);
+        ((self / 65_536) as u16).store(s, at + 2);
+    }
 }
 
-pub fn store8(s: &mut [u8], at: usize, v: u8)
-    requires { at + 1 ≤ length s.old }
-    ensures { s.new ≡ set_le s.old at 1 v }
-{
-    s[at] = v;
-}
+impl Number for u64 {
+    ghost width = { 8 };
 
-pub fn store16(s: &mut [u8], at: usize, v: u16)
-    requires { at + 2 ≤ length s.old }
-    ensures { s.new ≡ set_le s.old at 2 v }
-{
-    store8(s, at, (v % 256) as u8);
-    store8(s, at + 1, (v / 256) as u8);
-}
+    ghost value = { λ n. n };
 
-pub fn store32(s: &mut [u8], at: usize, v: u32)
-    requires { at + 4 ≤ length s.old }
-    ensures { s.new ≡ set_le s.old at 4 v }
-{
-    store16(s, at, (v % 65_536) as u16);
-    store16(s, at + 2, (v / 65_536) as u16);
-}
+    ghost WIDTH = { 8 };
 
-pub fn store64(s: &mut [u8], at: usize, v: u64)
-    requires { at + 8 ≤ length s.old }
-    ensures { s.new ≡ set_le s.old at 8 v }
-{
-    store32(s, at, (v % 4_294_967_296) as u32);
-    store32(s, at + 4, (v / 4_294_967_296) as u32);
+    ghost is_width = { refl };
+
+    const WIDTH: usize = 8;
+
+    fn load(s: &[u8], at: usize) -> u64 {
+        let low = u32::load(s, at);
+        let high = u32::load(s, at + 4);
+        (low as u64) + (high as u64) * 4_294_967_296
+    }
+
+    fn store(self, s: &mut [u8], at: usize) {
+        ((self % 4_294_967_296) as u32).store(s, at);
+        ((self / 4_294_967_296) as u32).store(s, at + 4);
+    }
 }

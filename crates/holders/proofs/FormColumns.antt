@@ -1,39 +1,64 @@
 -- The numbers of a line, one law for each kind of holder.
-use mathlib.Core.Path.{◌≡◌, refl, sym, ap, ◌∙◌}
-use mathlib.Core.Bool.{Bool, true}
+use mathlib.Core.Path.{◌≡◌, refl, sym, ap, subst, ◌∙◌}
+use mathlib.Core.Bool.{Bool}
 use mathlib.Core.List.{List, [], ◌∷◌, ◌++◌}
 use Prim.Native.Nat.{ℕ, suc, ◌+◌, ◌-◌, ◌*◌, ◌/◌, ◌%◌, ◌≤◌, ◌<◌}
 use native.Mathlib.Omega.{arith}
 use borrow.Author.Tests.{lt-ltb, le-ltb}
 use lib.ListN.{get_or}
+use Rattle.std.specs.Prelude.{Ok, None, is_ok}
+use Rattle.std.specs.declared.option.Option.{Option}
+use Rattle.std.specs.declared.result.Result.{Result}
+use Rattle.limits.specs.declared.index.OutOfRange.{OutOfRange}
 use Rattle.limits.specs.Limits.{TASKS}
 use Rattle.fields.specs.Columns.{View}
 use Rattle.reports.specs.Rows.{numbers_to}
 use Rattle.reports.proofs.Rows.{number-first, number_behind}
 use Rattle.report_caches.specs.CacheRows.{is_cache}
 use Rattle.report_requests.specs.UnderWay.{request_blocks}
-use Rattle.report_regions.specs.declared.OpenRegions.{OpenRegions}
-use Rattle.report_regions.specs.OpenClasses.{open_class, RegionsRead}
-use Rattle.holders.specs.declared.HolderBlocks.{HolderBlocks}
+use Rattle.report_regions.specs.declared.OpenRegion.{OpenRegion}
+use Rattle.report_regions.specs.OpenClasses.{class_in, chain_in, open_class, open_chain, RegionsRead}
 use Rattle.holders.specs.Form.{FIRST_CACHE, FIRST_REQUEST, CHAINS, HOLDERS, added_up, in_hands, in_cache_of}
 use Rattle.holders.specs.Form.{in_request_of, in_chains, class_line, form_number}
-use Rattle.holders.specs.FormFilling.{NumberIs, form_fits}
+use Rattle.holders.specs.FormFilling.{class_read, chain_read, NumberIs, form_fits}
 use Rattle.holders.proofs.AddingUp.{added-alike}
 
 -- the classes that were read are those of the regions
-pub as_read : {v : View} {regions : ℕ} {o : OpenRegions} → RegionsRead v regions o → o.fits ≡ true → (c : ℕ)
+pub as_read : {v : View} {regions : ℕ} {rs : List (Option OpenRegion)} → RegionsRead v regions (Ok rs) → (c : ℕ)
     (number : ℕ → ℕ)
-    → added_up regions (λ r. get_or o.classes r 0) c number ≡ added_up regions (open_class v regions) c number
-as_read {v} {regions} {o} R fit c number =
-    added-alike regions (λ r. get_or o.classes r 0) (open_class v regions) c number number (R.classes fit)
-    (λ r l. refl)
+    → added_up regions (λ r. class_read (get_or rs r None)) c number ≡ added_up regions (open_class v regions) c number
+unfolding open_class
+as_read {v} {regions} {rs} R c number =
+    added-alike regions (λ r. class_read (get_or rs r None)) (open_class v regions) c number number
+    (λ r l. ap class_in (R.told r l)) (λ r l. refl)
+
+-- the chain that was read of a region is its chain
+pub chain-is : {v : View} {regions : ℕ} {rs : List (Option OpenRegion)} → RegionsRead v regions (Ok rs) → (r : ℕ)
+    → r < regions → chain_read (get_or rs r None) ≡ open_chain v regions r
+unfolding open_chain
+chain-is R r l = ap chain_in (R.told r l)
+
+-- and the chains that were read are theirs
+pub chains_read : {v : View} {regions : ℕ} {rs : List (Option OpenRegion)} → RegionsRead v regions (Ok rs) → (c : ℕ)
+    → added_up regions (λ r. class_read (get_or rs r None)) c (λ r. chain_read (get_or rs r None))
+    ≡ added_up regions (open_class v regions) c (open_chain v regions)
+unfolding open_class
+chains_read {v} {regions} {rs} R c =
+    added-alike regions (λ r. class_read (get_or rs r None)) (open_class v regions) c
+    (λ r. chain_read (get_or rs r None)) (open_chain v regions) (λ r l. ap class_in (R.told r l))
+    (chain-is R)
 
 -- so a number that was found by them is the form's
-pub number_read : {v : View} {regions : ℕ} {o : OpenRegions} → RegionsRead v regions o → o.fits ≡ true → (c : ℕ)
-    (number : ℕ → ℕ) {in_range : Bool} {x : HolderBlocks}
-    → NumberIs in_range (added_up regions (λ r. get_or o.classes r 0) c number) x
+pub number_read : {v : View} {regions : ℕ} {rs : List (Option OpenRegion)} → RegionsRead v regions (Ok rs) → (c : ℕ)
+    (number : ℕ → ℕ) {in_range : Bool} {x : Result ℕ OutOfRange}
+    → NumberIs in_range (added_up regions (λ r. class_read (get_or rs r None)) c number) x
     → NumberIs in_range (added_up regions (open_class v regions) c number) x
-number_read R fit c number N = record { tested = N.tested; is = λ e. N.is e ∙ as_read R fit c number }
+number_read R c number {in_range} {x} N = subst (λ (n : ℕ). NumberIs in_range n x) (as_read R c number) N
+
+-- a number by another name, that is in range where it is
+pub number-alike : {b b' : Bool} {n n' : ℕ} {x : Result ℕ OutOfRange} → b' ≡ b → n' ≡ n → NumberIs b n x
+    → NumberIs b' n' x
+number-alike e f N = rw (e, f) N
 
 module _ (v : View) (link : ℕ → ℕ) (regions c : ℕ) where
   -- ---- what stands in the line
@@ -83,17 +108,18 @@ module _ (v : View) (link : ℕ → ℕ) (regions c : ℕ) where
 
     -- the marks,
     pub marks-number : h < FIRST_CACHE → {x : ℕ} → x ≡ in_hands v link regions c
-        → NumberIs (form_fits v link regions i) (form_number v link regions i) (record { fits = true; blocks = x })
+        → NumberIs (form_fits v link regions i) (form_number v link regions i) (Ok x)
     unfolding form_fits
     marks-number l e =
         let first : h ≡ 0 = omega arith in
         record {
-          tested = rw (class-is, holder-is, lt-ltb h FIRST_CACHE l);
-          is = λ t. e ∙ sym (number-in-line ∙ ap (λ (k : ℕ). get_or line k 0) first);
+          passed = rw (class-is, holder-is, lt-ltb h FIRST_CACHE l);
+          failed = tt;
+          is = e ∙ sym (number-in-line ∙ ap (λ (k : ℕ). get_or line k 0) first);
         }
 
     -- a cache,
-    pub cache-number : FIRST_CACHE ≤ h → h < FIRST_REQUEST → {x : HolderBlocks}
+    pub cache-number : FIRST_CACHE ≤ h → h < FIRST_REQUEST → {x : Result ℕ OutOfRange}
         → NumberIs (is_cache v link regions (h - FIRST_CACHE) c) (in_cache_of v link regions c (h - FIRST_CACHE)) x
         → NumberIs (form_fits v link regions i) (form_number v link regions i) x
     unfolding form_fits
@@ -102,42 +128,37 @@ module _ (v : View) (link : ℕ → ℕ) (regions c : ℕ) where
         let at : FIRST_CACHE + t ≡ h = omega arith in
         let fits : form_fits v link regions i ≡ is_cache v link regions t c =
         rw (class-is, holder-is, le-ltb h FIRST_CACHE g, lt-ltb h FIRST_REQUEST l) in
-        record {
-          tested = N.tested ∙ sym fits;
-          is = λ e. N.is (sym fits ∙ e)
-              ∙ sym (number-in-line ∙ ap (λ (k : ℕ). get_or line k 0) (sym at) ∙ cache-at t (omega arith));
-        }
+        let number = number-in-line ∙ ap (λ (k : ℕ). get_or line k 0) (sym at) ∙ cache-at t (omega arith) in
+        number-alike fits number N
 
     -- a request,
-    pub request-number : FIRST_REQUEST ≤ h → h < CHAINS → {x : HolderBlocks}
-        → NumberIs (request_blocks v regions (h - FIRST_REQUEST)).fits
+    pub request-number : FIRST_REQUEST ≤ h → h < CHAINS → {x : Result ℕ OutOfRange}
+        → NumberIs (is_ok (request_blocks v regions (h - FIRST_REQUEST)))
         (in_request_of v link regions c (h - FIRST_REQUEST)) x
         → NumberIs (form_fits v link regions i) (form_number v link regions i) x
     unfolding form_fits
     request-number g l N =
         let t = h - FIRST_REQUEST in
         let at : FIRST_REQUEST + t ≡ h = omega arith in
-        let fits : form_fits v link regions i ≡ (request_blocks v regions t).fits =
+        let fits : form_fits v link regions i ≡ is_ok (request_blocks v regions t) =
         rw (class-is, holder-is, le-ltb h FIRST_CACHE (omega arith), le-ltb h FIRST_REQUEST g, lt-ltb h CHAINS l) in
-        record {
-          tested = N.tested ∙ sym fits;
-          is = λ e. N.is (sym fits ∙ e)
-              ∙ sym (number-in-line ∙ ap (λ (k : ℕ). get_or line k 0) (sym at) ∙ request-at t (omega arith));
-        }
+        let number = number-in-line ∙ ap (λ (k : ℕ). get_or line k 0) (sym at) ∙ request-at t (omega arith) in
+        number-alike fits number N
 
     -- the chains
     pub chains-number : CHAINS ≤ h → {x : ℕ} → x ≡ in_chains v link regions c
-        → NumberIs (form_fits v link regions i) (form_number v link regions i) (record { fits = true; blocks = x })
+        → NumberIs (form_fits v link regions i) (form_number v link regions i) (Ok x)
     unfolding form_fits
     chains-number g e =
         let last : h ≡ CHAINS = omega arith in
         record {
-          tested = rw (
+          passed = rw (
             class-is,
             holder-is,
             le-ltb h FIRST_CACHE (omega arith),
             le-ltb h FIRST_REQUEST (omega arith),
             le-ltb h CHAINS g,
           );
-          is = λ t. e ∙ sym (number-in-line ∙ ap (λ (k : ℕ). get_or line k 0) last ∙ chains-at);
+          failed = tt;
+          is = e ∙ sym (number-in-line ∙ ap (λ (k : ℕ). get_or line k 0) last ∙ chains-at);
         }

@@ -7,6 +7,9 @@ use native.Mathlib.Omega.{arith}
 use borrow.Author.Tests.{lt-ltb, le-ltb}
 use lib.ListN.{length, get_or, set, length-set}
 use lib.Seq.{get_or-set_same, get_or-set_other}
+use Rattle.std.specs.Prelude.{Ok, Err, is_ok}
+use Rattle.std.specs.declared.result.Result.{Result}
+use Rattle.limits.specs.declared.index.OutOfRange.{OutOfRange}
 use Rattle.limits.specs.Limits.{TASKS, CLASSES}
 use Rattle.rows.specs.Comparisons.{same, other, same?, before, after, order?}
 use Rattle.fields.specs.Columns.{View}
@@ -19,7 +22,6 @@ use Rattle.report_requests.specs.UnderWay.{request_blocks, requests_in_range}
 use Rattle.report_regions.specs.Opened.{regions_in_range}
 use Rattle.sheet.specs.Sheet.{sheet_in_range}
 use Rattle.sheet.proofs.SheetFilled.{caches-fail, requests-fail}
-use Rattle.holders.specs.declared.HolderBlocks.{HolderBlocks}
 use Rattle.holders.specs.Form.{FIRST_CACHE, FIRST_REQUEST, CHAINS, HOLDERS, FORM_NUMBERS, form_number}
 use Rattle.holders.specs.FormFilling.{NumberIs, form_fits}
 
@@ -40,7 +42,7 @@ module _ (v : View) (link : ℕ → ℕ) (regions : ℕ) where
 
   -- a request
   request-fits : (c t : ℕ) → t < TASKS
-      → form_fits v link regions (HOLDERS * c + (FIRST_REQUEST + t)) ≡ (request_blocks v regions t).fits
+      → form_fits v link regions (HOLDERS * c + (FIRST_REQUEST + t)) ≡ is_ok (request_blocks v regions t)
   unfolding form_fits
   request-fits c t l =
       let i = HOLDERS * c + (FIRST_REQUEST + t) in
@@ -88,7 +90,7 @@ module _ (v : View) (link : ℕ → ℕ) (regions : ℕ) where
                 let is : HOLDERS * c + (FIRST_REQUEST + t) ≡ i = omega arith in
                 let fails = sym (request-fits c t (omega arith)) ∙ ap (form_fits v link regions) is ∙ e in
                 requests-fail v link regions
-                (one-fails TASKS (λ t. (request_blocks v regions t).fits) t (omega arith) fails))
+                (one-fails TASKS (λ t. is_ok (request_blocks v regions t)) t (omega arith) fails))
             | after m ↦ absurd (true≢false (sym (others-fit i (λ g. m)) ∙ e))
           ]
         ]
@@ -106,46 +108,51 @@ module _ (v : View) (link : ℕ → ℕ) (regions : ℕ) where
   form-begin e = record { long = e; fit = λ k l. absurd (omega arith); numbers = λ k l. absurd (omega arith) }
 
   -- the number that was found for the class i / 18 and the holder i % 18 is the number i
-  found-is : (i : ℕ) {x : HolderBlocks} → NumberIs (form_fits v link regions (HOLDERS * (i / HOLDERS) + i % HOLDERS))
+  found-is : (i : ℕ) {x : Result ℕ OutOfRange}
+      → NumberIs (form_fits v link regions (HOLDERS * (i / HOLDERS) + i % HOLDERS))
       (form_number v link regions (HOLDERS * (i / HOLDERS) + i % HOLDERS)) x
       → NumberIs (form_fits v link regions i) (form_number v link regions i) x
   found-is i {x} N =
       let e : HOLDERS * (i / HOLDERS) + i % HOLDERS ≡ i = omega arith in
       subst (λ (k : ℕ). NumberIs (form_fits v link regions k) (form_number v link regions k) x) e N
 
-  module _ {i : ℕ} {x : HolderBlocks} (l : i < FORM_NUMBERS)
-      (found : NumberIs (form_fits v link regions (HOLDERS * (i / HOLDERS) + i % HOLDERS))
-      (form_number v link regions (HOLDERS * (i / HOLDERS) + i % HOLDERS)) x) where
-    -- one more is
-    pub form-next : {ns : List ℕ} → FormTo i ns → x.fits ≡ true → FormTo (i + 1) (set ns i x.blocks)
-    form-next {ns} F fits =
-        let N = found-is i found in
-        let in-range = sym N.tested ∙ fits in
-        record {
-          long = length-set ns i x.blocks ∙ F.long;
-          fit = λ k h. elim (same? k i) [ same e ↦ rw e in-range | other d ↦ F.fit k (omega arith) ];
-          numbers = λ k h. elim (same? k i) [
-            | same e ↦ rw e (get_or-set_same ns i x.blocks 0 (omega (arith, F.long)) ∙ N.is in-range)
-            | other d ↦ get_or-set_other ns i k x.blocks 0 d ∙ F.numbers k (omega arith)
-          ];
-        }
+  -- one more is
+  pub form-next : {i x : ℕ} {ns : List ℕ} → i < FORM_NUMBERS
+      → NumberIs (form_fits v link regions (HOLDERS * (i / HOLDERS) + i % HOLDERS))
+      (form_number v link regions (HOLDERS * (i / HOLDERS) + i % HOLDERS)) (Ok x)
+      → FormTo i ns → FormTo (i + 1) (set ns i x)
+  form-next {i} {x} {ns} l found F =
+      let N = found-is i found in
+      record {
+        long = length-set ns i x ∙ F.long;
+        fit = λ k h. elim (same? k i) [ same e ↦ rw e N.passed | other d ↦ F.fit k (omega arith) ];
+        numbers = λ k h. elim (same? k i) [
+          | same e ↦ rw e (get_or-set_same ns i x 0 (omega (arith, F.long)) ∙ N.is)
+          | other d ↦ get_or-set_other ns i k x 0 d ∙ F.numbers k (omega arith)
+        ];
+      }
 
-    -- what is out of its range for a number is so for the sheet
-    pub form-fails : x.fits ≡ false → sheet_in_range v link regions ≡ false
-    form-fails e = form-stops i l (sym (found-is i found).tested ∙ e)
+  -- what is out of its range for a number is so for the sheet
+  pub form-fails : {i : ℕ} (e : OutOfRange) → i < FORM_NUMBERS
+      → NumberIs (form_fits v link regions (HOLDERS * (i / HOLDERS) + i % HOLDERS))
+      (form_number v link regions (HOLDERS * (i / HOLDERS) + i % HOLDERS)) (Err e)
+      → sheet_in_range v link regions ≡ false
+  form-fails {i} e l found = form-stops i l (found-is i found).failed
 
   -- all are
   pub form-end : {ns : List ℕ} → regions_in_range v regions ≡ true → FormTo FORM_NUMBERS ns
-      → Gathered (sheet_in_range v link regions) (numbers_to FORM_NUMBERS (form_number v link regions)) ns true
+      → Gathered {A = Unit {0}} (sheet_in_range v link regions)
+      (numbers_to FORM_NUMBERS (form_number v link regions)) ns (Ok tt)
   unfolding sheet_in_range caches_in_range requests_in_range
   form-end {ns} opened F =
       let cached : (c : ℕ) → c < CLASSES → caches_in_range v link regions c ≡ true = λ c l.
       all-pass TASKS (λ t. is_cache v link regions t c) (λ t h.
       sym (cache-fits c t h) ∙ F.fit (HOLDERS * c + (FIRST_CACHE + t)) (omega arith)) in
       let running : requests_in_range v regions ≡ true =
-      all-pass TASKS (λ t. (request_blocks v regions t).fits) (λ t h.
+      all-pass TASKS (λ t. is_ok (request_blocks v regions t)) (λ t h.
       sym (request-fits 0 t h) ∙ F.fit (HOLDERS * 0 + (FIRST_REQUEST + t)) (omega arith)) in
       record {
-        tested = sym (rw (all-pass CLASSES (caches_in_range v link regions) cached, running, opened));
-        numbers_are = λ e. numbers_are ns FORM_NUMBERS (form_number v link regions) F.long F.numbers;
+        numbers_are = numbers_are ns FORM_NUMBERS (form_number v link regions) F.long F.numbers;
+        in_range_is = rw (all-pass CLASSES (caches_in_range v link regions) cached, running, opened);
+        out_of_range = tt;
       }

@@ -16,9 +16,7 @@ use Rattle.fields.specs.Columns.{View}
 use Rattle.report_marks.specs.InHand.{blocks_in_hand}
 use Rattle.report_caches.specs.CacheRows.{blocks_in_caches}
 use Rattle.report_requests.specs.UnderWay.{blocks_in_requests}
-use Rattle.report_regions.specs.declared.Opened.{Opened}
-use Rattle.report_regions.specs.declared.Opened.TheVariants.{Closed, Open, Outside}
-use Rattle.report_regions.specs.Opened.{opened_of}
+use Rattle.report_regions.specs.Opened.{Opened, Closed, Open, Outside, opened_of}
 use Rattle.report_regions.specs.OpenClasses.{class_in, chain_in, open_class, open_chain}
 use Rattle.sheet.specs.Sheet.{COLUMNS, four_zeros, four_by, four_with, four_of}
 use Rattle.sheet.proofs.FourNumbers.{zero-there}

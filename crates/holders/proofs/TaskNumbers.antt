@@ -1,16 +1,17 @@
 -- The number of a task's cache or request: what is counted by region, from nothing on, and then added up.
-use mathlib.Core.Path.{◌≡◌, refl, sym, ◌∙◌}
+use mathlib.Core.Path.{◌≡◌, refl, ◌∙◌}
 use mathlib.Core.Bool.{Bool, true}
 use Prim.Native.Nat.{ℕ, ◌+◌, ◌≤◌, ◌<◌}
 use native.Mathlib.Omega.{arith}
 use lib.ListN.{get_or, replicate, get_or-replicate}
-use Rattle.limits.specs.Limits.{REGIONS, MOST_BLOCKS}
+use mathlib.Core.List.{List}
+use Rattle.std.specs.Prelude.{Ok, Err}
+use Rattle.limits.specs.declared.index.OutOfRange.{OutOfRange}
+use Rattle.limits.specs.Limits.{REGIONS}
 use Rattle.reports.specs.ByRegion.{Counted, CanGrow}
-use Rattle.reports.specs.declared.counts.RegionCounts.{RegionCounts}
 use Rattle.reports.proofs.TasksCounted.{tasks-begin, tasks-room}
-use Rattle.holders.specs.declared.HolderBlocks.{HolderBlocks}
 use Rattle.holders.specs.Form.{added_up}
-use Rattle.holders.specs.FormFilling.{CanAddUp, NumberIs}
+use Rattle.holders.specs.FormFilling.{NumberIs}
 use Rattle.holders.proofs.AddingUp.{added-alike}
 
 -- counts of 0 can grow
@@ -19,26 +20,24 @@ none-grows =
     let T = tasks-begin (λ t. true) (λ r (x : ℕ). 0) (λ t. 0) in
     tasks-room (λ t. true) (λ r (x : ℕ). 0) (λ t. 0) T (omega arith)
 
-module _ {in_range : Bool} (weight : ℕ → ℕ) {found : RegionCounts}
-    (K : Counted in_range (λ r. get_or (replicate REGIONS 0) r 0 + weight r) found) where
-  -- the count of a region is what the task has there
-  count-is : in_range ≡ true → (r : ℕ) → r < REGIONS → get_or found.counts r 0 ≡ weight r
-  count-is e r l = omega (arith, K.counts e r l, get_or-replicate {A = ℕ} REGIONS r 0 0 l)
+-- the count of a region is what the task has there
+module _ {in_range : Bool} (weight : ℕ → ℕ) {counts : List ℕ}
+    (K : Counted in_range (λ r. get_or (replicate REGIONS 0) r 0 + weight r) (Ok counts)) where
+  pub count-is : (r : ℕ) → r < REGIONS → get_or counts r 0 ≡ weight r
+  count-is r l = omega (arith, K.counts r l, get_or-replicate {A = ℕ} REGIONS r 0 0 l)
 
-  -- so no count is large, where the task has few blocks in each region
-  pub task-small : (regions : ℕ) → regions ≤ REGIONS → ((r : ℕ) → in_range ≡ true → weight r ≤ MOST_BLOCKS + 1)
-      → found.fits ≡ true → CanAddUp regions found.counts
-  task-small regions small few fits r l =
-      let e = sym K.tested ∙ fits in
-      omega (arith, count-is e r (omega arith), few r e)
-
-  -- and what is added up is the task's number
-  pub task-number : (regions : ℕ) (classes : ℕ → ℕ) (c : ℕ) {x : HolderBlocks} → regions ≤ REGIONS
-      → NumberIs found.fits (added_up regions classes c (λ r. get_or found.counts r 0)) x
-      → NumberIs in_range (added_up regions classes c weight) x
-  task-number regions classes c small N = record {
-    tested = N.tested ∙ K.tested;
-    is = λ e. N.is (K.tested ∙ e)
-        ∙ added-alike regions classes classes c (λ r. get_or found.counts r 0) weight (λ r l. refl)
-        (λ r l. count-is e r (omega arith));
+  -- so what is added up is the task's number
+  pub task-number : (regions : ℕ) (classes : ℕ → ℕ) (c : ℕ) {x : ℕ} → regions ≤ REGIONS
+      → x ≡ added_up regions classes c (λ r. get_or counts r 0)
+      → NumberIs in_range (added_up regions classes c weight) (Ok x)
+  task-number regions classes c small e = record {
+    passed = K.in_range_is;
+    failed = tt;
+    is = e ∙ added-alike regions classes classes c (λ r. get_or counts r 0) weight (λ r l. refl)
+        (λ r l. count-is r (omega arith));
   }
+
+-- a task that is out of range has none
+pub task-fails : {in_range : Bool} {number : ℕ → ℕ} {n : ℕ} {e : OutOfRange} → Counted in_range number (Err e)
+    → NumberIs in_range n (Err e)
+task-fails K = record { passed = tt; failed = K.out_of_range; is = tt }

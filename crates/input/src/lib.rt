@@ -1,7 +1,7 @@
 // What a program of the stand is given: its input, to the end or as far as a buffer has room.
 #![tactic(auto)]
 
-ghost use Rattle.std.specs.Prelude.{◌≡◌, ◌≤◌, ◌⊎◌, length, take, IfOk};
+ghost use Rattle.std.specs.Prelude.{◌≡◌, ◌≤◌, ◌⊎◌, length, take, IfOk, IfSome};
 ghost use Rattle.std.specs.Io.KnownBytes.{Consumes, IsAtEnd};
 
 use std::io;
@@ -15,6 +15,7 @@ pub const MOST_BYTES: usize = 65536;
 pub fn read_full<R: Read>(reader: &mut R, buffer: &mut [u8]) -> io::Result<usize>
     ensures within { IfOk result (λ n. n ≤ length buffer.new) }
     ensures taken { IfOk result (λ n. Consumes (R.remaining reader.old) (R.remaining reader.new) (take n buffer.new)) }
+    ensures first { IfOk result (λ n. IfSome (R.remaining reader.old) (λ all. take n buffer.new ≡ take (length buffer.new) all)) }
     ensures full_or_ended { IfOk result (λ n. (n ≡ length buffer.new) ⊎ IsAtEnd (R.remaining reader.new)) }
 {
     let mut filled = 0;

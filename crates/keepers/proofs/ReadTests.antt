@@ -1,6 +1,6 @@
 -- What is read for the keepers, test by test.
-use mathlib.Core.Path.{◌≡◌, sym}
-use mathlib.Core.Bool.{Bool, true, false, ◌&&◌, and-false}
+use mathlib.Core.Path.{◌≡◌, refl}
+use mathlib.Core.Bool.{true, false, ◌&&◌, and-false}
 use Prim.Native.Nat.{ℕ, ◌<◌}
 use Rattle.limits.specs.Limits.{TASKS, CLASSES}
 use Rattle.fields.specs.Columns.{View}
@@ -17,26 +17,26 @@ use Rattle.keepers.specs.Keepers.{read_in_range}
 
 module _ (v : View) (link : ℕ → ℕ) (regions : ℕ) where
   -- what the sheet reads is out of its range,
-  pub sheet-fails : sheet_in_range v link regions ≡ false → false ≡ read_in_range v link regions
+  pub sheet-fails : sheet_in_range v link regions ≡ false → read_in_range v link regions ≡ false
   unfolding read_in_range
   sheet-fails e = rw e
 
   -- or a cache is,
-  pub caches-fail : all_pass CLASSES (caches_in_range v link regions) ≡ false → false ≡ read_in_range v link regions
+  pub caches-fail : all_pass CLASSES (caches_in_range v link regions) ≡ false → read_in_range v link regions ≡ false
   unfolding read_in_range sheet_in_range
   caches-fail e = rw e
 
   -- or a region that a task has itself
-  pub held-fails : held_regions_in_range v regions ≡ false → false ≡ read_in_range v link regions
+  pub held-fails : held_regions_in_range v regions ≡ false → read_in_range v link regions ≡ false
   unfolding read_in_range
-  held-fails e = rw e (sym (and-false (sheet_in_range v link regions)))
+  held-fails e = rw e (and-false (sheet_in_range v link regions))
 
   -- all else is in its range, and the list of spare regions tells
-  pub spares-tell : {b : Bool} → all_pass CLASSES (caches_in_range v link regions) ≡ true
-      → requests_in_range v regions ≡ true → regions_in_range v regions ≡ true → held_regions_in_range v regions ≡ true
-      → b ≡ is_spare_list v regions → b ≡ read_in_range v link regions
+  pub spares-tell : all_pass CLASSES (caches_in_range v link regions) ≡ true → requests_in_range v regions ≡ true
+      → regions_in_range v regions ≡ true → held_regions_in_range v regions ≡ true
+      → is_spare_list v regions ≡ read_in_range v link regions
   unfolding read_in_range sheet_in_range
-  spares-tell caches requests opened held e = rw (caches, requests, opened, held) e
+  spares-tell caches requests opened held = rw (caches, requests, opened, held) refl
 
   -- ---- what is in its range
 

@@ -1,7 +1,7 @@
 -- The keepers that the code finds, task by task, are those of the definitions.
 use mathlib.Core.Path.{◌≡◌}
 use mathlib.Core.Bool.{Bool, true, false}
-use Prim.Native.Nat.{ℕ, ◌≤◌, ◌<◌}
+use Prim.Native.Nat.{ℕ, ◌<◌}
 use native.Mathlib.Omega.{arith}
 use borrow.Author.Tests.{lt-ltb, le-ltb}
 use lib.Dec.{ltb}
@@ -10,11 +10,9 @@ use Rattle.fields.specs.Columns.{View}
 use Rattle.reports.proofs.FirstPassing.{NonePass, first_found, first-none}
 use Rattle.report_marks.specs.InHand.{lowest_in_hand}
 use Rattle.report_caches.specs.CacheRows.{lowest_cached}
-use Rattle.report_regions.specs.declared.Opened.TheVariants.{Closed, Open, Outside}
-use Rattle.report_regions.specs.Opened.{opened_of}
+use Rattle.report_regions.specs.Opened.{Closed, Open, Outside, opened_of}
 use Rattle.report_regions.specs.SpareList.{is_spare}
-use Rattle.keepers.specs.declared.Keeper.{Keeper}
-use Rattle.keepers.specs.Keepers.{IN_HAND, IN_CACHE, IN_REQUEST, SPARE, kept_by, first_request, spare_or}
+use Rattle.keepers.specs.Keepers.{Keeper, IN_HAND, IN_CACHE, IN_REQUEST, SPARE, kept_by, first_request, spare_or}
 use Rattle.keepers.specs.Keepers.{nobody, request_keeper, cache_keeper, hand_keeper, closed_keeper, keeper_of}
 
 -- ---- a request
@@ -62,8 +60,8 @@ module _ (v : View) (link : ℕ → ℕ) (regions r c : ℕ) where
       )
 
   -- a task has none
-  pub cache-not : (t : ℕ) {u : ℕ} → u ≡ lowest_cached v link t c r → UNITS ≤ u → HasCached t ≡ false
-  cache-not t e h = le-ltb (lowest_cached v link t c r) UNITS (omega arith)
+  pub cache-not : (t : ℕ) → lowest_cached v link t c r ≡ UNITS → HasCached t ≡ false
+  cache-not t e = le-ltb (lowest_cached v link t c r) UNITS (omega arith)
 
   -- no task has one
   pub cache-none : NonePass TASKS HasCached → request_keeper v regions r c ≡ cache_keeper v link regions r c
@@ -76,10 +74,9 @@ module _ (v : View) (link : ℕ → ℕ) (regions r c : ℕ) where
   hand-found {u} e h = rw (← e, lt-ltb u UNITS h)
 
   -- none is
-  pub hand-none : {u : ℕ} → u ≡ lowest_in_hand v r c → UNITS ≤ u
-      → cache_keeper v link regions r c ≡ hand_keeper v link regions r c
+  pub hand-none : lowest_in_hand v r c ≡ UNITS → cache_keeper v link regions r c ≡ hand_keeper v link regions r c
   unfolding hand_keeper
-  hand-none {u} e h = rw (← e, le-ltb u UNITS h)
+  hand-none e = rw (le-ltb (lowest_in_hand v r c) UNITS (omega arith))
 
 -- ---- by what is read of the region
 

@@ -14,12 +14,9 @@ use Rattle.reports.specs.Reports.{report_on}
 use Rattle.report_marks.specs.InHand.{lowest_in_hand}
 use Rattle.report_caches.specs.CacheRows.{lowest_cached}
 use Rattle.report_requests.specs.OneRegion.{has_blocks, has_region, held_regions_in_range}
-use Rattle.report_regions.specs.declared.Opened.{Opened}
-use Rattle.report_regions.specs.declared.Opened.TheVariants.{Closed, Open, Outside}
-use Rattle.report_regions.specs.Opened.{opened_of}
+use Rattle.report_regions.specs.Opened.{Opened, Closed, Open, Outside, opened_of}
 use Rattle.report_regions.specs.SpareList.{is_spare, is_spare_list}
 use Rattle.sheet.specs.Sheet.{sheet_in_range}
-use Rattle.keepers.specs.declared.Keeper.{Keeper}
 
 -- the kinds of keepers: a block in hand
 abbrev pub IN_HAND : ℕ
@@ -36,6 +33,12 @@ IN_REQUEST = 3
 -- the list of spare regions
 abbrev pub SPARE : ℕ
 SPARE = 4
+
+-- who keeps a region: the kind, 0 for nobody, the task and the unit
+pub record Keeper : Type 0 where
+  pub kind : ℕ
+  pub task : ℕ
+  pub unit : ℕ
 
 -- a keeper by its kind, its task and its unit
 abbrev pub kept_by : ℕ → ℕ → ℕ → Keeper

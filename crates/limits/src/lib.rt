@@ -1,5 +1,9 @@
-// How many there are of each thing, by name, for the code: the numbers of specs/Limits.antt.
+// How many there are of each thing, by name, for the code: the numbers of specs/Limits.antt. Beside them the types of
+// numbers that lie in such a range, and why a call is refused.
 #![tactic(auto)]
+
+pub mod index;
+pub mod refusal;
 
 // Control memory is so many bytes.
 pub const CONTROL_BYTES: usize = 8192;

@@ -2,8 +2,11 @@
 #![tactic(auto)]
 
 ghost use Rattle.std.specs.Prelude.{◌≡◌, ◌+◌, ◌*◌, ◌≤◌, ◌<◌, length};
-ghost use Rattle.limits.specs.Limits.{UNIT_BYTES, REGION_BYTES, REGION_UNITS, REGIONS};
+ghost use Rattle.limits.specs.Limits.{UNIT_BYTES, REGION_BYTES, REGION_UNITS};
 ghost use Rattle.links.specs.Link.{link, with_link};
+
+use fields::Number;
+use limits::index::Region;
 
 // The link of the block at `unit`. Callers: the steps that take a cache's top or a chain's next block, which have
 // tested that the unit is a block's in the area.
@@ -11,7 +14,7 @@ pub fn read(area: &[u8], unit: usize) -> u32
     requires { UNIT_BYTES * unit + UNIT_BYTES ≤ length area.now }
     ensures { result ≡ link area.now unit }
 {
-    fields::load32(area, limits::UNIT_BYTES * unit)
+    u32::load(area, limits::UNIT_BYTES * unit)
 }
 
 // Writes the link of the block at `unit`. Callers: the steps that put a block on a cache or into a group, and the
@@ -20,7 +23,7 @@ pub fn write(area: &mut [u8], unit: usize, to: u32)
     requires { UNIT_BYTES * unit + UNIT_BYTES ≤ length area.old }
     ensures { area.new ≡ with_link area.old unit to }
 {
-    fields::store32(area, limits::UNIT_BYTES * unit, to);
+    to.store(area, limits::UNIT_BYTES * unit);
 }
 
 // Writes a link in a region's own part of the area, all that a carving step is handed; `unit` counts from the
@@ -34,12 +37,11 @@ fn write_in_part(part: &mut [u8], unit: usize, to: u32)
 
 // Writes a link by lending the region's own part of the area. Caller: the carving step, which has tested that the
 // region is one of the area's.
-pub fn write_in_region(area: &mut [u8], region: usize, unit: usize, to: u32)
-    requires { (region < REGIONS) × (REGION_BYTES * region + REGION_BYTES ≤ length area.old)
-        × (unit < REGION_UNITS) }
+pub fn write_in_region(area: &mut [u8], region: Region, unit: usize, to: u32)
+    requires { (REGION_BYTES * region + REGION_BYTES ≤ length area.old) × (unit < REGION_UNITS) }
     ensures { area.new ≡ with_link area.old (REGION_UNITS * region + unit) to }
 {
-    let start = limits::REGION_BYTES * region;
+    let start = limits::REGION_BYTES * region.get();
     let end = start + limits::REGION_BYTES;
     write_in_part(&mut area[start..end], unit, to);
 }

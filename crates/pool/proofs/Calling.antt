@@ -1,29 +1,36 @@
 -- From the tests, and what follows them, to what an exported call ensures.
 use mathlib.Core.Path.{◌≡◌, refl, sym, ap, subst, ◌∙◌}
 use mathlib.Core.Logic.{◌≢◌}
+use Rattle.std.specs.Prelude.{Ok, Err, IfOk}
+use Rattle.std.specs.declared.result.Result.{Result}
 use mathlib.Core.Bool.{Bool, cond}
 use mathlib.Core.List.{List}
 use Prim.Native.Nat.{ℕ, ◌*◌, ◌≤◌, ◌<◌}
 use native.Mathlib.Omega.{arith}
 use borrow.Author.Tests.{eq-eqb, ne_eqb}
+use lib.Dec.{eqb}
 use lib.ListN.{length}
 use Rattle.limits.specs.Limits.{CONTROL_BYTES, REGION_BYTES, TASKS, REGIONS}
 use Rattle.fields.specs.Columns.{View}
 use Rattle.links.specs.Link.{link}
 use Rattle.plain.specs.Calls.{allocate, free, leave, step, Lengths}
 use Rattle.control.specs.Layout.{Regions, TaskLost, seen}
-use Rattle.control.specs.Answers.{number_of, number_with}
+use Rattle.control.specs.Answers.{answer_of, refusal_number, number_of, number_with}
 use Rattle.control.specs.declared.answer.Answer.{Answer}
+use Rattle.limits.specs.declared.refusal.Refusal.{Refusal}
+use Rattle.limits.specs.declared.refusal.Refusal.TheVariants as refusal
 use Rattle.stepped.specs.Outcome.{Outcome, refuse, Memories, Effect, effect, step_effect}
 use Rattle.stepped.specs.Steps as Steps
-use Rattle.stepped.specs.Calls.{tested, when_idle, begin_allocate, begin_free, allocate_outcome, free_outcome}
+use Rattle.stepped.specs.Calls.{tested, Tested, when_idle, begin_allocate, begin_free, allocate_outcome, free_outcome}
 use Rattle.stepped.specs.Calls.{leave_outcome}
 use Rattle.stepped.specs.Calls.{step_outcome}
 use Rattle.stepped.specs.Leaving.{begin_leave}
 use Rattle.stepped.specs.Done.{Done, NumberIn}
-use Rattle.stepped.proofs.Doing.{lends}
-use Rattle.begins.specs.TestNumber.{TestsAre}
-use Rattle.pool.specs.Call.{EffectIs, Ensures}
+use Rattle.stepped.proofs.Doing.{lends, done-in, numbers, numbers-in}
+use Rattle.begins.proofs.Refusals.{goes, stops}
+use Rattle.begins.specs.TestNumber.{TestsAre, Finds}
+use Rattle.begins.specs.declared.tests.Started.{Started}
+use Rattle.pool.specs.Call.{EffectIs, lengths_of}
 
 -- a call whose outcome o is x; f is the effect of an outcome
 by-outcome : (f : Outcome → Effect) {o x : Outcome} {c a z : List ℕ} {r : ℕ} → o ≡ x → EffectIs (f x) c a z r
@@ -31,18 +38,18 @@ by-outcome : (f : Outcome → Effect) {o x : Outcome} {c a z : List ℕ} {r : �
 by-outcome f {c = c} {a = a} {z = z} {r = r} e d = subst (λ (w : Outcome). EffectIs (f w) c a z r) (sym e) d
 
 module _ (c a z : List ℕ) where
-  abbrev lengths : Lengths
+  abbrev pub lengths : Lengths
   lengths = record { control = length c; area = length a; strips = length z }
 
-  abbrev lent : Memories
+  abbrev pub lent : Memories
   lent = record { control = c; area = a; strips = z }
 
   -- a call that the number r refuses
-  refused-is : (r : ℕ) → EffectIs (effect (refuse r) lent) c a z r
+  pub refused-is : (r : ℕ) → EffectIs (effect (refuse r) lent) c a z r
   refused-is r = record { number = omega arith; control_is = refl; area_is = refl; strips_is = refl }
 
   -- a call that is no step, does the outcome x and answers the number of s
-  does-is : {x : Outcome} {c' : List ℕ} {s : Answer} {r : ℕ} → Done x c c' s → r ≡ number_of s
+  does-is : {x : Outcome} {c' : List ℕ} {s : Result Answer Refusal} {r : ℕ} → Done x c c' s → r ≡ number_of (answer_of s)
       → EffectIs (effect x lent) c' a z r
   does-is d n = record {
     number = omega (arith, n ∙ ap number_of d.answer);
@@ -61,68 +68,66 @@ module _ (c a z : List ℕ) where
     strips_is = refl;
   }
 
-module _ (c a z : List ℕ) (t r : ℕ) (T : TestsAre (lengths c a z) (seen c) t r) where
-  refuses : r ≢ 0 → (x : Outcome) → tested (lengths c a z) (seen c) t x ≡ refuse r
-  refuses h x = T.is x ∙ ap (λ (b : Bool). cond b x (refuse r)) (ne_eqb r 0 h)
+-- ---- what follows the tests
 
-  passes : r ≡ 0 → (x : Outcome) → tested (lengths c a z) (seen c) t x ≡ x
-  passes h x = T.is x ∙ ap (λ (b : Bool). cond b x (refuse r)) (eq-eqb r 0 h)
+module _ {L : Lengths} {v : View} {t : ℕ} {r : Result Started Refusal} (T : TestsAre L v t r) where
+  -- what tests that pass find
+  pub found : {s : Started} → r ≡ Ok s → Finds L v t s
+  found e = subst (λ (x : Result Started Refusal). IfOk x (Finds L v t)) e T.passed
 
-  pub allocate-refused : (size : ℕ) → r ≢ 0 → Ensures (allocate t size) c a z c a z r
-  unfolding allocate_outcome
-  allocate-refused size h = by-outcome (λ o. effect o (lent c a z)) (refuses h _) (refused-is c a z r)
+  -- they pass, and what follows them is of the task that they find
+  pub follows : (f : ℕ → Outcome) {s : Started} → r ≡ Ok s → tested L v t (f t) ≡ f s.task
+  follows f e = goes r (λ s. f t) (T.is (f t)) e ∙ ap f (sym (found e).task)
 
-  pub allocate-does : (size : ℕ) → r ≡ 0 → {c' : List ℕ} {s : Answer} {n : ℕ}
-      → Done (when_idle (seen c) t (begin_allocate t size)) c c' s → n ≡ number_of s
-      → Ensures (allocate t size) c a z c' a z n
-  unfolding allocate_outcome
-  allocate-does size h d n = by-outcome (λ o. effect o (lent c a z)) (passes h _) (does-is c a z d n)
+  -- one of them refuses
+  pub stopped : (x : Outcome) {e : Refusal} → r ≡ Err e → tested L v t x ≡ refuse (refusal_number e)
+  stopped x e = stops r (λ s. x) (T.is x) e
 
-  pub free-refused : (u : ℕ) → r ≢ 0 → Ensures (free t u) c a z c a z r
-  unfolding free_outcome
-  free-refused u h = by-outcome (λ o. effect o (lent c a z)) (refuses h _) (refused-is c a z r)
-
-  pub free-does : (u regions : ℕ) → r ≡ 0 → regions ≡ seen c Regions → {c' : List ℕ} {s : Answer} {n : ℕ}
-      → Done (when_idle (seen c) t (begin_free (seen c) regions t u)) c c' s → n ≡ number_of s
-      → Ensures (free t u) c a z c' a z n
-  unfolding free_outcome
-  free-does u regions h e {c'} {s} d n =
-      by-outcome (λ o. effect o (lent c a z)) (passes h _)
-      (does-is c a z (subst (λ (k : ℕ). Done (when_idle (seen c) t (begin_free (seen c) k t u)) c c' s) e d) n)
-
-  pub leave-refused : r ≢ 0 → Ensures (leave t) c a z c a z r
-  unfolding leave_outcome
-  leave-refused h = by-outcome (λ o. effect o (lent c a z)) (refuses h _) (refused-is c a z r)
-
-  pub leave-does : r ≡ 0 → {c' : List ℕ} {s : Answer} {n : ℕ}
-      → Done (when_idle (seen c) t (begin_leave (seen c) t)) c c' s → n ≡ number_of s → Ensures (leave t) c a z c' a z n
-  unfolding leave_outcome
-  leave-does h d n = by-outcome (λ o. effect o (lent c a z)) (passes h _) (does-is c a z d n)
-
-  pub step-refused : r ≢ 0 → Ensures (step t) c a z c a z r
+  -- a step of the task that they find, in the regions that they find
+  pub step-goes : (link : ℕ → ℕ) {s : Started} {c a c' a' : List ℕ} {n : ℕ} → r ≡ Ok s
+      → NumberIn (Steps.step_of v link s.regions s.task) s.task c a c' a' n
+      → NumberIn (step_outcome L v link t) t c a c' a' n
   unfolding step_outcome
-  step-refused h = by-outcome (λ o. step_effect t o (lent c a z)) (refuses h _) (refused-is c a z r)
+  step-goes link {s} {c} {a} {c'} {a'} {n} e d =
+      numbers-in (goes r (λ s. Steps.step_of v link (v Regions) t) (T.is _) e)
+      (subst (λ (k : ℕ). NumberIn (Steps.step_of v link (v Regions) k) k c a c' a' n) (found e).task
+      (subst (λ (k : ℕ). NumberIn (Steps.step_of v link k s.task) s.task c a c' a' n) (found e).regions d))
 
-  pub step-does : (regions : ℕ) → r ≡ 0 → regions ≡ seen c Regions → {c' a' : List ℕ} {n : ℕ}
-      → NumberIn (Steps.step_of (seen c) (link a) regions t) t c a c' a' n → Ensures (step t) c a z c' a' z n
+  -- a step that they refuse
+  pub step-stops : (link : ℕ → ℕ) {e : Refusal} {c a : List ℕ} {n : ℕ} → r ≡ Err e
+      → n ≡ number_of (answer_of (Err e)) → NumberIn (step_outcome L v link t) t c a c a n
   unfolding step_outcome
-  step-does regions h e {c'} {a'} {n} d =
-      by-outcome (λ o. step_effect t o (lent c a z)) (passes h _)
-      (steps-is c a z (subst (λ (k : ℕ). NumberIn (Steps.step_of (seen c) (link a) k t) t c a c' a' n) e d))
+  step-stops link {e} h m = numbers {r = Err e} (done-in (stopped _ h) refl refl refl) (omega (arith, m))
 
--- what the tests tell
-module _ (lent : Lengths) (v : View) (t r : ℕ) (T : TestsAre lent v t r) (h : r ≡ 0) where
-  pub control_is : lent.control ≡ CONTROL_BYTES
-  control_is = (T.passed h).control_is
+-- ---- a call of the lent memories c, a and z
 
-  pub task-is : t < TASKS
-  task-is = omega (arith, (T.passed h).below, (T.passed h).tasks)
+module _ (c a z : List ℕ) where
+  -- a control memory of another length fails the first test
+  pub other : (t : ℕ) → length c ≢ CONTROL_BYTES → (x : Outcome) → tested (lengths c a z) (seen c) t x ≡ refuse 1
+  unfolding tested
+  other t h x = rw (ne_eqb (length c) CONTROL_BYTES h) refl
 
-  pub regions-are : (k : ℕ) → k ≡ v Regions → k ≤ REGIONS
-  regions-are k e = omega (arith, (T.passed h).regions)
+  pub short : (f : Outcome → Effect) {o : Outcome} {n : ℕ} → EffectIs (f (refuse 1)) c a z 1 → o ≡ refuse 1 → n ≡ 1
+      → EffectIs (f o) c a z n
+  short f {o} R e h = rw h (by-outcome f e R)
 
-  pub regions-some : (k : ℕ) → k ≡ v Regions → 1 ≤ k
-  regions-some k e = omega (arith, (T.passed h).some)
+  -- another call did it, on a control memory that has its length
+  module _ {c₁ : List ℕ} (l : length c ≡ CONTROL_BYTES) (i : c₁ ≡ c) where
+    pub call-does : (f : Lengths → View → Outcome) {c' : List ℕ} {s : Result Answer Refusal} {n : ℕ}
+        → Done (f (lengths_of (length a) (length z)) (seen c₁)) c₁ c' s → n ≡ number_of (answer_of s)
+        → EffectIs (effect (f (lengths c a z) (seen c)) (lent c a z)) c' a z n
+    call-does f {c'} {s} d m =
+        by-outcome (λ o. effect o (lent c a z))
+        (ap (λ (k : ℕ). f (record { control = k; area = length a; strips = length z }) (seen c)) l)
+        (does-is c a z
+        (subst (λ (b : List ℕ). Done (f (lengths_of (length a) (length z)) (seen b)) b c' s) i d) m)
 
-  pub area_is : (k : ℕ) → k ≡ v Regions → lent.area ≡ REGION_BYTES * k
-  area_is k e = (T.passed h).lengths_are.0 ∙ ap (λ (n : ℕ). REGION_BYTES * n) (sym e)
+    pub step-does : (t : ℕ) {c' a' : List ℕ} {n : ℕ}
+        → NumberIn (step_outcome (lengths_of (length a) (length z)) (seen c₁) (link a) t) t c₁ a c' a' n
+        → EffectIs (step_effect t (step_outcome (lengths c a z) (seen c) (link a) t) (lent c a z)) c' a' z n
+    step-does t {c'} {a'} {n} d =
+        by-outcome (λ o. step_effect t o (lent c a z))
+        (ap (λ (k : ℕ). step_outcome (record { control = k; area = length a; strips = length z }) (seen c) (link a) t) l)
+        (steps-is c a z
+        (subst (λ (b : List ℕ). NumberIn (step_outcome (lengths_of (length a) (length z)) (seen b) (link a) t) t b a c' a' n)
+        i d))

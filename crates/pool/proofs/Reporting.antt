@@ -1,9 +1,9 @@
 -- A report: the tests 1, 4, 2 are those that a call of task 0 makes, for every started pool has this task.
-use mathlib.Core.Path.{◌≡◌, refl, sym, ap, ◌∙◌}
+use mathlib.Core.Path.{◌≡◌, refl, sym, ap, subst, ◌∙◌}
 use mathlib.Core.Logic.{◌≢◌}
 use mathlib.Core.Bool.{Bool, true, false, cond, false≢true}
 use mathlib.Core.List.{List, []}
-use Prim.Native.Nat.{ℕ}
+use Prim.Native.Nat.{ℕ, ◌≤◌}
 use native.Mathlib.Omega.{arith}
 use borrow.Author.Tests.{eq-eqb, ne_eqb, lt-ltb}
 use lib.Dec.{ltb, leb, eqb}
@@ -19,13 +19,77 @@ use Rattle.control.specs.Answers.{code_of}
 use Rattle.stepped.specs.Outcome.{Outcome, refuse, bad, accept, Memories}
 use Rattle.stepped.specs.Ranges.{one_to}
 use Rattle.stepped.specs.Calls.{tested, is_started_lengths, lengths, lending}
-use Rattle.stepped.specs.Done.{GivenArea}
-use Rattle.begins.specs.TestNumber.{unless_refused, TestsAre}
 use Rattle.reports.specs.Rows.{numbers_to}
 use Rattle.reports.specs.Reports.{report_refusal, answered, report_of, report_on, Answers}
-use Rattle.pool.proofs.Calling.{control_is, regions-are, regions-some, area_is}
+use Rattle.std.specs.Prelude.{Ok, Err}
+use Rattle.std.specs.declared.result.Result.{Result}
+use Rattle.limits.specs.declared.refusal.Refusal.{Refusal}
+use Rattle.limits.specs.declared.refusal.Refusal.TheVariants as refusal
+use Rattle.control.specs.Answers.{refusal_number}
+use Rattle.stepped.specs.Calls.{Tested}
+use Rattle.std.specs.Result.{IsErrAnd}
+use Rattle.std.proofs.lemmas.Result.{err_from_is_err_and}
+use Rattle.begins.specs.TestNumber.{TestsAre}
+use Rattle.reports.specs.Reports.{report_number}
+use Rattle.pool.specs.Call.{lengths_of}
+use Rattle.pool.proofs.Calling.{found}
+use Rattle.begins.specs.declared.tests.Started.{Started}
+
+-- ---- what the tests tell, by the number of the first that fails
+
+-- every refusal has a number
+some : (e : Refusal) → 1 ≤ refusal_number e
+some refusal.ControlLength = omega arith
+some refusal.AreaLength = omega arith
+some refusal.TaskCount = omega arith
+some refusal.NotStarted = omega arith
+some refusal.NoTask = omega arith
+some refusal.Busy = omega arith
+some refusal.Idle = omega arith
+some refusal.SizeZero = omega arith
+some refusal.SizeTooLarge = omega arith
+some refusal.NoBlock = omega arith
+some refusal.NotInHand = omega arith
+some refusal.OutOfRange = omega arith
+some refusal.RowTooShort = omega arith
+
+-- the number of the first test that fails; 0 where all pass
+abbrev pub number_of_tests : Result Started Refusal → ℕ
+number_of_tests (Ok s) = 0
+number_of_tests (Err e) = refusal_number e
+
+-- the number r is that of the first of the tests 1, 4, 2, 5 that fails, whatever follows them; 0 tells that they pass
+pub record TestsTell (lent : Lengths) (v : View) (t r : ℕ) : Type 0 where
+  pub is : (x : Outcome) → tested lent v t x ≡ cond (eqb r 0) x (refuse r)
+  pub passed : r ≡ 0 → Tested lent v t
+
+tell : {lent : Lengths} {v : View} {t : ℕ} (r : Result Started Refusal) → TestsAre lent v t r
+    → TestsTell lent v t (number_of_tests r)
+tell (Ok s) T = record { is = λ x. T.is x; passed = λ h. T.passed.tests }
+tell (Err e) T = record {
+  is = λ x. T.is x
+      ∙ sym (ap (λ (b : Bool). cond b x (refuse (refusal_number e))) (ne_eqb (refusal_number e) 0 (λ z. omega (arith, z, some e))));
+  passed = λ h. absurd (omega (arith, h, some e));
+}
+
+-- the tests of a control memory that has its length
+pub told : (n a z : ℕ) {v : View} {t : ℕ} (r : Result Started Refusal) → n ≡ CONTROL_BYTES
+    → TestsAre (record { control = CONTROL_BYTES; area = a; strips = z }) v t r
+    → TestsTell (record { control = n; area = a; strips = z }) v t (number_of_tests r)
+told n a z {v} {t} r e T =
+    subst (λ (k : ℕ). TestsTell (record { control = k; area = a; strips = z }) v t (number_of_tests r)) (sym e) (tell r T)
+
+-- of another length, it fails the first test
+pub other_length : (n a z : ℕ) (v : View) (t : ℕ) → n ≢ CONTROL_BYTES
+    → TestsTell (record { control = n; area = a; strips = z }) v t 1
+unfolding tested
+other_length n a z v t h = record { is = λ x. rw (ne_eqb n CONTROL_BYTES h) refl; passed = λ e. absurd (omega (arith, e)) }
 
 -- ---- the number of the first test that fails
+
+-- the outcome of a call whose tests tell r: the first that fails refuses it; where r is 0 all pass, and x follows
+abbrev unless_refused : ℕ → Outcome → Outcome
+unless_refused r x = cond (eqb r 0) x (refuse r)
 
 -- the tests of a call and of a report, by what each finds: test 5 passes wherever test 4 does
 nested : (a b c d e f : Bool) (x : Outcome) → (c ≡ false → f ≡ true)
@@ -58,7 +122,7 @@ code_is r = elim (same? r 0) [
 ]
 
 -- what the tests tell is the number that refuses a report
-pub refusal_is : (lent : Lengths) (v : View) (r : ℕ) → TestsAre lent v 0 r → r ≡ report_refusal lent v
+pub refusal_is : (lent : Lengths) (v : View) (r : ℕ) → TestsTell lent v 0 r → r ≡ report_refusal lent v
 refusal_is lent v r T =
     sym (code_is r)
     ∙ ap (λ (o : Outcome). code_of o.answer)
@@ -67,7 +131,7 @@ refusal_is lent v r T =
 
 -- ---- a report by these tests
 
-module _ (lent : Lengths) (v : View) (in_range : Bool) (numbers row : List ℕ) (r : ℕ) (T : TestsAre lent v 0 r) where
+module _ (lent : Lengths) (v : View) (in_range : Bool) (numbers row : List ℕ) (r : ℕ) (T : TestsTell lent v 0 r) where
   -- the tests refuse it
   pub report-refused : r ≢ 0 → Answers (report_of lent v in_range numbers row) row r
   unfolding report_of
@@ -83,7 +147,7 @@ module _ (lent : Lengths) (v : View) (in_range : Bool) (numbers row : List ℕ) 
 -- ---- on memories
 
 module _ (in_range : View → (ℕ → ℕ) → ℕ → Bool) (number : View → (ℕ → ℕ) → ℕ → ℕ → ℕ) (s : Memories)
-    (row : List ℕ) (r : ℕ) (T : TestsAre (lengths (lending s)) (seen s.control) 0 r) where
+    (row : List ℕ) (r : ℕ) (T : TestsTell (lengths (lending s)) (seen s.control) 0 r) where
   -- the tests refuse the report
   pub on-refused : (n : ℕ) → r ≢ 0 → Answers (report_on in_range n number s row) row r
   unfolding report_on
@@ -97,17 +161,39 @@ module _ (in_range : View → (ℕ → ℕ) → ℕ → Bool) (number : View →
   unfolding report_on
   on-answers n regions e f A = report-answers _ _ _ _ row r T e (rw f at A)
 
--- where the tests pass, its work is given the control memory, the started regions and their area
-pub given-report : (c a : List ℕ) (strips r : ℕ)
-    → TestsAre (record { control = length c; area = length a; strips = strips }) (seen c) 0 r → r ≡ 0 → {regions : ℕ}
-    → regions ≡ seen c Regions → GivenArea c a regions 0 0
-given-report c a strips r T h e = record {
-  given = record {
-    control = control_is _ _ _ _ T h;
-    some = regions-some _ _ _ _ T h _ e;
-    regions = regions-are _ _ _ _ T h _ e;
-    task = omega arith;
-    class = omega arith;
-  };
-  area = area_is _ _ _ _ T h _ e;
-}
+-- ---- a report on a control memory that has its length
+
+module _ (in_range : View → (ℕ → ℕ) → ℕ → Bool) (number : View → (ℕ → ℕ) → ℕ → ℕ → ℕ) (s : Memories) (row : List ℕ)
+    (l : length s.control ≡ CONTROL_BYTES) {r : Result Started Refusal}
+    (T : TestsAre (lengths_of (length s.area) (length s.strips)) (seen s.control) 0 r) where
+  -- the exit of the `?` behind the tests
+  pub stops-at : (n : ℕ) {e : Refusal} (f : Result (Unit {0}) Refusal) → r ≡ Err e → IsErrAnd f (λ x. x ≡ e)
+      → Answers (report_on in_range n number s row) row (report_number f)
+  stops-at n {e} f h i =
+      let p = err_from_is_err_and f i in
+      let A = on-refused in_range number s row (number_of_tests r) (told _ _ _ r l T) n
+      (λ z. omega (arith, some e, ap number_of_tests h, z)) in
+      rw (p.1, p.2) (subst (λ (k : ℕ). Answers (report_on in_range n number s row) row k) (ap number_of_tests h) A)
+
+  -- what the report's function did is the report
+  pub fills : (n : ℕ → ℕ) {t : Started} {k : ℕ} {row' : List ℕ} → r ≡ Ok t
+      → Answers (answered (in_range (seen s.control) (link s.area) t.regions)
+      (numbers_to (n t.regions) (number (seen s.control) (link s.area) t.regions)) row) row' k
+      → Answers (report_on in_range (n (seen s.control Regions)) number s row) row' k
+  fills n h A =
+      on-answers in_range number s row (number_of_tests r) (told _ _ _ r l T) n _ (ap number_of_tests h)
+      (found T h).regions A
+
+-- where the lent control memory c is another list, or has another length
+pub elsewhere : (x : List ℕ → ℕ × List ℕ) {c d row' : List ℕ} {k m : ℕ} → d ≡ c → m ≡ k → Answers (x d) row' k
+    → Answers (x c) row' m
+elsewhere x {c = c} {row' = row'} {k = k} e f A =
+    subst (λ (i : ℕ). Answers (x c) row' i) (sym f) (subst (λ (b : List ℕ). Answers (x b) row' k) e A)
+
+-- a control memory of another length fails the first test
+pub short-report : (in_range : View → (ℕ → ℕ) → ℕ → Bool) (number : View → (ℕ → ℕ) → ℕ → ℕ → ℕ) (s : Memories)
+    (row : List ℕ) (n k : ℕ) → length s.control ≢ CONTROL_BYTES → k ≡ 1
+    → Answers (report_on in_range n number s row) row k
+short-report in_range number s row n k h e =
+    subst (λ (m : ℕ). Answers (report_on in_range n number s row) row m) (sym e)
+    (on-refused in_range number s row 1 (other_length _ _ _ (seen s.control) 0 h) n (λ z. omega (arith, z)))

@@ -1,10 +1,15 @@
 -- docs/POOL.md, "Calls and refusals"
 -- What each exported call ensures.
 use Rattle.std.specs.Prelude.{◌≡◌, List, ℕ}
-use Rattle.plain.specs.Calls.{Call}
+use Rattle.limits.specs.Limits.{CONTROL_BYTES}
+use Rattle.plain.specs.Calls.{Call, Lengths}
 use Rattle.control.specs.Answers.{number_telling}
 use Rattle.stepped.specs.Outcome.{Effect}
 use Rattle.stepped.specs.Calls.{effect_of}
+
+-- the lengths that a call is lent whose control memory has its length
+abbrev pub lengths_of : ℕ → ℕ → Lengths
+lengths_of area strips = record { control = CONTROL_BYTES; area = area; strips = strips }
 
 -- "For every input, the answer and each byte of both memories afterwards", and of the strips' memory: the answer as one
 -- number, with the lost exchanges in its high half, and the three memories are those of the definition's effect.

@@ -1,30 +1,25 @@
 // The tests whose failure is 14, on values that have been read. Nothing here reads or writes memory.
 #![tactic(auto)]
 
-ghost use Rattle.std.specs.Prelude.{◌≡◌, ◌<◌};
-ghost use Rattle.limits.specs.Limits.{CLASSES};
+ghost use Rattle.std.specs.Prelude.{◌≡◌};
 ghost use Rattle.stepped.specs.Ranges.{is_block, is_top, is_anchor, has_chain, has_first, has_room};
 
 use classes::geometry;
+use limits::index::{Class, Regions};
 use words::anchor;
 use words::anchor::Anchor;
 
 // Whether a unit is the first of a block of the class in an area of so many regions. Callers have the class of the
 // request: the steps that take a block from a cache or put one on it.
-pub fn is_block(regions: usize, class: usize, unit: usize) -> bool
-    requires { class < CLASSES }
+pub fn is_block(regions: Regions, class: Class, unit: usize) -> bool
     ensures { result ≡ is_block regions class unit }
 {
-    if regions <= geometry::region_of(unit) {
-        return false;
-    }
-    geometry::is_first(class, unit)
+    geometry::region_of(unit) < regions.get() && geometry::is_first(class, unit)
 }
 
 // Whether a unit is the top of `count` cached blocks: 8,192 where there is none. Callers have the class of the request:
 // the steps that take a block from a cache or put one on it.
-pub fn is_top(regions: usize, class: usize, count: usize, unit: usize) -> bool
-    requires { class < CLASSES }
+pub fn is_top(regions: Regions, class: Class, count: usize, unit: usize) -> bool
     ensures { result ≡ is_top regions class count unit }
 {
     if count == 0 {
@@ -38,15 +33,9 @@ pub fn is_anchor(word: u64) -> bool
     ensures { result ≡ is_anchor word }
 {
     let anchor = Anchor::of(word);
-    if anchor::FULL < anchor.state {
-        return false;
-    }
     let avail = anchor.avail as usize;
     let count = anchor.count as usize;
-    if limits::MOST_BLOCKS < avail {
-        return false;
-    }
-    count <= limits::MOST_BLOCKS
+    anchor.state <= anchor::FULL && avail <= limits::MOST_BLOCKS && count <= limits::MOST_BLOCKS
 }
 
 // Whether a chain can be taken from a region of `n` blocks with this anchor.
@@ -56,16 +45,7 @@ pub fn has_chain(n: usize, word: u64) -> bool
     let anchor = Anchor::of(word);
     let avail = anchor.avail as usize;
     let count = anchor.count as usize;
-    if anchor.state != anchor::PARTIAL {
-        return false;
-    }
-    if count < 1 {
-        return false;
-    }
-    if n < count {
-        return false;
-    }
-    avail < n
+    anchor.state == anchor::PARTIAL && 1 <= count && count <= n && avail < n
 }
 
 // Whether the anchor's index names one of `n` blocks, where the chain has one.
@@ -74,26 +54,14 @@ pub fn has_first(n: usize, word: u64) -> bool
 {
     let anchor = Anchor::of(word);
     let avail = anchor.avail as usize;
-    if anchor.count == 0 {
-        return true;
-    }
-    avail < n
+    anchor.count == 0 || avail < n
 }
 
 // Whether a group of so many blocks can be put before the chain of a region of `n` blocks.
 pub fn has_room(n: usize, group: usize, word: u64) -> bool
     ensures { result ≡ has_room n group word }
 {
-    if !has_first(n, word) {
-        return false;
-    }
     let anchor = Anchor::of(word);
     let count = anchor.count as usize;
-    if n < count {
-        return false;
-    }
-    if n - count < group {
-        return false;
-    }
-    true
+    has_first(n, word) && count <= n && group <= n - count
 }

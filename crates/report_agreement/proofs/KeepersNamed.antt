@@ -30,7 +30,7 @@ use Rattle.report_caches.specs.CacheRows.{lowest_cached}
 use Rattle.report_requests.specs.OneRegion.{has_blocks, has_region}
 use Rattle.report_regions.specs.Opened.{opened_of}
 use Rattle.report_regions.proofs.OpenBounds.{class-below}
-use Rattle.keepers.specs.declared.Keeper.{Keeper}
+use Rattle.keepers.specs.Keepers.{Keeper}
 use Rattle.keepers.specs.Keepers.{first_request, spare_or, request_keeper, cache_keeper, hand_keeper, closed_keeper}
 use Rattle.keepers.specs.Keepers.{nobody, keeper_of}
 use Rattle.report_agreement.specs.KeepersTell.{HandHas, CacheHas, HasRegion, RequestHas, Keeps, in-hand}

@@ -21,7 +21,7 @@ use Rattle.agreement.proofs.Reaching.{reached-tied}
 use Rattle.reports.specs.Rows.{BYTES_OF_NUMBER}
 use Rattle.reports.proofs.Passing.{all-pass}
 use Rattle.reports.proofs.ReportFilled.{Passes, left-short, given, number-stands, low_stands}
-use Rattle.keepers.specs.declared.Keeper.{Keeper}
+use Rattle.keepers.specs.Keepers.{Keeper}
 use Rattle.keepers.specs.Keepers.{keeper_of, KEEPER_BYTES, KEEPER_NUMBERS, TASK_WEIGHT, keeper_number, read_in_range}
 use Rattle.keepers.specs.Keepers.{are_kept, keepers_of}
 use Rattle.keepers.proofs.KeepersFound.{first-number, second-number}

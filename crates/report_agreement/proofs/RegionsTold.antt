@@ -26,8 +26,8 @@ use Rattle.agreement.specs.Relation.{Related, DescriptorRelated}
 use Rattle.agreement.specs.Observe.{plain_class_by, plain_chain_by, plain_class, plain_chain}
 use Rattle.agreement.proofs.BothPass.{both_true}
 use Rattle.reports.proofs.Passing.{all-pass}
-use Rattle.report_regions.specs.declared.Opened.{Opened}
-use Rattle.report_regions.specs.declared.Opened.TheVariants.{Closed, Open}
+use Rattle.report_regions.specs.Opened.{Opened}
+use Rattle.report_regions.specs.Opened.{Closed, Open}
 use Rattle.report_regions.specs.Opened.{open_as, open_by, opened_of, is_inside, regions_in_range}
 
 -- what is told of a region whose class, plus one, is given, 0 where it is not open, with k blocks in its chain

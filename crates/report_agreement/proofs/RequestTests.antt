@@ -1,7 +1,6 @@
 -- From a task's fields to what is told of its request: the tests pass, and the numbers are those of the blocks that the
 -- plain pool has under way.
 use mathlib.Core.Path.{◌≡◌, sym, ap, ◌∙◌}
-use mathlib.Core.Logic.{◌≢◌}
 use mathlib.Core.Bool.{Bool, true, false, cond, not}
 use mathlib.Core.List.{List, [], ◌∷◌, ◌++◌}
 use Prim.Native.Nat.{ℕ, zero, suc, ◌+◌, ◌≤◌, ◌<◌}
@@ -9,7 +8,10 @@ use native.Mathlib.Omega.{arith}
 use lib.Dec.{ltb, eqb}
 use lib.ListN.{length}
 use borrow.Author.Tests.{lt-ltb, le-leb, eq-eqb, ne_eqb}
-use Rattle.limits.specs.Limits.{REGIONS, UNITS, CLASSES}
+use Rattle.std.specs.Prelude.{None, Some, is_ok}
+use Rattle.std.specs.declared.result.Result.{Result}
+use Rattle.limits.specs.declared.index.OutOfRange.{OutOfRange}
+use Rattle.limits.specs.Limits.{REGIONS, CLASSES}
 use Rattle.rows.specs.Comparisons.{same, other, same?}
 use Rattle.rows.specs.Weights.{when, one}
 use Rattle.rows.specs.Counting.{count}
@@ -25,7 +27,6 @@ use Rattle.plain.specs.Blocks.{blocks_from}
 use Rattle.control.specs.Layout.{TaskUnit, LEAVING, TaskPlace, TaskClass, TaskRegion}
 use Rattle.control.specs.Places.{PLACES}
 use Rattle.stepped.specs.Ranges.{is_block}
-use Rattle.ranges.proofs.Passed.{block-passed}
 use Rattle.agreement.specs.Contents.{purpose_of}
 use Rattle.agreement.proofs.Purposes.{is-leaving, is-freeing}
 use Rattle.reports.specs.ByRegion.{in_region}
@@ -36,8 +37,8 @@ use Rattle.report_requests.specs.UnderWay.{in_request}
 
 -- what is told of the request of a task at the place p: it is in its range, and of each class and region it has as many
 -- blocks as the plain pool has under way
-pub record RequestTold (q : RequestBlocks) (p : Place) : Type 0 where
-  pub fits : q.fits ≡ true
+pub record RequestTold (q : Result RequestBlocks OutOfRange) (p : Place) : Type 0 where
+  pub fits : is_ok q ≡ true
   pub number : (c r : ℕ) → in_request c r q ≡ when c (class_at p) (in_region r (under_way p))
 
 -- ---- rows of one region
@@ -119,7 +120,7 @@ same_number v t k r = elim (same? k 0) [
 module _ {v : View} {regions t k least : ℕ} {f : Bool} (w : InRange v regions t k least f) where
   -- the test of the region passes
   in-area : in_area v regions t (v (TaskClass t)) (v (TaskPlace t)) k
-      ≡ with_own v regions t (v (TaskPlace t)) (has (v (TaskClass t)) (region_for v t k) k UNITS)
+      ≡ with_own v regions t (v (TaskPlace t)) (v (TaskClass t)) (region_for v t k) k
   unfolding in_area
   in-area = elim (same? k 0) [
     | same e ↦ rw e
@@ -128,7 +129,7 @@ module _ {v : View} {regions t k least : ℕ} {f : Bool} (w : InRange v regions 
 
   -- the tests of the place, the class and the number pass
   passes : request_blocks v regions t
-      ≡ with_own v regions t (v (TaskPlace t)) (has (v (TaskClass t)) (region_for v t k) k UNITS)
+      ≡ with_own v regions t (v (TaskPlace t)) (v (TaskClass t)) (region_for v t k) k
   unfolding request_blocks request_blocks_at
   passes =
       let p = v (TaskPlace t) in
@@ -152,12 +153,12 @@ module _ {v : View} {regions t k least : ℕ} {f : Bool} (w : InRange v regions 
   freeing-is = ap (λ (x : Line). x.freeing) w.line
 
   -- what is told without a block being freed, and with one
-  without-own : f ≡ false → request_blocks v regions t ≡ has (v (TaskClass t)) (region_for v t k) k UNITS
+  without-own : f ≡ false → request_blocks v regions t ≡ has (v (TaskClass t)) (region_for v t k) k None
   unfolding with_own
   without-own e = passes ∙ rw (freeing-is ∙ e)
 
   with-own : f ≡ true → is_block regions (v (TaskClass t)) (v (TaskUnit t)) ≡ true
-      → request_blocks v regions t ≡ has (v (TaskClass t)) (region_for v t k) k (v (TaskUnit t))
+      → request_blocks v regions t ≡ has (v (TaskClass t)) (region_for v t k) k (Some (v (TaskUnit t)))
   unfolding with_own
   with-own e b = passes ∙ rw (freeing-is ∙ e, b)
 
@@ -170,7 +171,7 @@ module _ {v : View} {regions t k least : ℕ} {f : Bool} (w : InRange v regions 
       → RequestTold (request_blocks v regions t) p
   unfolding in_request
   row_told e n = record {
-    fits = ap (λ (q : RequestBlocks). q.fits) (without-own e);
+    fits = ap (λ (q : Result RequestBlocks OutOfRange). is_ok q) (without-own e);
     number = λ c r.
         let none : when r (region_for v t k) k + 0 ≡ when r (v (TaskRegion t)) k = omega (arith, same_number v t k r) in
         ap (in_request c r) (without-own e) ∙ ap (when c (v (TaskClass t))) none ∙ n c r;
@@ -185,14 +186,13 @@ module _ {v : View} {regions t k least : ℕ} {f : Bool} (w : InRange v regions 
   freed-told {p} q small e b c-is under n =
       let u = v (TaskUnit t) in
       let there = with-own e (rw (← c-is) b) in
-      let d : u ≢ UNITS = λ z. omega (arith, block-passed regions (class_at p) u b) in
       record {
-        fits = ap (λ (x : RequestBlocks). x.fits) there;
+        fits = ap (λ (q : Result RequestBlocks OutOfRange). is_ok q) there;
         number = λ c r.
             let both : when r (region_for v t k) k + one r (region_of u) ≡ in_region r (u ∷ q) =
             omega (arith, same_number v t k r, n r) in
             ap (in_request c r) there
-            ∙ rw (ne_eqb u UNITS d, both, c-is, under);
+            ∙ rw (both, c-is, under);
       }
 
 -- the places of a return: the block that is being freed, or none where the task leaves, and q under way beside it

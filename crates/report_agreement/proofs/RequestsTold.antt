@@ -6,6 +6,9 @@ use Prim.Native.Nat.{ℕ, zero, suc, ◌+◌, ◌-◌, ◌≤◌, ◌<◌}
 use native.Mathlib.Omega.{arith}
 use lib.Dec.{eqb}
 use lib.ListN.{length}
+use Rattle.std.specs.Prelude.{is_ok}
+use Rattle.std.specs.declared.result.Result.{Result}
+use Rattle.limits.specs.declared.index.OutOfRange.{OutOfRange}
 use Rattle.limits.specs.Limits.{REGIONS, TASKS}
 use Rattle.rows.specs.Weights.{when}
 use Rattle.rows.specs.Counting.{count}
@@ -99,7 +102,7 @@ module _ {regions : ℕ} {m : Mem} {p : Place} {k : ℕ → List ℕ} (v : View)
   without-told e u =
       let none-there : request_blocks v regions t ≡ no_blocks = rw e in
       record {
-        fits = ap (λ (q : RequestBlocks). q.fits) none-there;
+        fits = ap (λ (q : Result RequestBlocks OutOfRange). is_ok q) none-there;
         number = λ c r.
             ap (in_request c r) none-there
             ∙ ap (when c 0) (omega (arith, when-zero r 0))
@@ -236,7 +239,7 @@ module _ {regions : ℕ} {m : Mem} (v : View) (area : List ℕ) (small : regions
   -- the requests of all tasks are in their ranges
   pub requests-pass : requests_in_range v regions ≡ true
   unfolding requests_in_range
-  requests-pass = all-pass TASKS (λ t. (request_blocks v regions t).fits) (λ t l. (request-told t l).fits)
+  requests-pass = all-pass TASKS (λ t. is_ok (request_blocks v regions t)) (λ t l. (request-told t l).fits)
 
   -- the blocks of a class and a region that the requests have are those that the plain pool has under way
   pub requests-told : (c r : ℕ) → blocks_in_requests v regions c r

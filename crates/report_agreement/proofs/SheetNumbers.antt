@@ -21,7 +21,7 @@ use Rattle.reports.proofs.Passing.{all-pass}
 use Rattle.report_marks.specs.InHand.{blocks_in_hand}
 use Rattle.report_caches.specs.CacheRows.{caches_in_range, blocks_in_caches}
 use Rattle.report_requests.specs.UnderWay.{blocks_in_requests}
-use Rattle.report_regions.specs.declared.Opened.TheVariants.{Open}
+use Rattle.report_regions.specs.Opened.{Open}
 use Rattle.report_regions.specs.Opened.{opened_of}
 use Rattle.sheet.specs.Sheet.{four_zeros, four_by, four_with, four_of, sheet_in_range}
 use Rattle.report_agreement.specs.Whereabouts.{times_in_hand, times_cached, times_running, times_chained, blocks_there}

@@ -1,12 +1,14 @@
 -- The lowest block of a region in a cache that is in its range: what is left of the row gives the whole's.
 use mathlib.Core.Path.{◌≡◌, refl, sym, ap, subst, ◌∙◌}
 use mathlib.Core.Logic.{◌≢◌}
-use mathlib.Core.Bool.{true}
+use mathlib.Core.Bool.{true, ◌&&◌}
 use mathlib.Core.List.{List, [], ◌∷◌}
-use Prim.Native.Nat.{ℕ, zero, suc, ◌-◌, ◌*◌, ◌≤◌, ◌<◌}
+use Prim.Native.Nat.{ℕ, zero, suc, ◌*◌, ◌≤◌, ◌<◌}
 use native.Mathlib.Omega.{arith}
 use borrow.Author.Tests.{eq-eqb, ne_eqb, lt-ltb, le-ltb}
 use lib.Dec.{leb}
+use Rattle.std.specs.Prelude.{None, Some, unwrap_or, IfSome, IfNone}
+use Rattle.std.specs.declared.option.Option.{Option}
 use Rattle.limits.specs.Limits.{UNITS, REGION_UNITS}
 use Rattle.rows.specs.Comparisons.{same, other, same?, before, after, order?}
 use Rattle.rows.specs.Counting.{count}
@@ -72,27 +74,27 @@ module _ {v : View} {link : ℕ → ℕ} {regions t c r : ℕ} where
         whole = refl;
       })
 
-  -- the next block lies in the area
-  pub lowest-inside : {u left low : ℕ} → LowestTo v link regions t c r u left low → 0 < left
-      → u < REGION_UNITS * regions
-  unfolding is_cache_row
-  lowest-inside {left = zero} L h = absurd (omega arith)
-  lowest-inside {u = u} {left = suc left} L h =
-      block-passed regions c u (both (is_block regions c u) (is_cache_row link regions c left (link u)) L.row).0
+  module _ {u left more low : ℕ} (L : LowestTo v link regions t c r u left low) (some : left ≡ suc more) where
+    -- the next block is one, and those below it are the rest of the row
+    next : (is_block regions c u && is_cache_row link regions c more (link u)) ≡ true
+    unfolding is_cache_row
+    next = ap (λ (n : ℕ). is_cache_row link regions c n u) (sym some) ∙ L.row
 
-  -- a block is passed: the code counts down, reads its link x, and finds the lower one y
-  pub lowest-goes : {u left low x y : ℕ} → LowestTo v link regions t c r u left low → 0 < left → y ≡ lower_of r u low
-      → x ≡ link u → LowestTo v link regions t c r x (left - 1) y
-  unfolding is_cache_row lowest_in
-  lowest-goes {left = zero} L h e f = absurd (omega arith)
-  lowest-goes {u = u} {left = suc left} {low = low} L h e f =
-      let d : suc left - 1 ≡ left = omega arith in
-      rw (e, f, d)
-      (record {
-        row = (both (is_block regions c u) (is_cache_row link regions c left (link u)) L.row).1;
-        most = omega (arith, lower-most r u low, L.most);
-        whole = L.whole;
-      })
+    -- it lies in the area
+    pub lowest-inside : u < REGION_UNITS * regions
+    lowest-inside =
+        block-passed regions c u (both (is_block regions c u) (is_cache_row link regions c more (link u)) next).0
+
+    -- it is passed: the code reads its link x, and finds the lower one y
+    pub lowest-goes : {x y : ℕ} → y ≡ lower_of r u low → x ≡ link u → LowestTo v link regions t c r x more y
+    unfolding lowest_in
+    lowest-goes e f =
+        rw (e, f)
+        (record {
+          row = (both (is_block regions c u) (is_cache_row link regions c more (link u)) next).1;
+          most = omega (arith, lower-most r u low, L.most);
+          whole = ap (λ (n : ℕ). lowest_in r (row_from link u n) low) (sym some) ∙ L.whole;
+        })
 
   -- at the end it is the lowest of all
   pub lowest-ends : {u left low : ℕ} → LowestTo v link regions t c r u left low → left ≡ 0
@@ -100,6 +102,18 @@ module _ {v : View} {link : ℕ → ℕ} {regions t c r : ℕ} where
   unfolding lowest_in
   lowest-ends {left = zero} L e = L.whole
   lowest-ends {left = suc left} L e = absurd (omega arith)
+
+-- ---- what is found
+
+-- a number that stands for a block is the block's unit,
+pub found-is : (o : Option ℕ) {n : ℕ} → unwrap_or o UNITS ≡ n → IfSome o (λ u. u ≡ n)
+found-is None e = tt
+found-is (Some u) e = e
+
+-- and 8,192 where there is none
+pub none-found : (o : Option ℕ) {n : ℕ} → unwrap_or o UNITS ≡ n → IfNone o (n ≡ UNITS)
+none-found None e = sym e
+none-found (Some u) e = tt
 
 -- ---- the lowest of a row
 

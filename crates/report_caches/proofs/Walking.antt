@@ -1,13 +1,18 @@
 -- A cache that is walked from its top down: what is left of it gives the whole's tests and counts.
 use mathlib.Core.Path.{◌≡◌, refl, sym, ap, ◌∙◌}
-use mathlib.Core.Bool.{Bool, true, false}
+use mathlib.Core.Bool.{true, false, ◌&&◌}
 use mathlib.Core.List.{List}
 use Prim.Native.Nat.{ℕ, zero, suc, ◌+◌, ◌-◌, ◌≤◌, ◌<◌}
+use native.Mathlib.Nat.{sub-zero}
 use native.Mathlib.Omega.{arith}
 use lib.Dec.{leb, eqb}
 use lib.ListN.{length, get_or, set, length-set}
-use borrow.Author.Tests.{le-leb, lt-leb, leb-true}
+use borrow.Author.Tests.{leb-true}
+use Rattle.std.specs.Prelude.{Ok, Err}
+use Rattle.std.specs.declared.result.Result.{Result}
+use Rattle.limits.specs.declared.index.OutOfRange.{OutOfRange}
 use Rattle.limits.specs.Limits.{UNITS, REGIONS, MOST_BLOCKS}
+use Rattle.rows.specs.Weights.{one}
 use Rattle.rows.proofs.Weights.{when-same}
 use Rattle.fields.specs.Columns.{View}
 use Rattle.classes.specs.Classes.{per_region}
@@ -18,8 +23,7 @@ use Rattle.stepped.specs.Ranges.{is_block}
 use Rattle.stepped.proofs.Conjunction.{both}
 use Rattle.ranges.proofs.Passed.{block-passed}
 use Rattle.reports.specs.ByRegion.{in_region, Counted, CanGrow}
-use Rattle.reports.specs.declared.counts.RegionCounts.{RegionCounts}
-use Rattle.reports.proofs.ByRegion.{region-max, count-grows, refused}
+use Rattle.reports.proofs.ByRegion.{region-max, count-grows}
 use Rattle.report_caches.specs.CacheRows.{is_cache_row, row_from, cache_row, is_cache}
 
 -- ---- a row of k blocks
@@ -39,83 +43,107 @@ pub region-counted : (regions c u : ℕ) {r : ℕ} → regions ≤ REGIONS → i
     → r < REGIONS
 region-counted regions c u few e f = omega (arith, block-passed regions c u e, f)
 
--- Of the row with the top `top` and k blocks, `left` are left from the unit u on; those before it are blocks, and are
--- counted.
-pub record Walking (link : ℕ → ℕ) (regions c top k : ℕ) (from : List ℕ) (u left : ℕ) (counts : List ℕ) : Type 0 where
-  pub tested : is_cache_row link regions c left u ≡ is_cache_row link regions c k top
+-- Of the row with the top `top` and k blocks, those that are left begin at the unit u; the i blocks before it are
+-- blocks, and are counted.
+pub record Walking (link : ℕ → ℕ) (regions c top k : ℕ) (from : List ℕ) (u i : ℕ) (counts : List ℕ) : Type 0 where
+  pub tested : is_cache_row link regions c (k - i) u ≡ is_cache_row link regions c k top
   pub whole : length counts ≡ REGIONS
   pub sums : (r : ℕ)
-      → get_or counts r 0 + in_region r (row_from link u left) ≡ get_or from r 0 + in_region r (row_from link top k)
+      → get_or counts r 0 + in_region r (row_from link u (k - i)) ≡ get_or from r 0 + in_region r (row_from link top k)
 
 -- what the walk of the whole row ensures
-abbrev pub Walked : (ℕ → ℕ) → ℕ → ℕ → ℕ → ℕ → List ℕ → RegionCounts → Type 0
-Walked link regions c top k from tally =
-    Counted (is_cache_row link regions c k top) (λ r. get_or from r 0 + in_region r (row_from link top k)) tally
+abbrev pub Walked : (ℕ → ℕ) → ℕ → ℕ → ℕ → ℕ → List ℕ → Result (List ℕ) OutOfRange → Type 0
+Walked link regions c top k from counted =
+    Counted (is_cache_row link regions c k top) (λ r. get_or from r 0 + in_region r (row_from link top k)) counted
 
 module _ {link : ℕ → ℕ} {regions c top k : ℕ} {from : List ℕ} where
   -- the walk begins at the top
-  pub walk_begins : length from ≡ REGIONS → Walking link regions c top k from top k from
-  walk_begins e = record { tested = refl; whole = e; sums = λ r. refl }
+  pub walk_begins : length from ≡ REGIONS → Walking link regions c top k from top 0 from
+  walk_begins e =
+      let all : k - 0 ≡ k = sub-zero k in
+      record { tested = rw all; whole = e; sums = λ r. rw all }
 
-  -- the count of the block's region can grow by one
-  pub walk-room : {u left r : ℕ} {counts : List ℕ} → Walking link regions c top k from u left counts → 0 < left
-      → k ≤ per_region c → CanGrow from → r ≡ region_of u → get_or counts r 0 + 1 ≤ 65535
-  walk-room {left = zero} w h most room e = absurd (omega arith)
-  walk-room {u = u} {left = suc left} w h most room e =
-      let z = region_of u in
-      rw e (omega (arith, w.sums z, when-same z 1, row-max link top k z, per_region-high c, room z))
+  module _ {u i : ℕ} {counts : List ℕ} (w : Walking link regions c top k from u i counts) where
+    module _ (more : i < k) where
+      -- one block and those behind it are left
+      left : k - i ≡ suc (k - (i + 1))
+      left = omega (arith, more)
 
-  -- a block is passed: the code counts down, reads the block's region r and its link x, and writes the count anew
-  pub walk-goes : {u left r x : ℕ} {counts : List ℕ} → Walking link regions c top k from u left counts → 0 < left
-      → regions ≤ REGIONS → is_block regions c u ≡ true → r ≡ region_of u → x ≡ link u
-      → Walking link regions c top k from x (left - 1) (set counts r (get_or counts r 0 + 1))
-  unfolding is_cache_row
-  walk-goes {left = zero} w h small e f g = absurd (omega arith)
-  walk-goes {u = u} {left = suc left} {counts = counts} w h small e f g =
-      let d : suc left - 1 ≡ left = omega arith in
-      let z = region_of u in
-      let inside : z < length counts = omega (arith, block-passed regions c u e, w.whole) in
-      let passed : is_cache_row link regions c (suc left) u ≡ is_cache_row link regions c left (link u) = rw e in
-      rw (f, g, d) (record {
-        tested = sym passed ∙ w.tested;
-        whole = length-set counts z (get_or counts z 0 + 1) ∙ w.whole;
-        sums = λ r. omega (arith, w.sums r, count-grows counts z 1 r inside);
-      })
+      -- so that they are tested one after the other
+      next : is_cache_row link regions c k top ≡ (is_block regions c u && is_cache_row link regions c (k - (i + 1)) (link u))
+      unfolding is_cache_row
+      next = sym w.tested ∙ ap (λ (n : ℕ). is_cache_row link regions c n u) left
 
-  -- what is no block is refused
-  pub walk-stops : {u left : ℕ} {counts : List ℕ} → Walking link regions c top k from u left counts → 0 < left
-      → is_block regions c u ≡ false → Walked link regions c top k from (record { fits = false; counts = from })
-  unfolding is_cache_row
-  walk-stops {left = zero} w h e = absurd (omega arith)
-  walk-stops {u = u} {left = suc left} w h e =
-      let fails : is_cache_row link regions c (suc left) u ≡ false = rw e in
-      refused _ refl (sym w.tested ∙ fails)
+      -- and counted
+      sum : (r : ℕ) → get_or counts r 0 + (one r (region_of u) + in_region r (row_from link (link u) (k - (i + 1))))
+          ≡ get_or from r 0 + in_region r (row_from link top k)
+      sum r = ap (λ (n : ℕ). get_or counts r 0 + in_region r (row_from link u n)) (sym left) ∙ w.sums r
 
-  -- at the end all blocks are counted, and 8,192 is due
-  pub walk_ends : {u left : ℕ} {counts : List ℕ} {b : Bool} → Walking link regions c top k from u left counts
-      → left ≡ 0 → b ≡ eqb u UNITS → Walked link regions c top k from (record { fits = b; counts = counts })
-  unfolding is_cache_row
-  walk_ends {left = zero} w h e =
-      record { tested = e ∙ w.tested; counts = λ t r l. omega (arith, w.sums r) }
-  walk_ends {left = suc left} w h e = absurd (omega arith)
+      -- the count of the block's region can grow by one
+      pub walk-room : {r : ℕ} → k ≤ per_region c → CanGrow from → r ≡ region_of u → get_or counts r 0 + 1 ≤ 65535
+      walk-room most room e =
+          let z = region_of u in
+          rw e (omega (arith, sum z, when-same z 1, row-max link top k z, per_region-high c, room z))
+
+      -- a block is passed: the code reads its region r and its link x, and writes the count anew
+      pub walk-goes : {r x : ℕ} → regions ≤ REGIONS → is_block regions c u ≡ true → r ≡ region_of u → x ≡ link u
+          → Walking link regions c top k from x (i + 1) (set counts r (get_or counts r 0 + 1))
+      walk-goes small e f g =
+          let z = region_of u in
+          let inside : z < length counts = omega (arith, block-passed regions c u e, w.whole) in
+          rw (f, g)
+          (record {
+            tested = sym (next ∙ rw e);
+            whole = length-set counts z (get_or counts z 0 + 1) ∙ w.whole;
+            sums = λ r. omega (arith, sum r, count-grows counts z 1 r inside);
+          })
+
+      -- what is no block is refused
+      pub walk-stops : {o : OutOfRange} → is_block regions c u ≡ false → Walked link regions c top k from (Err o)
+      walk-stops e = record { counts = tt; in_range_is = tt; out_of_range = next ∙ rw e }
+
+    module _ (done : k ≤ i) where
+      -- at the end 8,192 is due
+      last : is_cache_row link regions c k top ≡ eqb u UNITS
+      unfolding is_cache_row
+      last =
+          let none : k - i ≡ 0 = omega (arith, done) in
+          sym w.tested ∙ ap (λ (n : ℕ). is_cache_row link regions c n u) none
+
+      -- all blocks are counted
+      pub walk_ends : eqb u UNITS ≡ true → Walked link regions c top k from (Ok counts)
+      walk_ends e =
+          let none : k - i ≡ 0 = omega (arith, done) in
+          record {
+            counts = λ r l.
+                omega (
+                  arith,
+                  ap (λ (n : ℕ). get_or counts r 0 + in_region r (row_from link u n)) (sym none) ∙ w.sums r,
+                );
+            in_range_is = last ∙ e;
+            out_of_range = tt;
+          }
+
+      -- another link is refused
+      pub walk-fails : {o : OutOfRange} → eqb u UNITS ≡ false → Walked link regions c top k from (Err o)
+      walk-fails e = record { counts = tt; in_range_is = tt; out_of_range = last ∙ e }
 
 -- ---- the cache of a task and class: its fields are k and u
 
 module _ (v : View) (link : ℕ → ℕ) (regions t c : ℕ) (from : List ℕ) {n k : ℕ} (is_n : n ≡ per_region c)
     (is_count : k ≡ v (CacheCount t c)) where
   -- a count past n is refused
-  pub cache-long : n < k
-      → Counted (is_cache v link regions t c) (λ r. get_or from r 0 + in_region r (cache_row v link t c))
-      (record { fits = false; counts = from })
+  pub cache-long : {o : OutOfRange} → leb k n ≡ false
+      → Counted (is_cache v link regions t c) (λ r. get_or from r 0 + in_region r (cache_row v link t c)) (Err o)
   unfolding is_cache
-  cache-long h = refused _ refl (rw (lt-leb (v (CacheCount t c)) (per_region c) (omega arith)))
+  cache-long h = record { counts = tt; in_range_is = tt; out_of_range = rw (← is_count, ← is_n, h) }
 
   -- else the cache is what is walked
-  pub cache-walked : {u : ℕ} {tally : RegionCounts} → u ≡ v (CacheTop t c) → k ≤ n
-      → Walked link regions c u k from tally
-      → Counted (is_cache v link regions t c) (λ r. get_or from r 0 + in_region r (cache_row v link t c)) tally
+  pub cache-walked : {u : ℕ} {counted : Result (List ℕ) OutOfRange} → u ≡ v (CacheTop t c) → leb k n ≡ true
+      → Walked link regions c u k from counted
+      → Counted (is_cache v link regions t c) (λ r. get_or from r 0 + in_region r (cache_row v link t c)) counted
   unfolding is_cache
-  cache-walked is_top h w = rw (le-leb (v (CacheCount t c)) (per_region c) (omega arith), ← is_count, ← is_top) w
+  cache-walked is_top h w = rw (← is_count, ← is_top, ← is_n, h) w
 
 -- a cache in range has at most n blocks in a region
 pub cache-max : (v : View) (link : ℕ → ℕ) (regions t c r : ℕ) → is_cache v link regions t c ≡ true

@@ -2,140 +2,125 @@
 // block of a region in a cache that has passed these tests. Nothing here writes memory.
 #![tactic(auto)]
 
-ghost use Rattle.std.specs.Prelude.{◌≡◌, true, ◌+◌, ◌*◌, ◌≤◌, ◌<◌, length, get_or};
-ghost use Rattle.limits.specs.Limits.{REGIONS, REGION_BYTES, CLASSES};
+ghost use Rattle.std.specs.Prelude.{◌≡◌, true, ◌+◌, ◌≤◌, ◌<◌, get_or, unwrap_or, IfSome, IfNone};
+ghost use Rattle.limits.specs.Limits.{UNITS};
 ghost use Rattle.classes.specs.Classes.{per_region};
 ghost use Rattle.links.specs.Link.{link};
 ghost use Rattle.control.specs.Layout.{seen};
-ghost use Rattle.stepped.specs.Done.{GivenArea};
+ghost use Rattle.stepped.specs.Done.{AreaOf};
 ghost use Rattle.reports.specs.ByRegion.{in_region, Counted, CanGrow};
 ghost use Rattle.report_caches.specs.CacheRows.{is_cache_row, row_from, cache_row, is_cache, caches_in_range};
 ghost use Rattle.report_caches.specs.CacheRows.{blocks_in_caches, lower_of, lowest_cached};
 
 use classes::{geometry, table};
-use control::caches;
-use reports::counts::RegionCounts;
+use control::column::Control;
+use control::layout;
+use limits::REGIONS;
+use limits::index::{Class, OutOfRange, Region, Regions, Task, in_range};
 
 // The blocks of a cache of `count` blocks from its top down, each counted in its region. Caller: `cache`, which has
 // found the count at most n.
 fn walk(
     area: &[u8],
-    regions: usize,
-    class: usize,
+    regions: Regions,
+    class: Class,
     top: usize,
     count: usize,
-    from: [u16; limits::REGIONS],
-) -> RegionCounts
-    requires { (length area.now ≡ REGION_BYTES * regions) × (regions ≤ REGIONS) × (class < CLASSES)
-        × (count ≤ per_region class) × CanGrow from }
+    from: [u16; REGIONS],
+) -> Result<[u16; REGIONS], OutOfRange>
+    requires { AreaOf regions area.now × (count ≤ per_region class) × CanGrow from }
     ensures { Counted (is_cache_row (link area.now) regions class count top)
         (λ z. get_or from z 0 + in_region z (row_from (link area.now) top count)) result }
 {
     let mut unit = top;
-    let mut left = count;
     let mut counts = from;
-    while 0 < left {
-        if !ranges::is_block(regions, class, unit) {
-            return RegionCounts {
-                fits: false,
-                counts: from,
-            };
-        }
-        let region = geometry::region_of(unit);
-        counts[region] = counts[region] + 1;
+    for _ in 0..count {
+        in_range(ranges::is_block(regions, class, unit))?;
+        counts[geometry::region_of(unit)] += 1;
         unit = links::read(area, unit) as usize;
-        left -= 1;
     }
-    RegionCounts {
-        fits: unit == limits::UNITS,
-        counts: counts,
-    }
+    in_range(unit == limits::UNITS)?;
+    Ok(counts)
 }
 
-// The blocks of a task's cache of a class, added to the counts of the regions. Callers have the started regions, and
-// counts that can grow: `of_class`, and the reports that tell the tasks apart.
+// The blocks of a task's cache of a class, added to the counts of the regions. Callers have counts that can grow:
+// `of_class`, and the reports that tell the tasks apart.
 pub fn cache(
-    control: &[u8],
+    control: &Control,
     area: &[u8],
-    regions: usize,
-    task: usize,
-    class: usize,
-    from: [u16; limits::REGIONS],
-) -> RegionCounts
-    requires { GivenArea control.now area.now regions task class × CanGrow from }
+    regions: Regions,
+    task: Task,
+    class: Class,
+    from: [u16; REGIONS],
+) -> Result<[u16; REGIONS], OutOfRange>
+    requires { AreaOf regions area.now × CanGrow from }
     ensures { Counted (is_cache (seen control.now) (link area.now) regions task class)
-        (λ z. get_or from z 0 + in_region z (cache_row (seen control.now) (link area.now) task class))
-        result }
+        (λ z. get_or from z 0 + in_region z (cache_row (seen control.now) (link area.now) task class)) result }
 {
-    let count = caches::cache_count(control, task, class) as usize;
-    if table::per_region(class) < count {
-        return RegionCounts {
-            fits: false,
-            counts: from,
-        };
-    }
-    let top = caches::cache_top(control, task, class) as usize;
+    let count = layout::CACHE_COUNTS.get_of(control, task, class) as usize;
+    in_range(count <= table::per_region(class))?;
+    let top = layout::CACHE_TOPS.get_of(control, task, class) as usize;
     walk(area, regions, class, top, count, from)
 }
 
 // The blocks of all tasks' caches of a class, also of tasks that are not started, whose caches are empty after a start.
-// Callers have the started regions: the reports.
-pub fn of_class(control: &[u8], area: &[u8], regions: usize, class: usize) -> RegionCounts
-    requires { GivenArea control.now area.now regions 0 class }
+// Callers: the reports.
+pub fn of_class(
+    control: &Control,
+    area: &[u8],
+    regions: Regions,
+    class: Class,
+) -> Result<[u16; REGIONS], OutOfRange>
+    requires { AreaOf regions area.now }
     ensures { Counted (caches_in_range (seen control.now) (link area.now) regions class)
         (blocks_in_caches (seen control.now) (link area.now) class) result }
 {
-    let mut counts = [0u16; limits::REGIONS];
-    let mut task: usize = 0;
-    while task < limits::TASKS {
-        let got = cache(control, area, regions, task, class, counts);
-        if !got.fits {
-            return got;
-        }
-        counts = got.counts;
-        task += 1;
+    let mut counts = [0u16; REGIONS];
+    for task in 0..limits::TASKS {
+        counts = cache(control, area, regions, Task::new(task), class, counts)?;
     }
-    RegionCounts {
-        fits: true,
-        counts: counts,
-    }
+    Ok(counts)
 }
 
-// The block at `unit`, where it lies in the region and below `low`; else `low`. Caller: `lowest`.
-fn lower(unit: usize, region: usize, low: usize) -> usize
-    ensures { result ≡ lower_of region unit low }
+// The lowest block of the region so far, where `low` is the lowest of the blocks before the one at `unit`. Caller:
+// `lowest`.
+#[tactic(auto, unfolding(crate::specs::CacheRows::lower_of))]
+fn lower(unit: usize, region: Region, low: Option<u16>) -> Option<u16>
+    requires { (unit < UNITS) × IfSome low (λ lowest. lowest < UNITS) }
+    ensures lower { unwrap_or result UNITS ≡ lower_of region unit (unwrap_or low UNITS) }
+    ensures below { IfSome result (λ lowest. lowest < UNITS) }
 {
-    if geometry::region_of(unit) != region {
+    if geometry::region_of(unit) != region.get() {
         return low;
     }
-    if unit < low {
-        return unit;
+    if let Some(lowest) = low {
+        if (lowest as usize) <= unit {
+            return low;
+        }
     }
-    low
+    Some(unit as u16)
 }
 
-// The lowest block of a region in a task's cache of a class, by its unit; 8,192 where it has none there. Callers have
-// found the cache in its range: the keepers.
+// The lowest block of a region in a task's cache of a class, by its unit, if it has one there. Callers have found the
+// cache in its range: the keepers.
 pub fn lowest(
-    control: &[u8],
+    control: &Control,
     area: &[u8],
-    regions: usize,
-    task: usize,
-    class: usize,
-    region: usize,
-) -> u16
-    requires { GivenArea control.now area.now regions task class
-        × (is_cache (seen control.now) (link area.now) regions task class ≡ true) }
-    ensures { result
-        ≡ lowest_cached (seen control.now) (link area.now) task class region }
+    regions: Regions,
+    task: Task,
+    class: Class,
+    region: Region,
+) -> Option<u16>
+    requires { AreaOf regions area.now × (is_cache (seen control.now) (link area.now) regions task class ≡ true) }
+    ensures found { IfSome result (λ unit. unit ≡ lowest_cached (seen control.now) (link area.now) task class region) }
+    ensures below { IfSome result (λ unit. unit < UNITS) }
+    ensures none { IfNone result (lowest_cached (seen control.now) (link area.now) task class region ≡ UNITS) }
 {
-    let mut unit = caches::cache_top(control, task, class) as usize;
-    let mut left = caches::cache_count(control, task, class);
-    let mut low = limits::UNITS;
-    while 0 < left {
+    let mut unit = layout::CACHE_TOPS.get_of(control, task, class) as usize;
+    let mut low = None;
+    for _ in 0..layout::CACHE_COUNTS.get_of(control, task, class) {
         low = lower(unit, region, low);
         unit = links::read(area, unit) as usize;
-        left -= 1;
     }
-    low as u16
+    low
 }

@@ -41,6 +41,11 @@ word-marked v r k j l =
     let m : u % WORD_MARKS ≡ j = omega arith in
     rw (d, m)
 
+-- the word that is read at the index of the region's word k
+pub word-read : (v : View) (r k : ℕ) {i w : ℕ} → w ≡ v (Marks i) → i ≡ REGION_WORDS * r + k
+    → w ≡ v (Marks (REGION_WORDS * r + k))
+word-read v r k e f = e ∙ ap (λ (j : ℕ). v (Marks j)) f
+
 -- the ones of the masked word are the blocks that begin in it and whose mark is set
 pub word_more : (v : View) (r c k w m : ℕ) → w ≡ v (Marks (REGION_WORDS * r + k)) → MaskOf c k m
     → held_in v r c (WORD_MARKS * k) + ones (bit_and w m) ≡ held_in v r c (WORD_MARKS * (k + 1))

@@ -3,25 +3,26 @@
 // Nothing here writes memory.
 #![tactic(auto)]
 
-ghost use Rattle.std.specs.Prelude.{◌≡◌, ◌<◌};
-ghost use Rattle.limits.specs.Limits.{REGIONS, CLASSES, WORD_MARKS};
+ghost use Rattle.std.specs.Prelude.{◌≡◌, ◌<◌, IfSome, IfNone};
+ghost use Rattle.limits.specs.Limits.{WORD_MARKS, UNITS};
 ghost use Rattle.classes.specs.Classes.{units};
-ghost use Rattle.control.specs.Layout.{Control, seen};
+ghost use Rattle.control.specs.Layout.{seen};
 ghost use Rattle.report_marks.specs.Masks.{REGION_WORDS, every_bit, MaskOf};
 ghost use Rattle.report_marks.specs.InHand.{blocks_in_hand, lowest_in_hand};
 
 use classes::table;
-use control::regions;
+use control::column::Control;
+use control::layout;
+use limits::index::{Class, Index, Region};
 
 const REGION_WORDS: usize = limits::REGION_UNITS / limits::WORD_MARKS;
 
 // A word with every bit set at which a block of the class begins, if one begins at bit 0. The last arm is past the
 // table, as in the table of classes. Caller: `mask`.
-fn pattern(class: usize) -> u64
-    requires { class < CLASSES }
+fn pattern(class: Class) -> u64
     ensures { result ≡ every_bit (units class) WORD_MARKS }
 {
-    match class {
+    match class.get() {
         0 => 18446744073709551615,
         1 => 6148914691236517205,
         2 => 1229782938247303441,
@@ -42,8 +43,8 @@ fn pattern(class: usize) -> u64
 // The first units of the class's blocks in one of a region's words: the pattern, from the first block that begins in
 // the word on, and in the last word without what is left over behind the last block. Callers: `in_hand` and
 // `lowest_in_hand`.
-fn mask(class: usize, word: usize) -> u64
-    requires { (class < CLASSES) × (word < REGION_WORDS) }
+fn mask(class: Class, word: usize) -> u64
+    requires { word < REGION_WORDS }
     ensures { MaskOf class word result }
 {
     let units = table::units(class);
@@ -56,37 +57,33 @@ fn mask(class: usize, word: usize) -> u64
     (all << over) >> over
 }
 
-// How many blocks of the class in the region are in users' hands. Callers have a region of the area and one of the
-// classes: the reports.
-pub fn in_hand(control: &[u8], region: usize, class: usize) -> u16
-    requires { Control control.now × (region < REGIONS) × (class < CLASSES) }
+// How many blocks of the class in the region are in users' hands. Callers: the reports.
+pub fn in_hand(control: &Control, region: Region, class: Class) -> u16
     ensures { result ≡ blocks_in_hand (seen control.now) region class }
 {
     let mut held: u16 = 0;
-    let mut word: usize = 0;
-    while word < REGION_WORDS {
-        let marks = regions::marks(control, REGION_WORDS * region + word);
+    for word in 0..REGION_WORDS {
+        let marks = layout::UNIT_MARKS.get(control, Index::new(REGION_WORDS * region.get() + word));
         held += u64::count_ones(marks & mask(class, word)) as u16;
-        word += 1;
     }
     held
 }
 
-// The lowest unit of a block of the class in the region that is in users' hands; 8,192 where none is. Callers have a
-// region of the area and one of the classes: the keepers.
-pub fn lowest_in_hand(control: &[u8], region: usize, class: usize) -> u16
-    requires { Control control.now × (region < REGIONS) × (class < CLASSES) }
-    ensures { result ≡ lowest_in_hand (seen control.now) region class }
+// The lowest unit of a block of the class in the region that is in users' hands, if there is one. Callers: the keepers.
+pub fn lowest_in_hand(control: &Control, region: Region, class: Class) -> Option<u16>
+    ensures found { IfSome result (λ unit. unit ≡ lowest_in_hand (seen control.now) region class) }
+    ensures below { IfSome result (λ unit. unit < UNITS) }
+    ensures none { IfNone result (lowest_in_hand (seen control.now) region class ≡ UNITS) }
 {
-    let mut word: usize = 0;
-    while word < REGION_WORDS {
-        let marks = regions::marks(control, REGION_WORDS * region + word);
+    for word in 0..REGION_WORDS {
+        let marks = layout::UNIT_MARKS.get(control, Index::new(REGION_WORDS * region.get() + word));
         let held = marks & mask(class, word);
         if held != 0 {
             let bit = u64::trailing_zeros(held) as usize;
-            return (limits::REGION_UNITS * region + limits::WORD_MARKS * word + bit) as u16;
+            return Some(
+                (limits::REGION_UNITS * region.get() + limits::WORD_MARKS * word + bit) as u16,
+            );
         }
-        word += 1;
     }
-    limits::UNITS as u16
+    None
 }

@@ -12,8 +12,8 @@ use Rattle.classes.specs.Classes.{per_region}
 use Rattle.classes.proofs.Tables.{per_region-high}
 use Rattle.control.specs.Layout.{Anchor, DescriptorRegion, DescriptorClass, Map}
 use Rattle.stepped.specs.Ranges.{is_anchor}
-use Rattle.report_regions.specs.declared.Opened.{Opened}
-use Rattle.report_regions.specs.declared.Opened.TheVariants.{Closed, Open, Outside}
+use Rattle.report_regions.specs.Opened.{Opened}
+use Rattle.report_regions.specs.Opened.{Closed, Open, Outside}
 use Rattle.report_regions.specs.Opened.{open_as, open_by, opened_of}
 use Rattle.report_regions.specs.OpenClasses.{chain_in, open_chain}
 

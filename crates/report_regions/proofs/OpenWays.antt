@@ -1,18 +1,29 @@
 -- One law for each way out of the tests of a region.
 use mathlib.Core.Path.{◌≡◌}
 use mathlib.Core.Logic.{◌≢◌}
-use mathlib.Core.Bool.{true, false}
+use mathlib.Core.Bool.{true, false, false≢true}
 use Prim.Native.Nat.{ℕ, ◌-◌, ◌≤◌, ◌<◌}
 use native.Mathlib.Omega.{arith}
 use borrow.Author.Tests.{lt-ltb, le-ltb, le-leb, lt-leb, eq-eqb, ne_eqb}
+use lib.Dec.{leb}
+use Rattle.std.specs.Prelude.{Ok, Err}
+use Rattle.std.specs.Result.{IsErr}
+use Rattle.std.specs.declared.option.Option.{Option}
+use Rattle.std.specs.declared.result.Result.{Result}
 use Rattle.limits.specs.Limits.{CLASSES, DESCRIPTORS}
+use Rattle.limits.specs.declared.index.OutOfRange.{OutOfRange}
 use Rattle.words.specs.Anchor.{EMPTY, anchor_of}
 use Rattle.fields.specs.Columns.{View}
 use Rattle.classes.specs.Classes.{per_region}
 use Rattle.control.specs.Layout.{Anchor, DescriptorRegion, DescriptorClass, Map}
 use Rattle.stepped.specs.Ranges.{is_anchor}
-use Rattle.report_regions.specs.declared.Opened.TheVariants.{Closed, Open, Outside}
-use Rattle.report_regions.specs.Opened.{open_as, open_by, opened_of}
+use Rattle.report_regions.specs.declared.OpenRegion.{OpenRegion}
+use Rattle.report_regions.specs.Opened.{Opened, Closed, Open, Outside, opened_in, open_as, open_by, opened_of}
+
+-- an error tells that a value is out of its range
+pub told-outside : (r : Result (Option OpenRegion) OutOfRange) {o : Opened} → IsErr r → Outside ≡ o → opened_in r ≡ o
+told-outside (Err d) i e = e
+told-outside (Ok x) i e = absurd (false≢true i)
 
 module _ (v : View) (d k : ℕ) {c : ℕ} (class : c ≡ v (DescriptorClass d)) where
   -- the class is past the table
@@ -21,14 +32,14 @@ module _ (v : View) (d k : ℕ) {c : ℕ} (class : c ≡ v (DescriptorClass d)) 
   no-class h = rw (le-ltb (v (DescriptorClass d)) CLASSES (omega arith))
 
   -- the chain has more blocks than n
-  pub past-n : c < CLASSES → per_region c < k → Outside ≡ open_as v d k
+  pub past-n : c < CLASSES → leb k (per_region c) ≡ false → Outside ≡ open_as v d k
   unfolding open_as
-  past-n h l = rw (← class, lt-ltb c CLASSES h, lt-leb k (per_region c) l)
+  past-n h l = rw (← class, lt-ltb c CLASSES h, l)
 
   -- class and chain are in range
-  pub is-chain : c < CLASSES → k ≤ per_region c → Open c k ≡ open_as v d k
+  pub is-chain : c < CLASSES → leb k (per_region c) ≡ true → Open c k ≡ open_as v d k
   unfolding open_as
-  is-chain h l = rw (← class, lt-ltb c CLASSES h, le-leb k (per_region c) l)
+  is-chain h l = rw (← class, lt-ltb c CLASSES h, l)
 
 module _ (v : View) (regions r d : ℕ) {x : ℕ} (region : x ≡ v (DescriptorRegion d)) where
   -- the descriptor's region is past the area

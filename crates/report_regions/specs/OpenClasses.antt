@@ -1,12 +1,13 @@
 -- docs/POOL.md, "Reports"
 -- The classes in which the regions of the area are open, and the lengths of their chains, region by region.
-use Rattle.std.specs.Prelude.{◌≡◌, true, ℕ, ◌<◌, get_or}
+use Rattle.std.specs.Prelude.{◌≡◌, true, false, List, ℕ, ◌<◌, get_or, Ok, None, IfOk, OnOk, OnErr}
+use Rattle.std.specs.declared.option.Option.{Option}
+use Rattle.std.specs.declared.result.Result.{Result}
 use Rattle.limits.specs.Limits.{CLASSES}
 use Rattle.fields.specs.Columns.{View}
-use Rattle.report_regions.specs.declared.Opened.{Opened}
-use Rattle.report_regions.specs.declared.Opened.TheVariants.{Closed, Open, Outside}
-use Rattle.report_regions.specs.declared.OpenRegions.{OpenRegions}
-use Rattle.report_regions.specs.Opened.{opened_of, regions_in_range}
+use Rattle.limits.specs.declared.index.OutOfRange.{OutOfRange}
+use Rattle.report_regions.specs.declared.OpenRegion.{OpenRegion}
+use Rattle.report_regions.specs.Opened.{Opened, Closed, Open, Outside, opened_in, opened_of, regions_in_range}
 
 -- the class of a region that is open; 13, which is no class, of one that is not
 abbrev pub class_in : Opened → ℕ
@@ -28,9 +29,9 @@ open_class v regions r = class_in (opened_of v regions r)
 unfoldable pub open_chain : View → ℕ → ℕ → ℕ
 open_chain v regions r = chain_in (opened_of v regions r)
 
--- What is ensured by the function that reads all regions of the area: `fits` tells whether all that it read is in its
--- range; where it is, the class and the chain of each are told.
-pub record RegionsRead (v : View) (regions : ℕ) (x : OpenRegions) : Type 0 where
-  pub tested : x.fits ≡ regions_in_range v regions
-  pub classes : x.fits ≡ true → (r : ℕ) → r < regions → get_or x.classes r 0 ≡ open_class v regions r
-  pub chains : x.fits ≡ true → (r : ℕ) → r < regions → get_or x.chains r 0 ≡ open_chain v regions r
+-- What is ensured by the function that reads all regions of the area: it goes on where all that it reads is in its
+-- range, and then tells of each region what is read of it.
+pub record RegionsRead (v : View) (regions : ℕ) (x : Result (List (Option OpenRegion)) OutOfRange) : Type 0 where
+  pub passed : OnOk x (regions_in_range v regions ≡ true)
+  pub failed : OnErr x (regions_in_range v regions ≡ false)
+  pub told : IfOk x (λ rs. (r : ℕ) → r < regions → opened_in (Ok (get_or rs r None)) ≡ opened_of v regions r)

@@ -1,7 +1,9 @@
 -- docs/POOL.md, "Reports"
 -- Which regions are open, in which class, and how many blocks their chains have. A chain is counted by its anchor's
 -- count: its links are not read. What is read is tested as the beginning of a free tests it.
-use Rattle.std.specs.Prelude.{Bool, true, false, cond, ℕ, ◌-◌, ltb, leb, eqb}
+use Rattle.std.specs.Prelude.{Bool, true, false, cond, ℕ, ◌-◌, ltb, leb, eqb, Ok, Err, Some, None}
+use Rattle.std.specs.declared.option.Option.{Option}
+use Rattle.std.specs.declared.result.Result.{Result}
 use Rattle.limits.specs.Limits.{CLASSES, DESCRIPTORS}
 use Rattle.words.specs.Anchor.{EMPTY, anchor_of}
 use Rattle.fields.specs.Columns.{View}
@@ -9,8 +11,21 @@ use Rattle.classes.specs.Classes.{per_region}
 use Rattle.control.specs.Layout.{Anchor, DescriptorRegion, DescriptorClass, Map}
 use Rattle.stepped.specs.Ranges.{is_anchor}
 use Rattle.reports.specs.Passing.{all_pass}
-use Rattle.report_regions.specs.declared.Opened.{Opened}
-use Rattle.report_regions.specs.declared.Opened.TheVariants.{Closed, Open, Outside}
+use Rattle.limits.specs.declared.index.OutOfRange.{OutOfRange}
+use Rattle.report_regions.specs.declared.OpenRegion.{OpenRegion}
+
+-- what is read of a region: it is not open; it is open, in a class and with a chain of so many blocks; a value that was
+-- read is out of its range
+pub data Opened : Type 0 where
+  Closed : Opened
+  Open : ℕ → ℕ → Opened
+  Outside : Opened
+
+-- what a function has read of a region, by what it returns
+abbrev pub opened_in : Result (Option OpenRegion) OutOfRange → Opened
+opened_in (Ok None) = Closed
+opened_in (Ok (Some o)) = Open o.class o.chain
+opened_in (Err e) = Outside
 
 -- the descriptor d opens the region: its class, and a chain of k blocks, which does not pass n
 unfoldable pub open_as : View → ℕ → ℕ → Opened

@@ -1,58 +1,52 @@
 // The list of spare regions. It is tested first, and then asked for a region. Nothing here writes memory.
-ghost use Rattle.std.specs.Prelude.{◌≡◌, true, ◌≤◌};
-ghost use Rattle.limits.specs.Limits.{REGIONS, SPARE_REGIONS};
+ghost use Rattle.std.specs.Prelude.{◌≡◌, true, false, OnOk, OnErr};
+ghost use Rattle.limits.specs.Limits.{SPARE_REGIONS};
 ghost use Rattle.words.specs.Head.{item_of};
-ghost use Rattle.control.specs.Layout.{Control, seen, Head as HeadOf};
+ghost use Rattle.control.specs.Layout.{seen, Head as HeadOf};
 ghost use Rattle.report_regions.specs.SpareList.{is_spare_list, is_spare};
 
-use control::lists;
+use control::column::Control;
+use control::layout;
+use limits::index::{List, OutOfRange, Region, Regions, in_range};
 use words::head::Head;
 
 // The first item of the list: a region's number plus one, or 0. Callers: the functions below.
-fn first(control: &[u8]) -> usize
-    requires { Control control.now }
+fn first(control: &Control) -> usize
     ensures { result ≡ item_of (seen control.now (HeadOf SPARE_REGIONS)) }
 {
-    let head = Head::of(lists::head(control, limits::SPARE_REGIONS));
+    let head = Head::of(layout::HEADS.get(control, List::new(limits::SPARE_REGIONS)));
     head.item as usize
 }
 
-// Whether each item is a region of the area, and the list ends. Callers have the started regions: the keepers.
-pub fn fits(control: &[u8], regions: usize) -> bool
-    requires { Control control.now × (regions ≤ REGIONS) }
-    ensures { result ≡ is_spare_list (seen control.now) regions }
+// Goes on where each item is a region of the area, and the list ends. Callers have the started regions: the keepers.
+pub fn fits(control: &Control, regions: Regions) -> Result<(), OutOfRange>
+    ensures passed { OnOk result (is_spare_list (seen control.now) regions ≡ true) }
+    ensures failed { OnErr result (is_spare_list (seen control.now) regions ≡ false) }
 {
     let mut item = first(control);
-    let mut left = regions;
-    while 0 < left {
-        if item == 0 {
-            return true;
-        }
-        if regions < item {
-            return false;
-        }
-        item = lists::region_next(control, item - 1) as usize;
-        left -= 1;
+    for _ in 0..regions.get() {
+        let Some(number) = item.checked_sub(1) else {
+            return Ok(());
+        };
+        item = layout::REGION_NEXTS.get(control, regions.region(number)?) as usize;
     }
-    item == 0
+    in_range(item == 0)
 }
 
 // Whether the region is on the list. Callers have found the list in its range: the keepers.
-pub fn has(control: &[u8], regions: usize, region: usize) -> bool
-    requires { Control control.now × (regions ≤ REGIONS) × (is_spare_list (seen control.now) regions ≡ true) }
+pub fn has(control: &Control, regions: Regions, region: Region) -> bool
+    requires { is_spare_list (seen control.now) regions ≡ true }
     ensures { result ≡ is_spare (seen control.now) regions region }
 {
     let mut item = first(control);
-    let mut left = regions;
-    while 0 < left {
-        if item == 0 {
+    for _ in 0..regions.get() {
+        let Some(number) = item.checked_sub(1) else {
             return false;
-        }
-        if item - 1 == region {
+        };
+        if number == region.get() {
             return true;
         }
-        item = lists::region_next(control, item - 1) as usize;
-        left -= 1;
+        item = layout::REGION_NEXTS.get(control, Region::new(number)) as usize;
     }
     false
 }

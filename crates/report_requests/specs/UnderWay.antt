@@ -4,8 +4,12 @@
 -- region a request has under way, by its place. A chain, a group and what is still to be carved are of one region, and
 -- are counted by their number: their links are not read. Each value that is read is tested by the range that
 -- docs/LAYOUT.md gives it at that place.
-use Rattle.std.specs.Prelude.{Bool, true, false, cond, not, ◌&&◌, ◌||◌, ℕ, ◌+◌, ◌-◌, ltb, leb, eqb}
-use Rattle.limits.specs.Limits.{UNITS, TASKS, CLASSES}
+use Rattle.std.specs.Prelude.{Bool, cond, not, ◌&&◌, ◌||◌, ℕ, ◌+◌, ◌-◌, ltb, leb, eqb, is_ok}
+use Rattle.std.specs.Prelude.{Ok, Err, None, Some}
+use Rattle.std.specs.declared.option.Option.{Option}
+use Rattle.std.specs.declared.result.Result.{Result}
+use Rattle.limits.specs.declared.index.OutOfRange.{OutOfRange}
+use Rattle.limits.specs.Limits.{TASKS, CLASSES}
 use Rattle.rows.specs.Weights.{when, one}
 use Rattle.rows.specs.Totals.{total}
 use Rattle.fields.specs.Columns.{View}
@@ -48,60 +52,60 @@ is_freeing v t p = eqb p F1 || (is_return p && not (eqb (v (TaskUnit t)) LEAVING
 unfoldable pub is_without : ℕ → Bool
 is_without p = eqb p IDLE || is_from_to STRIP_TAKE LEAVE_END p
 
--- k blocks of the class c and the region z, and the block of the unit u, or none where u is 8,192
-abbrev pub has : ℕ → ℕ → ℕ → ℕ → RequestBlocks
-has c z k u = record { fits = true; class = c; region = z; blocks = k; own = u }
+-- k blocks of the class c and the region z, and a block that is freed, if there is one, by its unit
+abbrev pub has : ℕ → ℕ → ℕ → Option ℕ → Result RequestBlocks OutOfRange
+has c z k own = Ok (record { class = c; region = z; blocks = k; own = own })
 
 -- no block is under way
-abbrev pub no_blocks : RequestBlocks
-no_blocks = has 0 0 0 UNITS
+abbrev pub no_blocks : Result RequestBlocks OutOfRange
+no_blocks = has 0 0 0 None
 
 -- a value that was read is out of its range
-abbrev pub outside : RequestBlocks
-outside = record { fits = false; class = 0; region = 0; blocks = 0; own = UNITS }
+abbrev pub outside : Result RequestBlocks OutOfRange
+outside = Err (record {})
 
 module _ (v : View) (regions t : ℕ) where
-  -- the blocks q, with the block being freed, if there is one: a block of the class
-  unfoldable pub with_own : ℕ → RequestBlocks → RequestBlocks
-  with_own p q =
+  -- k blocks of the class c and the region z, with the block being freed, if there is one: a block of the class
+  unfoldable pub with_own : ℕ → ℕ → ℕ → ℕ → Result RequestBlocks OutOfRange
+  with_own p c z k =
       cond (is_freeing v t p)
-      (cond (is_block regions q.class (v (TaskUnit t)))
-      (has q.class q.region q.blocks (v (TaskUnit t)))
-      outside)
-      q
+      (cond (is_block regions c (v (TaskUnit t))) (has c z k (Some (v (TaskUnit t)))) outside)
+      (has c z k None)
 
   -- k blocks of the class c at the place p: where there are any, the task's region is read, and is one of the area's
-  unfoldable pub in_area : ℕ → ℕ → ℕ → RequestBlocks
+  unfoldable pub in_area : ℕ → ℕ → ℕ → Result RequestBlocks OutOfRange
   in_area c p k =
-      cond (eqb k 0) (with_own p (has c 0 0 UNITS))
-      (cond (ltb (v (TaskRegion t)) regions) (with_own p (has c (v (TaskRegion t)) k UNITS)) outside)
+      cond (eqb k 0) (with_own p c 0 0)
+      (cond (ltb (v (TaskRegion t)) regions) (with_own p c (v (TaskRegion t)) k) outside)
 
   -- a request of the class c at the place p: the number of its blocks does not pass n, and is not 0 where one is due
-  unfoldable pub request_blocks_at : ℕ → ℕ → RequestBlocks
+  unfoldable pub request_blocks_at : ℕ → ℕ → Result RequestBlocks OutOfRange
   request_blocks_at c p =
       let k = count_at v t (per_region c) p in
       cond (leb (least_at p) k && leb k (per_region c)) (in_area c p k) outside
 
   -- what the request of the task t has under way: nothing, where it can have none; else the class of the request is
   -- read, too, as its step reads it
-  unfoldable pub request_blocks : RequestBlocks
+  unfoldable pub request_blocks : Result RequestBlocks OutOfRange
   request_blocks =
       let p = v (TaskPlace t) in
       let c = v (TaskClass t) in
       cond (is_without p) no_blocks (cond (ltb p PLACES && ltb c CLASSES) (request_blocks_at c p) outside)
 
--- 1 if the block being freed, of the unit u, lies in the region r; 0 where it does not, or none is freed
-abbrev pub own_in : ℕ → ℕ → ℕ
-own_in r u = cond (eqb u UNITS) 0 (one r (region_of u))
+-- 1 if the block being freed lies in the region r; 0 where it does not, or none is freed
+abbrev pub own_in : ℕ → Option ℕ → ℕ
+own_in r None = 0
+own_in r (Some u) = one r (region_of u)
 
--- how many of a request's blocks are of the class c and lie in the region r
-unfoldable pub in_request : ℕ → ℕ → RequestBlocks → ℕ
-in_request c r q = when c q.class (when r q.region q.blocks + own_in r q.own)
+-- how many of a request's blocks are of the class c and lie in the region r; none of one that is out of range
+unfoldable pub in_request : ℕ → ℕ → Result RequestBlocks OutOfRange → ℕ
+in_request c r (Ok q) = when c q.class (when r q.region q.blocks + own_in r q.own)
+in_request c r (Err e) = 0
 
 -- whether the requests of all eight tasks are in range, also of those that are not started, as the comparison reads
 -- them
 unfoldable pub requests_in_range : View → ℕ → Bool
-requests_in_range v regions = all_pass TASKS (λ t. (request_blocks v regions t).fits)
+requests_in_range v regions = all_pass TASKS (λ t. is_ok (request_blocks v regions t))
 
 -- "with running requests": how many blocks of the class c and the region r the requests of all eight tasks have
 unfoldable pub blocks_in_requests : View → ℕ → ℕ → ℕ → ℕ

@@ -1,6 +1,5 @@
 -- Laws of blocks counted by region.
-use mathlib.Core.Path.{◌≡◌, sym, ◌∙◌}
-use mathlib.Core.Bool.{Bool, false, true≢false}
+use mathlib.Core.Path.{◌≡◌}
 use mathlib.Core.List.{List, [], ◌∷◌}
 use Prim.Native.Nat.{ℕ, ◌+◌, ◌≤◌, ◌<◌}
 use native.Mathlib.Omega.{arith}
@@ -10,8 +9,7 @@ use Rattle.rows.specs.Comparisons.{same, other, same?}
 use Rattle.rows.specs.Weights.{when}
 use Rattle.rows.proofs.Weights.{when-same, when-other, when-max}
 use Rattle.classes.specs.Geometry.{region_of}
-use Rattle.reports.specs.ByRegion.{in_region, Counted}
-use Rattle.reports.specs.declared.counts.RegionCounts.{RegionCounts}
+use Rattle.reports.specs.ByRegion.{in_region}
 
 -- a region has at most all blocks of a row
 pub region-max : (r : ℕ) (q : List ℕ) → in_region r q ≤ length q
@@ -27,8 +25,3 @@ count-grows counts z n r l =
       | same e ↦ rw (e, get_or-set_same counts z grown 0 l, when-same z n)
       | other d ↦ rw (get_or-set_other counts z r grown 0 d, when-other r z n d) (omega arith)
     ]
-
--- where a value is out of its range, any counts will do
-pub refused : {in_range : Bool} (number : ℕ → ℕ) {tally : RegionCounts} → tally.fits ≡ false → in_range ≡ false
-    → Counted in_range number tally
-refused number f e = record { tested = f ∙ sym e; counts = λ t r l. absurd (true≢false (sym t ∙ e)) }

@@ -3,7 +3,6 @@ pub mod Passing
 pub mod FirstPassing
 pub mod ByRegion
 pub mod TasksCounted
-pub mod GivenFor
 pub mod Rows
 pub mod ReportAnswers
 pub mod ReportFilled

@@ -1,48 +1,52 @@
 -- The answers of a report behind the tests of the lengths: 14, 23 and 20; and what its function answers and leaves.
 use mathlib.Core.Path.{◌≡◌, refl, sym, ap, subst, ◌∙◌}
-use mathlib.Core.Bool.{Bool, true, false, true≢false}
+use mathlib.Core.Bool.{Bool, true, false}
 use mathlib.Core.List.{List}
 use Prim.Native.Nat.{ℕ, ◌*◌, ◌≤◌, ◌<◌}
-use native.Mathlib.Omega.{arith}
 use borrow.Author.Tests.{le-leb, lt-leb}
 use lib.ListN.{length}
-use Rattle.reports.specs.Rows.{BYTES_OF_NUMBER, with_numbers, numbers_to}
-use Rattle.reports.specs.Reports.{answered, Answers, Gathered}
-use Rattle.reports.proofs.Rows.{numbers-length}
+use Rattle.reports.specs.Rows.{BYTES_OF_NUMBER, with_numbers}
+use Rattle.std.specs.Prelude.{Err}
+use Rattle.std.specs.Result.{IsErrAnd}
+use Rattle.std.specs.declared.result.Result.{Result}
+use Rattle.std.proofs.lemmas.Result.{err_from_is_err_and}
+use Rattle.limits.specs.declared.index.OutOfRange.{OutOfRange as NotInRange}
+use Rattle.limits.specs.declared.refusal.Refusal.{Refusal}
+use Rattle.limits.specs.declared.refusal.Refusal.TheVariants.{OutOfRange}
+use Rattle.reports.specs.Reports.{answered, report_number, Answers, Gathered}
 
--- a value out of its range stops the gathering: then nothing is said of the numbers
-pub not-gathered : {in_range : Bool} (numbers after : List ℕ) → in_range ≡ false → Gathered in_range numbers after false
-not-gathered numbers after e = record { tested = sym e; numbers_are = λ t. absurd (true≢false (sym t ∙ e)) }
+-- a value out of its range stops the gathering
+pub not-gathered : {in_range : Bool} (numbers after : List ℕ) (e : NotInRange) → in_range ≡ false
+    → Gathered {A = Unit {0}} in_range numbers after (Err e)
+not-gathered numbers after e f = record { numbers_are = tt; in_range_is = tt; out_of_range = f }
 
--- a report of the numbers f 0 to f (n − 1)
-module _ (in_range : Bool) (n : ℕ) (f : ℕ → ℕ) (row : List ℕ) where
-  long : BYTES_OF_NUMBER * length (numbers_to n f) ≡ BYTES_OF_NUMBER * n
-  long = ap (λ (k : ℕ). BYTES_OF_NUMBER * k) (numbers-length n f)
-
-  -- a value is out of its range
-  pub answers-14 : {ns : List ℕ} {fits : Bool} → Gathered in_range (numbers_to n f) ns fits → fits ≡ false
-      → Answers (answered in_range (numbers_to n f) row) row 14
+module _ (ns row : List ℕ) where
+  -- the row is too short
+  pub answers-23 : length row < BYTES_OF_NUMBER * length ns → Answers (answered true ns row) row 23
   unfolding answered
-  answers-14 G e = rw (← G.tested, e) (record { number = refl; row_is = refl })
+  answers-23 l = rw (lt-leb (BYTES_OF_NUMBER * length ns) (length row) l) (record { number = refl; row_is = refl })
 
-  module _ {ns : List ℕ} {fits : Bool} (G : Gathered in_range (numbers_to n f) ns fits) (fit : fits ≡ true) where
-    -- the row is too short
-    pub answers-23 : length row < BYTES_OF_NUMBER * n → Answers (answered in_range (numbers_to n f) row) row 23
-    unfolding answered
-    answers-23 l =
-        rw (← G.tested, fit, lt-leb (BYTES_OF_NUMBER * length (numbers_to n f)) (length row) (omega (arith, long)))
-        (record { number = refl; row_is = refl })
+  -- the numbers are written
+  pub answers-20 : BYTES_OF_NUMBER * length ns ≤ length row → {row' : List ℕ} → row' ≡ with_numbers 0 ns row
+      → Answers (answered true ns row) row' 20
+  unfolding answered
+  answers-20 l e = rw (le-leb (BYTES_OF_NUMBER * length ns) (length row) l) (record { number = refl; row_is = e })
 
-    -- the numbers are written
-    pub answers-20 : BYTES_OF_NUMBER * n ≤ length row → {row' : List ℕ} → row' ≡ with_numbers 0 ns row
-        → Answers (answered in_range (numbers_to n f) row) row' 20
-    unfolding answered
-    answers-20 l e =
-        rw (← G.tested, fit, le-leb (BYTES_OF_NUMBER * length (numbers_to n f)) (length row) (omega (arith, long)))
-        (record {
-          number = refl;
-          row_is = e ∙ ap (λ (q : List ℕ). with_numbers 0 q row) (G.numbers_are (sym G.tested ∙ fit));
-        })
+module _ (in_range : Bool) (numbers row : List ℕ) where
+  -- a value is out of its range
+  pub answers-14 : in_range ≡ false → Answers (answered in_range numbers row) row 14
+  unfolding answered
+  answers-14 e = rw e (record { number = refl; row_is = refl })
+
+  -- so the error of the gathering is the answer
+  pub refused : {A : Type 0} (r : Result A Refusal) → IsErrAnd r (λ e. e ≡ OutOfRange) → in_range ≡ false
+      → Answers (answered in_range numbers row) row (report_number r)
+  refused r e f = let p = err_from_is_err_and r e in rw (p.1, p.2) (answers-14 f)
+
+  -- what was gathered is handed to the row
+  pub answers-on : in_range ≡ true → {ns row' : List ℕ} {r : ℕ} → ns ≡ numbers → Answers (answered true ns row) row' r
+      → Answers (answered in_range numbers row) row' r
+  answers-on t e A = rw (t, ← e) A
 
 -- ---- what is known of a report's definition is known of what its function answered and left
 

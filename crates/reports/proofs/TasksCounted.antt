@@ -1,21 +1,21 @@
 -- One task counted after the other, as the reports count caches and requests: every task is tested, and what it has is
 -- added to the counts of the regions, until one is out of range.
-use mathlib.Core.Path.{◌≡◌, refl, sym, ap, ◌∙◌}
-use mathlib.Core.Bool.{Bool, true, false}
-use mathlib.Core.List.{List, map}
+use mathlib.Core.Path.{◌≡◌, refl, ap, ◌∙◌}
+use mathlib.Core.Bool.{Bool, true}
+use mathlib.Core.List.{List}
 use Prim.Native.Nat.{ℕ, ◌+◌, ◌*◌, ◌≤◌, ◌<◌}
 use native.Mathlib.Numerals.{add-one}
 use native.Mathlib.Omega.{arith}
-use lib.ListN.{length, get_or, replicate, length-map, get_or-replicate, get_or-eq_default}
+use lib.ListN.{length, get_or, replicate, get_or-replicate, get_or-eq_default}
+use Rattle.std.specs.Prelude.{Ok, Err}
+use Rattle.limits.specs.declared.index.OutOfRange.{OutOfRange}
 use Rattle.limits.specs.Limits.{REGIONS, TASKS, MOST_BLOCKS}
 use Rattle.rows.specs.Comparisons.{before, after, order?}
 use Rattle.rows.specs.Totals.{total}
 use Rattle.rows.proofs.Totals.{total-suc}
 use Rattle.reports.specs.Passing.{all_pass}
 use Rattle.reports.specs.ByRegion.{Counted, CanGrow}
-use Rattle.reports.specs.declared.counts.RegionCounts.{RegionCounts}
 use Rattle.reports.proofs.Passing.{one_more, one-fails}
-use Rattle.reports.proofs.ByRegion.{refused}
 
 -- The first t tasks are counted: each passes the test, and the count of a region r is the sum of what they have in it,
 -- where the task i has `weight r (has i)`.
@@ -46,32 +46,32 @@ module _ {A : Type 0} (test : ℕ → Bool) (weight : ℕ → A → ℕ) (has : 
           rw (get_or-eq_default counts 0 past) (omega arith))
     ]
 
-    module _ {tally : RegionCounts} (one : Counted (test t) (λ r. get_or counts r 0 + weight r (has t)) tally) where
-      -- one task more is counted; what a call gives of its result tells the length of the counts, by a copy of them
-      pub tasks-next : ((r : ℕ) → test t ≡ true → weight r (has t) ≤ MOST_BLOCKS + 1)
-          → length (map (λ (x : ℕ). x) tally.counts) ≡ REGIONS → tally.fits ≡ true
-          → TasksCounted test weight has (t + 1) tally.counts
-      tasks-next bound copied e =
-          let passes : test t ≡ true = sym one.tested ∙ e in
-          record {
-            passed = one_more t test T.passed passes;
-            whole = sym (length-map tally.counts (λ (x : ℕ). x)) ∙ copied;
-            number = λ r l.
-                rw (add-one t, total-suc t (λ i x. weight r x) has)
-                (omega (arith, one.counts passes r l, T.number r l));
-            most = λ r l. omega (arith, one.counts passes r l, T.most r l, bound r passes);
-          }
+    -- one task more is counted; what a call gives of its counts tells their length
+    pub tasks-next : {more : List ℕ} → Counted (test t) (λ r. get_or counts r 0 + weight r (has t)) (Ok more)
+        → ((r : ℕ) → test t ≡ true → weight r (has t) ≤ MOST_BLOCKS + 1) → length more ≡ REGIONS
+        → TasksCounted test weight has (t + 1) more
+    tasks-next one bound whole = record {
+      passed = one_more t test T.passed one.in_range_is;
+      whole = whole;
+      number = λ r l.
+          rw (add-one t, total-suc t (λ i x. weight r x) has) (omega (arith, one.counts r l, T.number r l));
+      most = λ r l. omega (arith, one.counts r l, T.most r l, bound r one.in_range_is);
+    }
 
-      -- a task that is out of range ends it
-      pub tasks-stop : (number : ℕ → ℕ) → t < TASKS → tally.fits ≡ false → Counted (all_pass TASKS test) number tally
-      tasks-stop number l e =
-          refused number e (one-fails TASKS test t l (sym one.tested ∙ e))
+    -- a task that is out of range ends it
+    pub tasks-stop : {number one : ℕ → ℕ} {e : OutOfRange} → t < TASKS → Counted (test t) one (Err e)
+        → Counted (all_pass TASKS test) number (Err e)
+    tasks-stop l one = record {
+      counts = tt;
+      in_range_is = tt;
+      out_of_range = one-fails TASKS test t l one.out_of_range;
+    }
 
     -- all tasks are counted
     pub tasks-end : t ≡ TASKS
-        → Counted (all_pass TASKS test) (λ r. total TASKS (λ i x. weight r x) has)
-        (record { fits = true; counts = counts })
+        → Counted (all_pass TASKS test) (λ r. total TASKS (λ i x. weight r x) has) (Ok counts)
     tasks-end e = record {
-      tested = sym (rw e at T.passed);
-      counts = λ p r l. T.number r l ∙ ap (λ (n : ℕ). total n (λ i x. weight r x) has) e;
+      counts = λ r l. T.number r l ∙ ap (λ (n : ℕ). total n (λ i x. weight r x) has) e;
+      in_range_is = rw e at T.passed;
+      out_of_range = tt;
     }

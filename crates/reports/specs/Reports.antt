@@ -1,11 +1,15 @@
 -- docs/POOL.md, "Reports"
 -- How a report ends: its tests in their order, its answer, and the row that it leaves.
-use Rattle.std.specs.Prelude.{◌≡◌, Bool, true, cond, List, ℕ, ◌*◌, leb, eqb, length}
+use Rattle.std.specs.Prelude.{◌≡◌, Bool, true, false, cond, List, ℕ, ◌*◌, leb, eqb, length, Ok, Err, OnOk, OnErr}
+use Rattle.std.specs.declared.result.Result.{Result}
 use Rattle.limits.specs.Limits.{CONTROL_BYTES, TASKS, REGIONS}
+use Rattle.limits.specs.declared.index.OutOfRange.{OutOfRange}
+use Rattle.limits.specs.declared.refusal.Refusal.{Refusal}
 use Rattle.fields.specs.Columns.{View}
 use Rattle.links.specs.Link.{link}
 use Rattle.plain.specs.Calls.{Lengths}
 use Rattle.control.specs.Layout.{Tasks, Regions, seen}
+use Rattle.control.specs.Answers.{refusal_number}
 use Rattle.stepped.specs.Outcome.{Memories}
 use Rattle.stepped.specs.Ranges.{one_to}
 use Rattle.stepped.specs.Calls.{is_started_lengths, lengths, lending}
@@ -47,13 +51,19 @@ report_on in_range n number s row =
     let regions = v Regions in
     report_of (lengths (lending s)) v (in_range v links regions) (numbers_to n (number v links regions)) row
 
+-- the number of a report's answer, by what its function returns: "20 finished", or that of its refusal
+abbrev pub report_number : {A : Type 0} → Result A Refusal → ℕ
+report_number (Ok _) = 20
+report_number (Err e) = refusal_number e
+
 -- What a report's function ensures: it answers r and leaves the row, as x says.
 pub record Answers (x : ℕ × List ℕ) (row : List ℕ) (r : ℕ) : Type 0 where
   pub number : r ≡ x.0
   pub row_is : row ≡ x.1
 
--- What is ensured by the function that gathers the numbers of a report: `fits` tells whether all that it read is in its
--- range; where it is, they are the report's.
-pub record Gathered (in_range : Bool) (numbers after : List ℕ) (fits : Bool) : Type 0 where
-  pub tested : fits ≡ in_range
-  pub numbers_are : in_range ≡ true → after ≡ numbers
+-- What is ensured by the function that gathers the numbers of a report: it ends well exactly where all that it read is
+-- in its range; then they are the report's.
+pub record Gathered {A : Type 0} (in_range : Bool) (numbers after : List ℕ) (ended : Result A OutOfRange) : Type 0 where
+  pub numbers_are : OnOk ended (after ≡ numbers)
+  pub in_range_is : OnOk ended (in_range ≡ true)
+  pub out_of_range : OnErr ended (in_range ≡ false)

@@ -1,18 +1,23 @@
 // The row that a report fills: numbers of two bytes each, low byte first.
-ghost use Rattle.std.specs.Prelude.{◌≡◌, ◌*◌, ◌≤◌, length};
-ghost use Rattle.reports.specs.Rows.{BYTES_OF_NUMBER, with_numbers};
+ghost use Rattle.std.specs.Prelude.{◌≡◌, ◌≤◌, true, length};
+ghost use Rattle.reports.specs.Reports.{answered, report_number, Answers};
+
+use fields::Number;
+use limits::refusal::Refusal;
 
 const BYTES_OF_NUMBER: usize = 2;
 
-// Writes the numbers at the start of the row, and leaves its further bytes. Callers: the reports, which have tested
-// that the row is long enough.
-pub fn write(row: &mut [u8], numbers: &[u16])
-    requires { (BYTES_OF_NUMBER * length numbers.now ≤ length row.old) × (length numbers.now ≤ 65536) }
-    ensures { row.new ≡ with_numbers 0 numbers.now row.old }
+// Writes the numbers at the start of the row, and leaves its further bytes; a row that is too short for them is left as
+// it was. Callers: the reports, which have found all that they read in its range.
+pub fn write(row: &mut [u8], numbers: &[u16]) -> Result<(), Refusal>
+    requires { length numbers.now ≤ 65536 }
+    ensures { Answers (answered true numbers.now row.old) row.new (report_number result) }
 {
-    let mut i: usize = 0;
-    while i < numbers.len() {
-        fields::store16(row, BYTES_OF_NUMBER * i, numbers[i]);
-        i += 1;
+    if row.len() < BYTES_OF_NUMBER * numbers.len() {
+        return Err(Refusal::RowTooShort);
     }
+    for (i, number) in numbers.iter().enumerate() {
+        number.store(row, BYTES_OF_NUMBER * i);
+    }
+    Ok(())
 }

@@ -11,7 +11,7 @@ use native.Mathlib.Decide.{ℕ_discrete, dec_lt, dec_le}
 use Rattle.rows.specs.Update.{update}
 use Rattle.schedule.specs.declared.tally.Tally.{Tally}
 use Rattle.schedule.specs.declared.treat.Line.{Line}
-use Rattle.schedule.specs.Records.{wide_of, record_at}
+use Rattle.schedule.specs.Records.{kind_of, record_at}
 use Rattle.schedule.specs.Tally.{none_counted, counted}
 use Rattle.schedule.specs.Stand.{runs, table}
 use Rattle.schedule.specs.Plain.{on_plain}
@@ -43,7 +43,7 @@ pub paper-example : played example
       line 0 1 0 0 ∷ line 1 2 0 0 ∷ line 2 5 20 480 ∷ line 3 3 0 0 ∷ line 4 5 20 0 ∷ line 5 3 11 0 ∷ [],
       total 2 3 1,
     )
-unfolding table runs record_at wide_of counted get_le units per_region class_of unstarted both ℕ_discrete dec_lt dec_le
+unfolding table runs record_at kind_of counted get_le units per_region class_of unstarted both ℕ_discrete dec_lt dec_le
     update Calls.plain_call Calls.start_mem Calls.rising Steps.step_of
 paper-example = refl
 
@@ -70,7 +70,7 @@ pub leaving-example : played leaving
           ∷ line 7 5 20 0 ∷ line 8 6 0 0 ∷ line 9 4 20 0 ∷ line 10 6 5 0 ∷ line 11 6 15 0 ∷ [],
       total 4 5 3,
     )
-unfolding table runs record_at wide_of counted get_le units per_region class_of unstarted both ℕ_discrete dec_lt dec_le
+unfolding table runs record_at kind_of counted get_le units per_region class_of unstarted both ℕ_discrete dec_lt dec_le
     update Calls.plain_call Calls.start_mem Calls.rising Steps.step_of Steps.leave_from
 leaving-example = refl
 
@@ -88,6 +88,6 @@ pub edge-cases : map played
     ∷ (line 0 5 0 0 ∷ [], total 0 1 0)
     ∷ (line 0 4 4 0 ∷ [], total 0 0 1)
     ∷ [])
-unfolding table runs record_at wide_of counted get_le units per_region class_of unstarted both ℕ_discrete dec_lt dec_le
+unfolding table runs record_at kind_of counted get_le units per_region class_of unstarted both ℕ_discrete dec_lt dec_le
     update Calls.plain_call Calls.start_mem Calls.rising Steps.step_of
 edge-cases = refl

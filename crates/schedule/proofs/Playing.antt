@@ -1,26 +1,27 @@
 -- The records played one after the other: what the whole schedule leaves is what the records still ahead leave, and the
 -- last of them answers for it.
-use Rattle.std.proofs.Common.{◌≡◌, ℕ, zero, suc, ◌-◌, ◌*◌, ◌<◌, ◌≤◌, List, length, take, sym, refl, ap, ◌∙◌, subst}
-use Rattle.std.proofs.Common.{arith, le-ltb, lt-ltb}
-use Rattle.limits.specs.Limits.{REGION_BYTES}
-use Rattle.control.specs.Layout.{seen}
+use Rattle.std.proofs.Common.{◌≡◌, ℕ, zero, suc, ◌-◌, ◌<◌, ◌≤◌, List, Result, Ok, Err, length, sym, refl, ap, ◌∙◌, arith}
+use Rattle.std.proofs.Common.{le-ltb, lt-ltb}
 use Rattle.stepped.specs.Outcome.{Memories}
-use Rattle.reports.specs.Reports.{Answers}
+use Rattle.schedule.specs.declared.record.BadRecord.{BadRecord}
 use Rattle.schedule.specs.declared.record.Record.{Record}
-use Rattle.schedule.specs.declared.record.Record.TheVariants.{Start, Allocate, Free, Step, Run, Leave, Bad}
+use Rattle.schedule.specs.declared.record.Record.TheVariants.{Start, Allocate, Free, Step, Run, Leave}
+use Rattle.schedule.specs.declared.records.Entry.{Entry}
+use Rattle.schedule.specs.declared.records.Records.{Records}
 use Rattle.schedule.specs.Records.{record_at, end_of}
+use Rattle.schedule.specs.Reading.{Begins, Passes}
 use Rattle.schedule.specs.Stand.{treated, played, last_answer}
-use Rattle.schedule.specs.Bytes.{lent_regions, on_bytes, started_part, together, Does}
+use Rattle.schedule.specs.Bytes.{on_bytes, Makes}
 
 -- the next record begins at least one byte further
-pub further : (r : Record) (at end : ℕ) → at < end → at < end_of r at end
-further (Start a b) at end h = omega arith
-further (Allocate a b) at end h = omega arith
-further (Free a b) at end h = omega arith
-further (Step a) at end h = omega arith
-further (Run a b) at end h = omega arith
-further (Leave a) at end h = omega arith
-further Bad at end h = h
+pub further : (r : Result Record BadRecord) (at end : ℕ) → at < end → at < end_of r at end
+further (Ok (Start a b)) at end h = omega arith
+further (Ok (Allocate a b)) at end h = omega arith
+further (Ok (Free a b)) at end h = omega arith
+further (Ok (Step a)) at end h = omega arith
+further (Ok (Run a b)) at end h = omega arith
+further (Ok (Leave a)) at end h = omega arith
+further (Err e) at end h = h
 
 module _ (input : List ℕ) where
   -- behind the last record nothing changes any more, and its answer is the last
@@ -39,55 +40,56 @@ module _ (input : List ℕ) where
   unfolding played last_answer
   treats f at a s h = rw (lt-ltb at (length input) h) (refl, refl)
 
-  -- Before the record at the byte `at`, with the last answer a and the memories s: what is ahead from here leaves what
-  -- all records leave from s₀, and ends with the same answer.
-  pub record PlayAhead (s₀ : Memories) (at a : ℕ) (s : Memories) : Type 0 where
+  -- Where the records `ahead` are still to come, with the last answer a and the memories s: what is ahead from here
+  -- leaves what all records leave from s₀, and ends with the same answer.
+  pub record PlayAhead (s₀ : Memories) (ahead : Records) (a : ℕ) (s : Memories) : Type 0 where
     pub fuel : ℕ
-    pub enough : length input - at ≤ fuel
-    pub said : played on_bytes (length input) input 0 s₀ ≡ played on_bytes fuel input at s
-    pub answered : last_answer on_bytes (length input) input 0 0 s₀ ≡ last_answer on_bytes fuel input at a s
+    pub input_is : ahead.input.now ≡ input
+    pub enough : length input - ahead.at ≤ fuel
+    pub said : played on_bytes (length input) input 0 s₀ ≡ played on_bytes fuel input ahead.at s
+    pub answered : last_answer on_bytes (length input) input 0 0 s₀ ≡ last_answer on_bytes fuel input ahead.at a s
 
   -- no record is played yet
-  pub begins : (s : Memories) → PlayAhead s 0 0 s
-  begins s = record { fuel = length input; enough = omega arith; said = refl; answered = refl }
+  pub begins : (s : Memories) {all : Records} → Begins input all → PlayAhead s all 0 s
+  begins s B = record {
+    fuel = length input;
+    input_is = B.input_is;
+    enough = omega arith;
+    said = rw B.at_first refl;
+    answered = rw B.at_first refl;
+  }
 
   -- one record more is played
-  pub goes_on : {s₀ s : Memories} {at a₀ : ℕ} → PlayAhead s₀ at a₀ s → at < length input
-      → {body : Record} → body ≡ record_at input at
-      → {c a u : List ℕ} {r : ℕ} → Does (treated on_bytes body) s.control s.area s.strips c a u r
-      → {next : ℕ} → next ≡ end_of body at (length input)
-      → PlayAhead s₀ next r (together c a u)
-  goes_on {s₀} {s} {at} {a₀} A h {body} is {c} {a} {u} {r} D {next} end =
-      by A.fuel A.enough A.said A.answered
+  pub goes_on : {s₀ s : Memories} {ahead : Records} {a₀ : ℕ} → PlayAhead s₀ ahead a₀ s
+      → {e : Entry} {behind : Records} → Passes ahead e behind
+      → {s' : Memories} {r : ℕ} → Makes (treated on_bytes e.body) s s' r → PlayAhead s₀ behind r s'
+  goes_on {s₀} {s} {ahead} {a₀} A {e} {behind} P {s'} {r} D = by A.fuel A.enough A.said A.answered
     where
-      by : (f : ℕ) → length input - at ≤ f → played on_bytes (length input) input 0 s₀ ≡ played on_bytes f input at s
-          → last_answer on_bytes (length input) input 0 0 s₀ ≡ last_answer on_bytes f input at a₀ s
-          → PlayAhead s₀ next r (together c a u)
-      by zero l q w = absurd (omega arith)
+      before : ahead.at < length input
+      before = rw A.input_is at P.before_end
+
+      body : e.body ≡ record_at input ahead.at
+      body = rw A.input_is at (ap (λ (x : Entry). x.body) P.entry_is)
+
+      next : behind.at ≡ end_of e.body ahead.at (length input)
+      next = rw A.input_is at P.next
+
+      by : (f : ℕ) → length input - ahead.at ≤ f
+          → played on_bytes (length input) input 0 s₀ ≡ played on_bytes f input ahead.at s
+          → last_answer on_bytes (length input) input 0 0 s₀ ≡ last_answer on_bytes f input ahead.at a₀ s
+          → PlayAhead s₀ behind r s'
+      by zero l q w = absurd (omega (arith, before))
       by (suc f) l q w = record {
         fuel = f;
-        enough = omega (arith, further body at (length input) h);
-        said = rw (end, D.control_is, D.area_is, D.strips_is, is) (q ∙ (treats f at a₀ s h).0);
-        answered = rw (end, D.answer, D.control_is, D.area_is, D.strips_is, is) (w ∙ (treats f at a₀ s h).1);
+        input_is = P.same_input ∙ A.input_is;
+        enough = omega (arith, next, further e.body ahead.at (length input) before);
+        said = rw (next, D.memories_are, body) (q ∙ (treats f ahead.at a₀ s before).0);
+        answered = rw (next, D.answer, D.memories_are, body) (w ∙ (treats f ahead.at a₀ s before).1);
       }
 
   -- all records are played
-  pub ends : {s₀ s : Memories} {at a : ℕ} → PlayAhead s₀ at a s → length input ≤ at
+  pub ends : {s₀ s : Memories} {ahead : Records} {a : ℕ} → PlayAhead s₀ ahead a s → length ahead.input.now ≤ ahead.at
       → (s ≡ played on_bytes (length input) input 0 s₀) × (a ≡ last_answer on_bytes (length input) input 0 0 s₀)
-  ends {s₀} {s} {at} {a} A h =
-      let E = ended A.fuel at a s h in
+  ends {s₀} {s} {ahead} {a} A h =
+      let E = ended A.fuel ahead.at a s (rw A.input_is at h) in
       (sym (A.said ∙ E.0), sym (A.answered ∙ E.1))
-
--- the memories with the part of the area that a report is lent
-lent-part : {c a u : List ℕ} {s : Memories} {n : ℕ} → together c a u ≡ s
-    → n ≡ REGION_BYTES * lent_regions (seen c)
-    → together c (take n a) u ≡ started_part s
-lent-part h e = rw e (ap started_part h)
-
--- a report that is lent the three memories with that part is the report on what the schedule left
-pub reports-on : (report : Memories → List ℕ → ℕ × List ℕ) {c a u : List ℕ} (s : Memories) {n : ℕ}
-    → together c a u ≡ s → n ≡ REGION_BYTES * lent_regions (seen c)
-    → (row : List ℕ) {row' : List ℕ} {r : ℕ} → Answers (report (together c (take n a) u) row) row' r
-    → Answers (report (started_part s) row) row' r
-reports-on report s h e row {row'} {r} A =
-    subst (λ (m : Memories). Answers (report m row) row' r) (lent-part {s = s} h e) A

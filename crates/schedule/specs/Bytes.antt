@@ -9,6 +9,7 @@ use Rattle.control.specs.Layout.{Tasks, Regions, seen}
 use Rattle.control.specs.Answers.{number_telling}
 use Rattle.stepped.specs.Outcome.{Memories}
 use Rattle.stepped.specs.Calls.{effect_of}
+use Rattle.schedule.specs.declared.stand.Stand.{Stand}
 use Rattle.schedule.specs.Stand.{STAND_REGIONS, STAND_AREA}
 use Rattle.schedule.specs.Stand.{Lends, named, as_started, played, last_answer}
 
@@ -21,11 +22,9 @@ zeros = record {
   strips = replicate STRIPS_BYTES 0;
 }
 
--- the three memories are the stand's
-pub record StandMemories (control area strips : List ℕ) : Type 0 where
-  pub control_is : length control ≡ CONTROL_BYTES
-  pub area_is : length area ≡ STAND_AREA
-  pub strips_is : length strips ≡ STRIPS_BYTES
+-- the stand's memories
+abbrev pub memories : Stand → Memories
+memories s = record { control = s.control; area = s.area; strips = s.strips }
 
 -- how many regions the last accepted start was lent: none before the first; never more than the stand has
 abbrev pub lent_regions : View → ℕ
@@ -64,18 +63,17 @@ last_of input = last_answer on_bytes (length input) input 0 0 zeros
 abbrev pub together : (control area strips : List ℕ) → Memories
 together control area strips = record { control = control; area = area; strips = strips }
 
--- What a function ensures that does f: the answer and every byte of the three memories are those of f.
-pub record Does {A : Type 0} (f : Memories → Memories × A) (control area strips control' area' strips' : List ℕ) (r : A)
-    : Type 0 where
-  pub control_is : control' ≡ (f (together control area strips)).0.control
-  pub area_is : area' ≡ (f (together control area strips)).0.area
-  pub strips_is : strips' ≡ (f (together control area strips)).0.strips
-  pub answer : r ≡ (f (together control area strips)).1
+-- s' and the answer r are what f makes of s
+pub record Makes {A : Type 0} (f : Memories → Memories × A) (s s' : Memories) (r : A) : Type 0 where
+  pub memories_are : s' ≡ (f s).0
+  pub answer : r ≡ (f s).1
 
--- What a function ensures that plays a whole schedule: its three memories are those that the records leave, and are the
--- stand's; and it answers as the last record, 0 where there is none.
-pub record PlaysAll (input : List ℕ) (control area strips control' area' strips' : List ℕ) (r : ℕ) : Type 0 where
-  pub memories_are : together control' area' strips'
-      ≡ played on_bytes (length input) input 0 (together control area strips)
-  pub answer : r ≡ last_answer on_bytes (length input) input 0 0 (together control area strips)
-  pub kept : StandMemories control' area' strips'
+-- What a function ensures that does f: the answer and every byte of the three memories are those of f.
+abbrev pub Does : {A : Type 0} → (Memories → Memories × A) → (before after : Stand) → A → Type 0
+Does f before after r = Makes f (memories before) (memories after) r
+
+-- What a function ensures that plays a whole schedule: its three memories are those that the records leave, and it
+-- answers as the last record, 0 where there is none.
+pub record PlaysAll (input : List ℕ) (before after : Stand) (r : ℕ) : Type 0 where
+  pub memories_are : memories after ≡ played on_bytes (length input) input 0 (memories before)
+  pub answer : r ≡ last_answer on_bytes (length input) input 0 0 (memories before)

@@ -1,10 +1,13 @@
 -- docs/POOL.md, "The stand"
 -- The records of a schedule. "A record is one byte of kind, then a body."
-use Rattle.std.specs.Prelude.{ℕ, ◌+◌, ◌-◌, cond, List, length, ◌==◌, nat_le, slice_index, slice_index_or}
+use Rattle.std.specs.Prelude.{◌≡◌, ℕ, ◌+◌, ◌-◌, cond, List, Result, Ok, Err, length, ◌==◌, nat_le, slice_index}
 use Rattle.fields.specs.Little.{get_le}
-use Rattle.schedule.specs.declared.record.Entry.{Entry}
+use Rattle.schedule.specs.declared.record.BadRecord.{BadRecord}
+use Rattle.schedule.specs.declared.record.BadRecord.TheVariants.{UnknownKind, Cut}
+use Rattle.schedule.specs.declared.record.Kind.{Kind}
 use Rattle.schedule.specs.declared.record.Record.{Record}
-use Rattle.schedule.specs.declared.record.Record.TheVariants.{Start, Allocate, Free, Step, Run, Leave, Bad}
+use Rattle.schedule.specs.declared.record.Record.TheVariants.{Start, Allocate, Free, Step, Run, Leave}
+use Rattle.schedule.specs.declared.records.Entry.{Entry}
 
 -- the longest schedule: "Input past 65,536 bytes is not read"
 abbrev pub INPUT_BYTES : ℕ
@@ -63,40 +66,64 @@ NUMBER_BYTES = 2
 abbrev pub MOST_CALLS : ℕ
 MOST_CALLS = 65535
 
--- "2 allocate (task, size in two bytes, low first); 3 free (task, unit in two bytes, low first); .. 5 run (task, most
--- steps in two bytes, low first)"
-unfoldable pub wide_of : ℕ → ℕ → ℕ → Record
-wide_of kind task number =
-    cond (kind == ALLOCATE_KIND) (Allocate task number)
-    (cond (kind == FREE_KIND) (Free task number) (Run task number))
+-- the kind that a byte names: "unknown kind" where it names none
+unfoldable pub kind_of : ℕ → Result Kind BadRecord
+kind_of byte =
+    cond (byte == START_KIND) (Ok Kind.Start)
+    (cond (byte == ALLOCATE_KIND) (Ok Kind.Allocate)
+    (cond (byte == FREE_KIND) (Ok Kind.Free)
+    (cond (byte == STEP_KIND) (Ok Kind.Step)
+    (cond (byte == RUN_KIND) (Ok Kind.Run)
+    (cond (byte == LEAVE_KIND) (Ok Kind.Leave)
+    (Err UnknownKind))))))
 
--- the record that begins at the byte `at`: "1 start (tasks, regions); .. 4 step (task)", and 6 leave (task); "15
--- unknown kind or cut record"
-unfoldable pub record_at : List ℕ → ℕ → Record
-record_at input at =
-    let kind = slice_index_or input at 0 in
-    let left = length input - at in
-    cond (nat_le START_KIND kind)
-    (cond (nat_le kind LEAVE_KIND)
-    (cond (kind == STEP_KIND) (cond (nat_le TASK_BYTES left) (Step (slice_index input (at + TASK_AT))) Bad)
-    (cond (kind == LEAVE_KIND) (cond (nat_le TASK_BYTES left) (Leave (slice_index input (at + TASK_AT))) Bad)
-    (cond (kind == START_KIND)
-    (cond (nat_le START_BYTES left) (Start (slice_index input (at + TASK_AT)) (slice_index input (at + NUMBER_AT))) Bad)
-    (cond (nat_le WIDE_BYTES left)
-    (wide_of kind (slice_index input (at + TASK_AT)) (get_le input (at + NUMBER_AT) NUMBER_BYTES)) Bad))))
-    Bad)
-    Bad
+-- the result is what `kind_of` says
+abbrev pub KindIs : ℕ → Result Kind BadRecord → Type 0
+KindIs byte r = r ≡ kind_of byte
+
+-- how many bytes a record of a kind has, its kind with it
+abbrev pub bytes_of : Kind → ℕ
+bytes_of Kind.Start = START_BYTES
+bytes_of Kind.Allocate = WIDE_BYTES
+bytes_of Kind.Free = WIDE_BYTES
+bytes_of Kind.Step = TASK_BYTES
+bytes_of Kind.Run = WIDE_BYTES
+bytes_of Kind.Leave = TASK_BYTES
+
+-- "1 start (tasks, regions); 2 allocate (task, size in two bytes, low first); 3 free (task, unit in two bytes, low
+-- first); 4 step (task); 5 run (task, most steps in two bytes, low first)", and 6 leave (task)
+abbrev pub body_of : Kind → List ℕ → ℕ → Record
+body_of Kind.Start input at = Start (slice_index input (at + TASK_AT)) (slice_index input (at + NUMBER_AT))
+body_of Kind.Allocate input at =
+    Allocate (slice_index input (at + TASK_AT)) (get_le input (at + NUMBER_AT) NUMBER_BYTES)
+body_of Kind.Free input at = Free (slice_index input (at + TASK_AT)) (get_le input (at + NUMBER_AT) NUMBER_BYTES)
+body_of Kind.Step input at = Step (slice_index input (at + TASK_AT))
+body_of Kind.Run input at = Run (slice_index input (at + TASK_AT)) (get_le input (at + NUMBER_AT) NUMBER_BYTES)
+body_of Kind.Leave input at = Leave (slice_index input (at + TASK_AT))
+
+-- the record of a kind that begins at the byte `at`, unless the input's end cuts it
+abbrev pub whole : List ℕ → ℕ → Result Kind BadRecord → Result Record BadRecord
+whole input at (Ok kind) = cond (nat_le (bytes_of kind) (length input - at)) (Ok (body_of kind input at)) (Err Cut)
+whole input at (Err e) = Err e
+
+-- the record that begins at the byte `at`; "15 unknown kind or cut record"
+unfoldable pub record_at : List ℕ → ℕ → Result Record BadRecord
+record_at input at = whole input at (kind_of (slice_index input at))
 
 -- the record that begins at the byte `at`, with what its line repeats: "record from 0, kind byte"
 abbrev pub entry_at : List ℕ → ℕ → ℕ → Entry
 entry_at input at n = record { number = n; kind = slice_index input at; body = record_at input at }
 
+-- the kind of a record
+abbrev pub kind_in : Record → Kind
+kind_in (Start a b) = Kind.Start
+kind_in (Allocate a b) = Kind.Allocate
+kind_in (Free a b) = Kind.Free
+kind_in (Step a) = Kind.Step
+kind_in (Run a b) = Kind.Run
+kind_in (Leave a) = Kind.Leave
+
 -- where the next record begins; "After 15 it stops"
-abbrev pub end_of : Record → ℕ → ℕ → ℕ
-end_of (Start a b) at end = at + START_BYTES
-end_of (Allocate a b) at end = at + WIDE_BYTES
-end_of (Free a b) at end = at + WIDE_BYTES
-end_of (Step a) at end = at + TASK_BYTES
-end_of (Run a b) at end = at + WIDE_BYTES
-end_of (Leave a) at end = at + TASK_BYTES
-end_of Bad at end = end
+abbrev pub end_of : Result Record BadRecord → ℕ → ℕ → ℕ
+end_of (Ok r) at end = at + bytes_of (kind_in r)
+end_of (Err e) at end = end

@@ -1,12 +1,13 @@
 -- docs/POOL.md, "The stand"
 -- The stand over any pool: what each record does, and the table of a schedule.
-use Rattle.std.specs.Prelude.{ℕ, zero, suc, ◌+◌, ◌*◌, cond, List, [], ◌∷◌, length, ◌==◌, nat_lt}
+use Rattle.std.specs.Prelude.{ℕ, zero, suc, ◌+◌, ◌*◌, cond, List, [], ◌∷◌, Result, Ok, Err, length, ◌==◌, nat_lt}
 use Rattle.limits.specs.Limits.{REGION_BYTES}
 use Rattle.plain.specs.Calls.{Call, start, allocate, free, leave, step}
 use Rattle.control.specs.Answers.{code_in, value_in, lost_in}
-use Rattle.schedule.specs.declared.record.Entry.{Entry}
+use Rattle.schedule.specs.declared.record.BadRecord.{BadRecord}
 use Rattle.schedule.specs.declared.record.Record.{Record}
-use Rattle.schedule.specs.declared.record.Record.TheVariants.{Start, Allocate, Free, Step, Run, Leave, Bad}
+use Rattle.schedule.specs.declared.record.Record.TheVariants.{Start, Allocate, Free, Step, Run, Leave}
+use Rattle.schedule.specs.declared.records.Entry.{Entry}
 use Rattle.schedule.specs.declared.tally.Tally.{Tally}
 use Rattle.schedule.specs.declared.treat.Line.{Line}
 use Rattle.schedule.specs.Records.{record_at, entry_at, end_of}
@@ -49,14 +50,14 @@ module _ {S : Type 0} (call : Call → Lends → S → S × ℕ) where
       cond (x.1 == 0) (runs 0 t m x.0) x
 
   -- what a record does, and its answer: "15 unknown kind or cut record"
-  abbrev pub treated : Record → S → S × ℕ
-  treated (Start tasks regions) s = call (start (record { tasks = tasks })) (named regions) s
-  treated (Allocate t size) s = call (allocate t size) as_started s
-  treated (Free t u) s = call (free t u) as_started s
-  treated (Step t) s = call (step t) as_started s
-  treated (Run t most) s = runs 0 t most s
-  treated (Leave t) s = call (leave t) as_started s
-  treated Bad s = (s, 15)
+  abbrev pub treated : Result Record BadRecord → S → S × ℕ
+  treated (Ok (Start tasks regions)) s = call (start (record { tasks = tasks })) (named regions) s
+  treated (Ok (Allocate t size)) s = call (allocate t size) as_started s
+  treated (Ok (Free t u)) s = call (free t u) as_started s
+  treated (Ok (Step t)) s = call (step t) as_started s
+  treated (Ok (Run t most)) s = runs 0 t most s
+  treated (Ok (Leave t)) s = call (leave t) as_started s
+  treated (Err e) s = (s, 15)
 
   -- what a record does, and its line
   abbrev pub shown : Entry → S → S × Line

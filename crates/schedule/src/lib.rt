@@ -5,6 +5,8 @@
 pub mod lend;
 pub mod play;
 pub mod record;
+pub mod records;
+pub mod stand;
 pub mod tallied;
 pub mod tally;
 pub mod treat;

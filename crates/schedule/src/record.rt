@@ -1,21 +1,8 @@
 // The records of a schedule: "one byte of kind, then a body".
-ghost use Rattle.std.specs.Prelude.{◌≡◌, ◌+◌, ◌<◌, ◌≤◌, length, slice_index};
-ghost use Rattle.fields.specs.Little.{get_le};
-ghost use Rattle.schedule.specs.Records.{INPUT_BYTES, WIDE_BYTES, TASK_AT, NUMBER_AT, NUMBER_BYTES};
-ghost use Rattle.schedule.specs.Records.{wide_of, record_at, entry_at, end_of};
+ghost use Rattle.std.specs.Prelude.{◌≡◌, ◌<◌, ◌≤◌, length};
+ghost use Rattle.schedule.specs.Records.{INPUT_BYTES, WIDE_BYTES, KindIs, bytes_of, kind_in, record_at};
 
-// The kinds of record, and how many bytes a record of a kind has.
-const START_KIND: u8 = 1;
-
-const ALLOCATE_KIND: u8 = 2;
-
-const FREE_KIND: u8 = 3;
-
-const STEP_KIND: u8 = 4;
-
-const RUN_KIND: u8 = 5;
-
-const LEAVE_KIND: u8 = 6;
+use fields::Number;
 
 const START_BYTES: usize = 3;
 
@@ -28,7 +15,18 @@ const TASK_AT: usize = 1;
 
 const NUMBER_AT: usize = 2;
 
-#[derive(Clone, Copy)]
+// What a record asks for.
+#[derive(Clone, Copy, Debug)]
+pub enum Kind {
+    Start,
+    Allocate,
+    Free,
+    Step,
+    Run,
+    Leave,
+}
+
+#[derive(Clone, Copy, Debug)]
 pub enum Record {
     // Tasks and regions.
     Start(u8, u8),
@@ -42,97 +40,84 @@ pub enum Record {
     Run(u8, u16),
     // A task.
     Leave(u8),
-    // An unknown kind, or a record that the end of the input cuts short.
-    Bad,
 }
 
-// A record with what its line repeats: its number, from 0, and its kind byte.
-#[derive(Clone, Copy)]
-pub struct Entry {
-    pub number: u64,
-    pub kind: u8,
-    pub body: Record,
+// Why the bytes at a place are no record. The stand treats both in the same way.
+#[derive(Clone, Copy, Debug)]
+pub enum BadRecord {
+    UnknownKind,
+    // The end of the input cuts the record short.
+    Cut,
 }
 
-// A record whose body is a task and a number in two bytes. Caller: `read`, which has tested that the input has them.
-fn wide(input: &[u8], at: usize, kind: u8) -> Record
-    requires { (at + WIDE_BYTES ≤ length input.now) × (length input.now ≤ INPUT_BYTES) }
-    ensures { result ≡ wide_of kind (slice_index input.now (at + TASK_AT))
-        (get_le input.now (at + NUMBER_AT) NUMBER_BYTES) }
-{
-    let task = input[at + TASK_AT];
-    let number = fields::load16(input, at + NUMBER_AT);
-    if kind == ALLOCATE_KIND {
-        return Record::Allocate(task, number);
-    }
-    if kind == FREE_KIND {
-        return Record::Free(task, number);
-    }
-    Record::Run(task, number)
-}
+impl TryFrom<u8> for Kind {
+    type Error = BadRecord;
 
-// The record that begins at a byte of the input.
-pub fn read(input: &[u8], at: usize) -> Record
-    requires { (at < length input.now) × (length input.now ≤ INPUT_BYTES) }
-    ensures { result ≡ record_at input.now at }
-{
-    let kind = input[at];
-    let left = input.len() - at;
-    if kind < START_KIND {
-        return Record::Bad;
-    }
-    if LEAVE_KIND < kind {
-        return Record::Bad;
-    }
-    if kind == STEP_KIND {
-        if left < TASK_BYTES {
-            return Record::Bad;
+    ghost try_from_gives = { KindIs };
+
+    #[tactic(auto, unfolding(crate::specs::Records::kind_of))]
+    fn try_from(byte: u8) -> Result<Self, BadRecord> {
+        match byte {
+            1 => Ok(Kind::Start),
+            2 => Ok(Kind::Allocate),
+            3 => Ok(Kind::Free),
+            4 => Ok(Kind::Step),
+            5 => Ok(Kind::Run),
+            6 => Ok(Kind::Leave),
+            _ => Err(BadRecord::UnknownKind),
         }
-        return Record::Step(input[at + TASK_AT]);
-    }
-    if kind == LEAVE_KIND {
-        if left < TASK_BYTES {
-            return Record::Bad;
-        }
-        return Record::Leave(input[at + TASK_AT]);
-    }
-    if kind == START_KIND {
-        if left < START_BYTES {
-            return Record::Bad;
-        }
-        return Record::Start(input[at + TASK_AT], input[at + NUMBER_AT]);
-    }
-    if left < WIDE_BYTES {
-        return Record::Bad;
-    }
-    wide(input, at, kind)
-}
-
-// The record that begins at a byte of the input, and is the one of this number.
-pub fn numbered(input: &[u8], at: usize, number: u64) -> Entry
-    requires { (at < length input.now) × (length input.now ≤ INPUT_BYTES) }
-    ensures { result ≡ entry_at input.now at number }
-{
-    let body = read(input, at);
-    Entry {
-        number: number,
-        kind: input[at],
-        body: body,
     }
 }
 
-// Where the next record begins; a bad one ends the schedule, whose length is `end`.
-pub fn end(body: Record, at: usize, end: usize) -> usize
-    requires { at ≤ INPUT_BYTES }
-    ensures { result ≡ end_of body at end }
-{
-    match body {
-        Record::Start(_, _) => at + START_BYTES,
-        Record::Allocate(_, _) => at + WIDE_BYTES,
-        Record::Free(_, _) => at + WIDE_BYTES,
-        Record::Step(_) => at + TASK_BYTES,
-        Record::Run(_, _) => at + WIDE_BYTES,
-        Record::Leave(_) => at + TASK_BYTES,
-        Record::Bad => end,
+impl Kind {
+    // How many bytes a record of this kind has, the kind's byte with it.
+    pub fn bytes(self) -> usize
+        ensures bytes { result ≡ bytes_of self }
+        ensures within { (TASK_AT < result) × (result ≤ WIDE_BYTES) }
+    {
+        match self {
+            Kind::Start => START_BYTES,
+            Kind::Allocate => WIDE_BYTES,
+            Kind::Free => WIDE_BYTES,
+            Kind::Step => TASK_BYTES,
+            Kind::Run => WIDE_BYTES,
+            Kind::Leave => TASK_BYTES,
+        }
+    }
+}
+
+impl Record {
+    // The record that begins at a byte of the input.
+    #[tactic(auto, unfolding(crate::specs::Records::record_at))]
+    pub fn read(input: &[u8], at: usize) -> Result<Record, BadRecord>
+        requires { (at < length input.now) × (length input.now ≤ INPUT_BYTES) }
+        ensures { result ≡ record_at input.now at }
+    {
+        let kind = Kind::try_from(input[at])?;
+        if input.len() - at < kind.bytes() {
+            return Err(BadRecord::Cut);
+        }
+        let task = input[at + TASK_AT];
+        Ok(match kind {
+            Kind::Start => Record::Start(task, input[at + NUMBER_AT]),
+            Kind::Allocate => Record::Allocate(task, u16::load(input, at + NUMBER_AT)),
+            Kind::Free => Record::Free(task, u16::load(input, at + NUMBER_AT)),
+            Kind::Step => Record::Step(task),
+            Kind::Run => Record::Run(task, u16::load(input, at + NUMBER_AT)),
+            Kind::Leave => Record::Leave(task),
+        })
+    }
+
+    pub fn kind(self) -> Kind
+        ensures { result ≡ kind_in self }
+    {
+        match self {
+            Record::Start(_, _) => Kind::Start,
+            Record::Allocate(_, _) => Kind::Allocate,
+            Record::Free(_, _) => Kind::Free,
+            Record::Step(_) => Kind::Step,
+            Record::Run(_, _) => Kind::Run,
+            Record::Leave(_) => Kind::Leave,
+        }
     }
 }

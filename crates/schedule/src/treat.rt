@@ -1,10 +1,14 @@
 // The treatment of a record.
 ghost use Rattle.schedule.specs.Stand.{runs, treated, shown};
-ghost use Rattle.schedule.specs.Bytes.{on_bytes, Does, StandMemories};
+ghost use Rattle.schedule.specs.Bytes.{on_bytes, Does};
 
-use crate::lend;
-use crate::record::{Entry, Record};
+use crate::record::{BadRecord, Record};
+use crate::records::Entry;
+use crate::stand::Stand;
 use control::answer;
+
+// The code for an unknown kind and for a cut record.
+const BAD_RECORD: u64 = 15;
 
 // A line of the table: "record from 0, kind byte, code, value", and the lost exchanges that the answer tells.
 #[derive(Drop)]
@@ -16,55 +20,46 @@ pub struct Line {
     pub lost: u32,
 }
 
-// "5 run .. stops at a finish, an end or a refusal (most 0: code 0, no call made)". It answers as the last call.
-fn run(control: &mut [u8], area: &mut [u8], strips: &[u8], task: u8, most: u16) -> u64
-    requires { StandMemories control.old area.old strips.now }
-    ensures { Does (runs on_bytes 0 task most) control.old area.old
-        strips.now control.new area.new strips.now result }
-{
-    let mut left = most;
-    let mut answer: u64 = 0;
-    while 0 < left {
-        answer = lend::step(control, area, strips, task);
-        if answer == 0 {
-            left -= 1;
-        } else {
-            left = 0;
+impl Stand {
+    // "5 run .. stops at a finish, an end or a refusal (most 0: code 0, no call made)". It answers as the last call.
+    fn run(&mut self, task: u8, most: u16) -> u64
+        ensures { Does (runs on_bytes 0 task most) self.old self.new result }
+    {
+        for _ in 0..most {
+            let answer = self.step(task);
+            if answer != 0 {
+                return answer;
+            }
+        }
+        0
+    }
+
+    // What a record does to the three memories, and what it answers, as one number for C.
+    pub fn treat(&mut self, body: Result<Record, BadRecord>) -> u64
+        ensures { Does (treated on_bytes body) self.old self.new result }
+    {
+        match body {
+            Ok(Record::Start(tasks, regions)) => self.start(tasks, regions),
+            Ok(Record::Allocate(task, size)) => self.allocate(task, size),
+            Ok(Record::Free(task, unit)) => self.free(task, unit),
+            Ok(Record::Step(task)) => self.step(task),
+            Ok(Record::Run(task, most)) => self.run(task, most),
+            Ok(Record::Leave(task)) => self.leave(task),
+            Err(_) => BAD_RECORD,
         }
     }
-    answer
-}
 
-// What a record does to the three memories, and what it answers, as one number for C.
-pub fn treat(control: &mut [u8], area: &mut [u8], strips: &[u8], body: Record) -> u64
-    requires { StandMemories control.old area.old strips.now }
-    ensures { Does (treated on_bytes body) control.old area.old
-        strips.now control.new area.new strips.now result }
-{
-    match body {
-        Record::Start(tasks, regions) => lend::start(control, area, strips, tasks, regions),
-        Record::Allocate(task, size) => lend::allocate(control, area, strips, task, size),
-        Record::Free(task, unit) => lend::free(control, area, strips, task, unit),
-        Record::Step(task) => lend::step(control, area, strips, task),
-        Record::Run(task, most) => run(control, area, strips, task, most),
-        Record::Leave(task) => lend::leave(control, area, strips, task),
-        Record::Bad => 15,
-    }
-}
-
-// What a record does to the three memories, and its line.
-pub fn show(control: &mut [u8], area: &mut [u8], strips: &[u8], entry: Entry) -> Line
-    requires { StandMemories control.old area.old strips.now }
-    ensures { Does (shown on_bytes entry) control.old area.old
-        strips.now control.new area.new strips.now result }
-{
-    let body = entry.body;
-    let number = treat(control, area, strips, body);
-    Line {
-        number: entry.number,
-        kind: entry.kind,
-        code: number % answer::CODES,
-        value: number / answer::CODES % answer::VALUES,
-        lost: (number / answer::ONE_LOST) as u32,
+    // What a record does to the three memories, and its line.
+    pub fn show(&mut self, entry: Entry) -> Line
+        ensures { Does (shown on_bytes entry) self.old self.new result }
+    {
+        let number = self.treat(entry.body);
+        Line {
+            number: entry.number,
+            kind: entry.kind,
+            code: number % answer::CODES,
+            value: number / answer::CODES % answer::VALUES,
+            lost: (number / answer::ONE_LOST) as u32,
+        }
     }
 }

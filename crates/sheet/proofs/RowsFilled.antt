@@ -1,20 +1,22 @@
 -- The rows of a class, region by region.
 use mathlib.Core.Path.{◌≡◌, refl, sym, ap, ◌∙◌}
-use mathlib.Core.Bool.{true, false, true≢false, false≢true}
+use mathlib.Core.Bool.{true, false, true≢false}
 use mathlib.Core.List.{List}
 use Prim.Native.Nat.{ℕ, ◌+◌, ◌≤◌, ◌<◌}
 use native.Mathlib.Omega.{arith}
 use borrow.Author.Tests.{lt-ltb, le-ltb}
+use borrow.Rule.Slice.PartMut.{put_mid}
 use lib.ListN.{length, get_or}
+use Rattle.std.specs.Prelude.{Ok, Err}
+use Rattle.limits.specs.declared.index.OutOfRange.{OutOfRange}
 use Rattle.limits.specs.Limits.{REGIONS, CLASSES}
 use Rattle.rows.specs.Comparisons.{same, other, same?, before, after, order?}
 use Rattle.fields.specs.Columns.{View}
 use Rattle.report_regions.specs.Opened.{opened_of, is_inside, regions_in_range}
 use Rattle.reports.proofs.Passing.{all-pass, one-fails}
 use Rattle.sheet.specs.Sheet.{COLUMNS, SHEET_NUMBERS, four_with}
-use Rattle.sheet.specs.declared.Four.{Four}
-use Rattle.sheet.specs.Filling.{region_fits, FourAre, with_four, place_of, RowsAre}
-use Rattle.sheet.proofs.FourNumbers.{four-length, four-elsewhere, four-there}
+use Rattle.sheet.specs.Filling.{region_fits, FourAre, place_of, RowsAre}
+use Rattle.sheet.proofs.FourNumbers.{four-long, four-length, four-elsewhere, four-there}
 
 -- ---- whether what is read of the regions is in its range
 
@@ -66,42 +68,51 @@ module _ (v : View) (regions : ℕ) (caches requests : List ℕ) (c : ℕ) (befo
   }
 
   -- one more is
-  pub rows_next : (r : ℕ) (ns : List ℕ) (x : Four) → c < CLASSES → r < REGIONS → length before ≡ SHEET_NUMBERS
+  pub rows_next : (r : ℕ) {ns four : List ℕ} → c < CLASSES → r < REGIONS → length before ≡ SHEET_NUMBERS
       → RowsTo v regions caches requests c before r ns
-      → FourAre v regions (get_or caches r 0) (get_or requests r 0) c r x → x.fits ≡ true
-      → RowsTo v regions caches requests c before (r + 1) (with_four ns (place_of c r) x)
-  rows_next r ns x class region long R F fits = record {
-    fit = λ z l. elim (same? z r) [
-      | same e ↦ rw e (sym F.tested ∙ fits)
-      | other d ↦ R.fit z (omega arith)
-    ];
-    kept_length = four-length ns (place_of c r) x ∙ R.kept_length;
-    kept = λ i l. four-elsewhere ns (place_of c r) x i (λ h. omega arith) ∙ R.kept i l;
-    rows = λ z j l h. elim (same? z r) [
-      | same e ↦ rw e (four-there ns (place_of c r) x j (omega (arith, R.kept_length)) h
-          ∙ ap (λ (q : List ℕ). get_or q j 0) (F.numbers fits))
-      | other d ↦
-          four-elsewhere ns (place_of c r) x (place_of c z + j) (λ g. omega arith) ∙ R.rows z j (omega arith) h
-    ];
-  }
+      → FourAre v regions (get_or caches r 0) (get_or requests r 0) c r (Ok four)
+      → RowsTo v regions caches requests c before (r + 1) (put_mid (place_of c r) COLUMNS ns four)
+  rows_next r {ns} {four} class region long R F =
+      let at = place_of c r in
+      let there : at + COLUMNS ≤ length ns = omega (arith, R.kept_length) in
+      let all : length four ≡ COLUMNS =
+      ap length F.numbers ∙ four-long v regions (get_or caches r 0) (get_or requests r 0) c r
+      in
+      record {
+        fit = λ z l. elim (same? z r) [
+          | same e ↦ rw e F.passed
+          | other d ↦ R.fit z (omega arith)
+        ];
+        kept_length = four-length ns four at COLUMNS there all ∙ R.kept_length;
+        kept = λ i l. four-elsewhere ns four at COLUMNS there all i (λ h. omega arith) ∙ R.kept i l;
+        rows = λ z j l h. elim (same? z r) [
+          | same e ↦ rw e (four-there ns four at COLUMNS there all j h
+              ∙ ap (λ (q : List ℕ). get_or q j 0) F.numbers)
+          | other d ↦
+              four-elsewhere ns four at COLUMNS there all (place_of c z + j) (λ g. omega arith)
+              ∙ R.rows z j (omega arith) h
+        ];
+      }
 
   -- a region that is out of its range
-  pub rows-fail : (r : ℕ) (ns : List ℕ) (x : Four) → RowsTo v regions caches requests c before r ns
-      → FourAre v regions (get_or caches r 0) (get_or requests r 0) c r x → x.fits ≡ false
-      → RowsAre v regions caches requests c before ns false
-  rows-fail r ns x R F fails = record {
-    tested = sym (one-does-not v regions r (sym F.tested ∙ fails));
+  pub rows-fail : (r : ℕ) {ns : List ℕ} (e : OutOfRange) → RowsTo v regions caches requests c before r ns
+      → FourAre v regions (get_or caches r 0) (get_or requests r 0) c r (Err e)
+      → RowsAre {A = Unit {0}} v regions caches requests c before ns (Err e)
+  rows-fail r e R F = record {
+    passed = tt;
+    failed = one-does-not v regions r F.failed;
     kept_length = R.kept_length;
     kept = R.kept;
-    rows = λ e. absurd (false≢true e);
+    rows = tt;
   }
 
   -- all are
-  pub rows_end : (ns : List ℕ) → regions ≤ REGIONS → RowsTo v regions caches requests c before REGIONS ns
-      → RowsAre v regions caches requests c before ns true
-  rows_end ns small R = record {
-    tested = sym (all_fit v regions small R.fit);
+  pub rows_end : {ns : List ℕ} → regions ≤ REGIONS → RowsTo v regions caches requests c before REGIONS ns
+      → RowsAre {A = Unit {0}} v regions caches requests c before ns (Ok tt)
+  rows_end small R = record {
+    passed = all_fit v regions small R.fit;
+    failed = tt;
     kept_length = R.kept_length;
     kept = R.kept;
-    rows = λ e z j l h. R.rows z j l h;
+    rows = R.rows;
   }

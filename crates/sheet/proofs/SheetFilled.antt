@@ -8,7 +8,7 @@ use lib.ListN.{length, get_or}
 use Rattle.limits.specs.Limits.{REGIONS, CLASSES}
 use Rattle.rows.specs.Comparisons.{same, other, same?, before, after, order?}
 use Rattle.fields.specs.Columns.{View}
-use Rattle.reports.specs.declared.counts.RegionCounts.{RegionCounts}
+use Rattle.std.specs.Prelude.{Ok}
 use Rattle.reports.specs.Passing.{all_pass}
 use Rattle.reports.specs.ByRegion.{Counted}
 use Rattle.reports.proofs.Passing.{all-pass, one-fails}
@@ -82,23 +82,14 @@ module _ (v : View) (link : ℕ → ℕ) (regions : ℕ) where
   }
 
   -- one more is
-  module _ (c : ℕ) (ns filled : List ℕ) (cached running : RegionCounts) (class : c < CLASSES) (S : SheetTo c ns)
-      (K : Counted (caches_in_range v link regions c) (blocks_in_caches v link c) cached)
-      (Q : Counted (requests_in_range v regions) (blocks_in_requests v regions c) running)
-      (cached-fit : cached.fits ≡ true) (running-fit : running.fits ≡ true)
-      {fits : Bool} (R : RowsAre v regions cached.counts running.counts c ns filled fits)
-      (fit : fits ≡ true) where
-    in-range : caches_in_range v link regions c ≡ true
-    in-range = sym K.tested ∙ cached-fit
-
-    running-range : requests_in_range v regions ≡ true
-    running-range = sym Q.tested ∙ running-fit
-
+  module _ (c : ℕ) (ns filled : List ℕ) (cached running : List ℕ) (class : c < CLASSES) (S : SheetTo c ns)
+      (K : Counted (caches_in_range v link regions c) (blocks_in_caches v link c) (Ok cached))
+      (Q : Counted (requests_in_range v regions) (blocks_in_requests v regions c) (Ok running))
+      (R : RowsAre {A = Unit {0}} v regions cached running c ns filled (Ok tt)) where
     -- the row of a region has the numbers of the class
     four_is : (r : ℕ) → r < REGIONS
-        → four_with v regions (get_or cached.counts r 0) (get_or running.counts r 0) c r ≡ four_of v link regions c r
-    four_is r l =
-        ap₂ (λ (x y : ℕ). four_with v regions x y c r) (K.counts in-range r l) (Q.counts running-range r l)
+        → four_with v regions (get_or cached r 0) (get_or running r 0) c r ≡ four_of v link regions c r
+    four_is r l = ap₂ (λ (x y : ℕ). four_with v regions x y c r) (K.counts r l) (Q.counts r l)
 
     -- those of the class itself
     new-number : (i : ℕ) → place_of c 0 ≤ i → i < place_of (c + 1) 0 → get_or filled i 0 ≡ sheet_number v link regions i
@@ -109,7 +100,7 @@ module _ (v : View) (link : ℕ → ℕ) (regions : ℕ) where
         let column : j < COLUMNS = omega arith in
         let place : place_of c r + j ≡ i = omega arith in
         ap (λ (k : ℕ). get_or filled k 0) (sym place)
-        ∙ R.rows fit r j region column
+        ∙ R.rows r j region column
         ∙ ap (λ (q : List ℕ). get_or q j 0) (four_is r region)
         ∙ sym (number-at c r j region column)
         ∙ ap (sheet_number v link regions) place
@@ -118,9 +109,9 @@ module _ (v : View) (link : ℕ → ℕ) (regions : ℕ) where
     pub sheet-next : SheetTo (c + 1) filled
     sheet-next = record {
       long = R.kept_length ∙ S.long;
-      caches = λ d l. elim (same? d c) [ same e ↦ rw e in-range | other n ↦ S.caches d (omega arith) ];
-      requests = λ l. running-range;
-      opened = λ l. sym R.tested ∙ fit;
+      caches = λ d l. elim (same? d c) [ same e ↦ rw e K.in_range_is | other n ↦ S.caches d (omega arith) ];
+      requests = λ l. Q.in_range_is;
+      opened = λ l. R.passed;
       numbers = λ i l. elim (order? i (place_of c 0)) [
         | before h ↦ R.kept i h ∙ S.numbers i h
         | after h ↦ new-number i h l
@@ -129,14 +120,15 @@ module _ (v : View) (link : ℕ → ℕ) (regions : ℕ) where
 
   -- all are
   pub sheet-end : (ns : List ℕ) → SheetTo CLASSES ns
-      → Gathered (sheet_in_range v link regions) (numbers_to SHEET_NUMBERS (sheet_number v link regions)) ns true
+      → Gathered {A = Unit {0}} (sheet_in_range v link regions)
+      (numbers_to SHEET_NUMBERS (sheet_number v link regions)) ns (Ok tt)
   unfolding sheet_in_range
   sheet-end ns S = record {
-    tested = sym (rw (
+    numbers_are = numbers_are ns SHEET_NUMBERS (sheet_number v link regions) S.long (λ i l. S.numbers i (omega arith));
+    in_range_is = rw (
       all-pass CLASSES (caches_in_range v link regions) S.caches,
       S.requests (omega arith),
       S.opened (omega arith),
-    ));
-    numbers_are = λ e. numbers_are ns SHEET_NUMBERS (sheet_number v link regions) S.long
-        (λ i l. S.numbers i (omega arith));
+    );
+    out_of_range = tt;
   }

@@ -11,9 +11,7 @@ use Rattle.reports.specs.Reports.{report_on}
 use Rattle.report_marks.specs.InHand.{blocks_in_hand}
 use Rattle.report_caches.specs.CacheRows.{caches_in_range, blocks_in_caches}
 use Rattle.report_requests.specs.UnderWay.{requests_in_range, blocks_in_requests}
-use Rattle.report_regions.specs.declared.Opened.{Opened}
-use Rattle.report_regions.specs.declared.Opened.TheVariants.{Closed, Open, Outside}
-use Rattle.report_regions.specs.Opened.{opened_of, regions_in_range}
+use Rattle.report_regions.specs.Opened.{Opened, Closed, Open, Outside, opened_of, regions_in_range}
 
 -- "four numbers": the columns of the sheet
 abbrev pub COLUMNS : ℕ

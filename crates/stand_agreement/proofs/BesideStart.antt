@@ -15,9 +15,9 @@ use Rattle.plain.specs.Calls.{Pool, Start, start, Lengths}
 use Rattle.plain.specs.Calls as Calls
 use Rattle.plain.proofs.CallAnswers.{most}
 use Rattle.control.specs.Answers.{code_of, code_in, number_telling}
-use Rattle.control.specs.declared.answer.Answer.TheVariants.{Accepted, Allocated, Freed, NoDescriptor, NoRegion}
-use Rattle.control.specs.declared.answer.Answer.TheVariants.{NoStrip, Refused}
-use Rattle.control.specs.declared.answer.Answer as A
+use Rattle.control.specs.Answers.{Accepted, Allocated, Freed, NoDescriptor, NoRegion}
+use Rattle.control.specs.Answers.{NoStrip, Refused}
+use Rattle.control.specs.Answers as A
 use Rattle.stepped.specs.Outcome.{Effect, Memories, memories_after}
 use Rattle.stepped.specs.Calls.{effect_of, lending}
 use Rattle.agreement.specs.Ends.{Begins, start_refusals}

@@ -25,9 +25,9 @@ use Rattle.schedule.specs.Plain.{regions_fed}
 use Rattle.stand_agreement.proofs.AfterAll.{plain_after_all, after-all, lent_is, not_started}
 
 module _ (input : List ℕ) (bytes : Bytes input) (long : length input ≤ INPUT_BYTES) (row row' : List ℕ) (r : ℕ) where
-  -- What the program of `./stand --sheet` ensures (`sheet_after` of crates/stand_sheet/src/main.rt), said of the plain
-  -- pool: once a start is accepted the answer is 20, and the sheet tells the plain pool fed the same records. The input
-  -- is any bytes, at most 65,536, and there is no other premise.
+  -- What `./stand --sheet` puts into its row (`report_after` of crates/stand_reports/src/lib.rt with the report of
+  -- crates/stand_sheet), said of the plain pool: once a start is accepted the answer is 20, and the sheet tells the plain
+  -- pool fed the same records. The input is any bytes, at most 65,536, and there is no other premise.
   module _ (A : Answers (sheet_of (started_part (after_all input)) row) row' r) where
     pub sheet-is-plain : 1 ≤ (plain_after_all input).tasks → SHEET_BYTES ≤ length row
         → (r ≡ 20) × SheetTells row' (plain_after_all input)
@@ -40,7 +40,7 @@ module _ (input : List ℕ) (bytes : Bytes input) (long : length input ≤ INPUT
     pub sheet-not-started : (plain_after_all input).tasks ≡ 0 → (r ≡ 4) × (row' ≡ row)
     sheet-not-started none = not_started input bytes long sheet_in_range SHEET_NUMBERS sheet_number row row' r A none
 
-  -- The same of `./stand --holders` (`form_after` of crates/stand_holders/src/main.rt).
+  -- The same of `./stand --holders`.
   module _ (A : Answers (form_of (started_part (after_all input)) row) row' r) where
     pub form-is-plain : 1 ≤ (plain_after_all input).tasks → FORM_BYTES ≤ length row
         → (r ≡ 20) × FormTells row' (plain_after_all input)
@@ -52,8 +52,8 @@ module _ (input : List ℕ) (bytes : Bytes input) (long : length input ≤ INPUT
     pub form-not-started : (plain_after_all input).tasks ≡ 0 → (r ≡ 4) × (row' ≡ row)
     form-not-started none = not_started input bytes long sheet_in_range FORM_NUMBERS form_number row row' r A none
 
-  -- The same of `./stand --keepers` (`keepers_after` of crates/stand_keepers/src/main.rt), which tells also how the
-  -- last record ended: that is the plain pool's answer (`last-is-plain` of AfterAll.antt).
+  -- The same of `./stand --keepers`, which tells also how the last record ended: that is the plain pool's answer
+  -- (`last-is-plain` of AfterAll.antt).
   module _ (A : Answers (keepers_of (started_part (after_all input)) row) row' r) where
     pub keepers-are-plain : 1 ≤ (plain_after_all input).tasks → KEEPER_BYTES * STAND_REGIONS ≤ length row
         → (r ≡ 20) × KeepersTell row' (plain_after_all input)

@@ -2,13 +2,13 @@
 -- over the plain pool.
 use Prim.Native.Nat.{ℕ, zero, suc, ◌+◌, ◌*◌, ◌/◌, ◌%◌, ◌-◌, ◌≤◌, ◌<◌}
 use mathlib.Core.Path.{◌≡◌, refl, sym, ap, ◌∙◌}
-use mathlib.Core.Bool.{false}
 use mathlib.Core.List.{List, [], ◌++◌}
 use native.Mathlib.Omega.{arith}
 use native.Mathlib.Decide.{ℕ_discrete, dec_lt}
 use borrow.Author.Tests.{eq-eqb, ne_eqb, lt-ltb, le-ltb, leb-true}
 use lib.Dec.{eqb, leb}
 use lib.ListN.{length, get_or, length-replicate}
+use Rattle.std.specs.Prelude.{Result, Ok, Err}
 use Rattle.limits.specs.Limits.{CONTROL_BYTES, STRIPS_BYTES, TAGS}
 use Rattle.fields.specs.Little.{Bytes, get_le}
 use Rattle.fields.proofs.Little.{get_le-lt}
@@ -20,19 +20,22 @@ use Rattle.stepped.specs.Outcome.{Memories}
 use Rattle.agreement.proofs.Images.{zeros as zeros-are, get_le-zeros}
 use Rattle.agreement.specs.Reached.{from_unstarted}
 use Rattle.agreement.proofs.Ways.{branch}
+use Rattle.schedule.specs.declared.record.BadRecord.{BadRecord}
+use Rattle.schedule.specs.declared.record.BadRecord.TheVariants.{UnknownKind, Cut}
+use Rattle.schedule.specs.declared.record.Kind.{Kind}
+use Rattle.schedule.specs.declared.record.Kind.TheVariants as Kind
 use Rattle.schedule.specs.declared.record.Record.{Record}
-use Rattle.schedule.specs.declared.record.Record.TheVariants.{Start, Allocate, Free, Step, Run, Leave, Bad}
+use Rattle.schedule.specs.declared.record.Record.TheVariants.{Start, Allocate, Free, Step, Run, Leave}
 use Rattle.schedule.specs.declared.tally.Tally.{Tally}
 use Rattle.schedule.specs.declared.treat.Line.{Line}
-use Rattle.schedule.specs.Records.{INPUT_BYTES, START_KIND, ALLOCATE_KIND, FREE_KIND, STEP_KIND, LEAVE_KIND}
-use Rattle.schedule.specs.Records.{START_BYTES, TASK_BYTES, WIDE_BYTES, TASK_AT, NUMBER_AT, NUMBER_BYTES, MOST_CALLS}
-use Rattle.schedule.specs.Records.{wide_of}
-use Rattle.schedule.specs.Records.{record_at, end_of}
+use Rattle.schedule.specs.Records.{INPUT_BYTES, NUMBER_AT, NUMBER_BYTES, MOST_CALLS}
+use Rattle.schedule.specs.Records.{kind_of, bytes_of, body_of, whole, record_at, end_of}
 use Rattle.schedule.specs.Tally.{none_counted, counted}
 use Rattle.schedule.specs.Stand.{STAND_AREA}
 use Rattle.schedule.specs.Stand.{as_started, runs, treated, table}
 use Rattle.schedule.specs.Bytes.{zeros, on_bytes}
 use Rattle.schedule.specs.Plain.{on_plain}
+use Rattle.text.specs.declared.LostColumn.TheVariants.{Hidden}
 use Rattle.text.specs.Lines.{line_text}
 use Rattle.table.specs.Output.{rows_text}
 use Rattle.stand_agreement.proofs.Beside.{part_of, Beside, later, SameAnswer, same-small, same-allocate}
@@ -43,57 +46,49 @@ use Rattle.stand_agreement.proofs.BesideStart.{same_start}
 -- ---- records
 
 -- how many calls a record makes at most
-abbrev pub most_of : Record → ℕ
-most_of (Start a b) = 1
-most_of (Allocate a b) = 1
-most_of (Free a b) = 1
-most_of (Step a) = 1
-most_of (Run a most) = most
-most_of (Leave a) = 1
-most_of Bad = 0
+abbrev pub most_of : Result Record BadRecord → ℕ
+most_of (Ok (Start a b)) = 1
+most_of (Ok (Allocate a b)) = 1
+most_of (Ok (Free a b)) = 1
+most_of (Ok (Step a)) = 1
+most_of (Ok (Run a most)) = most
+most_of (Ok (Leave a)) = 1
+most_of (Err e) = 0
 
 -- a record makes at most MOST_CALLS calls, has at least a byte, and ends within the schedule
-pub record Fits (at end : ℕ) (r : Record) : Type 0 where
+pub record Fits (at end : ℕ) (r : Result Record BadRecord) : Type 0 where
   pub most : most_of r ≤ MOST_CALLS
   pub from : at < end_of r at end
   pub to : end_of r at end ≤ end
 
-wide_fits : (at end kind task number : ℕ) → at + WIDE_BYTES ≤ end → number ≤ MOST_CALLS
-    → Fits at end (wide_of kind task number)
-unfolding wide_of
-wide_fits at end kind task number h l =
-    let P = Fits at end in
-    branch P (eqb kind ALLOCATE_KIND) (λ e. record { most = omega arith; from = omega arith; to = h })
-    (λ e. branch P (eqb kind FREE_KIND) (λ f. record { most = omega arith; from = omega arith; to = h })
-    (λ f. record { most = omega (arith, l); from = omega arith; to = h }))
+module _ (input : List ℕ) (at : ℕ) (b : Bytes input) where
+  body-fits : (kind : Kind) → bytes_of kind ≤ length input - at → Fits at (length input) (Ok (body_of kind input at))
+  body-fits Kind.Start h = record { most = omega arith; from = omega arith; to = omega arith }
+  body-fits Kind.Allocate h = record { most = omega arith; from = omega arith; to = omega arith }
+  body-fits Kind.Free h = record { most = omega arith; from = omega arith; to = omega arith }
+  body-fits Kind.Step h = record { most = omega arith; from = omega arith; to = omega arith }
+  body-fits Kind.Run h = record {
+    most = omega (arith, get_le-lt input (at + NUMBER_AT) NUMBER_BYTES b);
+    from = omega arith;
+    to = omega arith;
+  }
+  body-fits Kind.Leave h = record { most = omega arith; from = omega arith; to = omega arith }
+
+  module _ (l : at < length input) where
+    bad-fits : (e : BadRecord) → Fits at (length input) (Err e)
+    bad-fits e = record { most = omega arith; from = l; to = omega arith }
+
+    whole-fits : (r : Result Kind BadRecord) → Fits at (length input) (whole input at r)
+    whole-fits (Ok kind) =
+        branch (Fits at (length input)) (leb (bytes_of kind) (length input - at))
+        (λ h. body-fits kind (leb-true (bytes_of kind) (length input - at) h)) (λ h. bad-fits Cut)
+    whole-fits (Err e) = bad-fits e
 
 -- every record that begins in the input fits
 pub record-fits : (input : List ℕ) (at : ℕ) → Bytes input → at < length input
     → Fits at (length input) (record_at input at)
 unfolding record_at
-record-fits input at b l =
-    let P = Fits at (length input) in
-    let kind = get_or input at 0 in
-    let left = length input - at in
-    let bad : P Bad = record { most = omega arith; from = omega (arith, l); to = omega arith } in
-    branch P (leb START_KIND kind)
-    (λ e. branch P (leb kind LEAVE_KIND)
-    (λ f. branch P (eqb kind STEP_KIND)
-    (λ g. branch P (leb TASK_BYTES left)
-    (λ h. record { most = omega arith; from = omega arith; to = omega (arith, leb-true TASK_BYTES left h) }) (λ h. bad))
-    (λ g. branch P (eqb kind LEAVE_KIND)
-    (λ h. branch P (leb TASK_BYTES left)
-    (λ i. record { most = omega arith; from = omega arith; to = omega (arith, leb-true TASK_BYTES left i) }) (λ i. bad))
-    (λ h. branch P (eqb kind START_KIND)
-    (λ i. branch P (leb START_BYTES left)
-    (λ j. record { most = omega arith; from = omega arith; to = omega (arith, leb-true START_BYTES left j) })
-    (λ j. bad))
-    (λ i. branch P (leb WIDE_BYTES left)
-    (λ j. wide_fits at (length input) kind (get_or input (at + TASK_AT) 0) (get_le input (at + NUMBER_AT) NUMBER_BYTES)
-    (omega (arith, leb-true WIDE_BYTES left j)) (omega (arith, get_le-lt input (at + NUMBER_AT) NUMBER_BYTES b)))
-    (λ j. bad)))))
-    (λ f. bad))
-    (λ e. bad)
+record-fits input at b l = whole-fits input at b l (kind_of (get_or input at 0))
 
 -- ---- runs and records
 
@@ -132,18 +127,18 @@ after : {n : ℕ} {x : Memories × ℕ} {y : Pool × ℕ} → SameAnswer (suc n)
 after S = record { number = S.number; beside = later (omega arith) S.beside }
 
 -- a record in both runs
-pub same-treated : {n : ℕ} {s : Memories} {p : Pool} (r : Record) → most_of r ≤ MOST_CALLS → Beside n s p
+pub same-treated : {n : ℕ} {s : Memories} {p : Pool} (r : Result Record BadRecord) → most_of r ≤ MOST_CALLS → Beside n s p
     → n + MOST_CALLS < TAGS
     → SameAnswer (n + MOST_CALLS) (treated on_bytes r s) (treated on_plain r p)
-same-treated (Start tasks regions) m B l = after (same_start B (record { tasks = tasks }) regions)
-same-treated (Allocate t size) m B l = after (same-allocate B (omega arith) t size)
-same-treated (Free t u) m B l = after (same-free B (omega arith) t u)
-same-treated (Step t) m B l = after (same_step B (omega arith) t)
-same-treated {n} {s} {p} (Run t most) m B l =
+same-treated (Ok (Start tasks regions)) m B l = after (same_start B (record { tasks = tasks }) regions)
+same-treated (Ok (Allocate t size)) m B l = after (same-allocate B (omega arith) t size)
+same-treated (Ok (Free t u)) m B l = after (same-free B (omega arith) t u)
+same-treated (Ok (Step t)) m B l = after (same_step B (omega arith) t)
+same-treated {n} {s} {p} (Ok (Run t most)) m B l =
     let S = same_runs most n t s p B (omega (arith, m)) in
     record { number = S.number; beside = later (omega (arith, m)) S.beside }
-same-treated (Leave t) m B l = after (same-leave B (omega arith) t)
-same-treated Bad m B l = record { number = same-small 15 (omega arith); beside = later (omega arith) B }
+same-treated (Ok (Leave t)) m B l = after (same-leave B (omega arith) t)
+same-treated (Err e) m B l = record { number = same-small 15 (omega arith); beside = later (omega arith) B }
 
 -- ---- the table
 
@@ -156,7 +151,7 @@ same-value x z h =
 
 -- the text of lines and totals, without the lost exchanges
 abbrev text : List Line × Tally → List ℕ
-text w = rows_text false w.0 w.1
+text w = rows_text Hidden w.0 w.1
 
 module _ (input : List ℕ) (bytes : Bytes input) (long : length input ≤ INPUT_BYTES) where
   same-table : (f at n k : ℕ) (y : Tally) (s : Memories) (p : Pool) → at ≤ length input → k ≤ MOST_CALLS * at
@@ -183,7 +178,8 @@ module _ (input : List ℕ) (bytes : Bytes input) (long : length input ≤ INPUT
           let z = treated on_plain r p in
           let code : x.1 % CODES ≡ z.1 % CODES = omega (arith, S.number.without-lost) in
           let value = same-value x.1 z.1 S.number.without-lost in
-          let line : ℕ → ℕ → List ℕ = λ c v. line_text false n (get_or input at 0) c v 0 in
+          let line : ℕ → ℕ → List ℕ = λ c v.
+          line_text Hidden (record { number = n; kind = get_or input at 0; code = c; value = v; lost = 0 }) in
           rw (lt-ltb at (length input) g)
           (ap (λ (c : ℕ). line c (x.1 / CODES % VALUES)
           ++ text (table on_bytes f input next (n + 1) (counted y c) x.0)) code

@@ -1,40 +1,43 @@
 // The form by holder on the stand: it reads a schedule from standard input, plays it, and writes to standard output one
-// byte, the code of the form's answer, and then the form. This program only reads, calls and writes; it reads no more
-// than the 65,536 bytes of its buffer.
+// byte, the code of the form's answer, and then the form.
 #![tactic(auto)]
 
-ghost use Rattle.std.specs.Prelude.{◌≤◌, length};
-ghost use Rattle.schedule.specs.Records.{INPUT_BYTES};
-ghost use Rattle.schedule.specs.Bytes.{after_all, started_part};
-ghost use Rattle.reports.specs.Reports.{Answers};
-ghost use Rattle.holders.specs.Form.{form_of};
+ghost use Rattle.std.specs.Prelude.{replicate, OnOk};
+ghost use Rattle.schedule.specs.Bytes.{zeros, started_part};
+ghost use Rattle.holders.specs.Form.{FORM_BYTES, form_of};
+ghost use Rattle.stand_reports.specs.Written.{Writes};
 
-use control::answer;
-use schedule::{lend, play};
+use schedule::stand::Stand;
+use stand_reports::{LastCode, Report};
 use std::io;
-use std::io::Write;
+use std::io::{Read, Write};
 
-// Plays the schedule on three memories that are zero at first, and has the form of the pool that it leaves put into
-// the row. The form is lent the part of the area that the pool was started with.
-fn form_after(input: &[u8], row: &mut [u8]) -> u64
-    requires { length input.now ≤ INPUT_BYTES }
-    ensures { Answers (form_of (started_part (after_all input.now)) row.old)
-        row.new result }
+struct FormByHolder;
+
+impl Report for FormByHolder {
+    ghost report_on = { form_of };
+
+    fn write(control: &[u8], area: &[u8], strips: &[u8], row: &mut [u8]) -> u64 {
+        pool::pool_holders(control, area, strips, row)
+    }
+}
+
+// Writes the form on what it reads, on memories that are zero at first. That it tells the plain pool is
+// `form-is-plain` of crates/stand_agreement.
+fn run<R: Read, W: Write>(reader: &mut R, writer: &mut W) -> io::Result<()>
+    ensures { OnOk result (Writes (λ s. form_of (started_part s)) LastCode.Hidden zeros (replicate FORM_BYTES 0)
+        (R.remaining reader.old) (W.contents writer.old) (W.contents writer.new)) }
 {
-    let mut control = [0u8; limits::CONTROL_BYTES];
-    let mut area = [0u8; lend::STAND_AREA];
-    let strips = [0u8; limits::STRIPS_BYTES];
-    play::play(&mut control, &mut area, &strips, input);
-    let n = lend::lent(&control);
-    pool::pool_holders(&control, &area[..n], &strips, row)
+    let mut row = [0; holders::FORM_BYTES];
+    stand_reports::run::<FormByHolder, R, W>(
+        &mut Stand::new(),
+        reader,
+        writer,
+        &mut row,
+        LastCode::Hidden,
+    )
 }
 
 fn main(rt: HostRuntime) -> io::Result<()> {
-    let mut row = [0u8; holders::FORM_BYTES];
-    let mut records = [0u8; input::MOST_BYTES];
-    let n = input::read_full(&mut rt.stdin(), &mut records)?;
-    let answer = form_after(&records[..n], &mut row);
-    let code = [(answer % answer::CODES) as u8];
-    rt.stdout().write_all(&code)?;
-    rt.stdout().write_all(&row)
+    run(&mut rt.stdin(), &mut rt.stdout())
 }

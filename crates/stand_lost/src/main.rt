@@ -1,38 +1,24 @@
 // The stand with the lost exchanges: the table of crates/stand, and behind each value the lost exchanges that the
-// answer tells. This program only reads, calls and writes; it reads no more than the 65,536 bytes of its buffer.
+// answer tells.
 #![tactic(auto)]
 
-ghost use Rattle.std.specs.Prelude.{◌≡◌, ◌≤◌, length};
-ghost use Rattle.schedule.specs.Records.{INPUT_BYTES};
-ghost use Rattle.table.specs.Output.{TABLE_BYTES, PlaysLost};
+ghost use Rattle.std.specs.Prelude.{OnOk};
+ghost use Rattle.schedule.specs.Bytes.{zeros};
+ghost use Rattle.table.specs.Output.{Writes};
 
-use schedule::lend;
+use schedule::stand::Stand;
 use std::io;
-use std::io::Write;
+use std::io::{Read, Write};
+use text::LostColumn;
 
-// Zeros for the table of the longest input.
-fn room() -> [u8; table::TABLE_BYTES]
-    ensures { TABLE_BYTES ≡ length result }
+// Writes the table of what it reads, with the lost exchanges, on memories that are zero at first.
+fn run<R: Read, W: Write>(reader: &mut R, writer: &mut W) -> io::Result<()>
+    ensures { OnOk result (Writes LostColumn.Shown zeros (R.remaining reader.old)
+        (W.contents writer.old) (W.contents writer.new)) }
 {
-    [0; table::TABLE_BYTES]
-}
-
-// Plays the schedule on three memories that are zero at first, and puts its table at the start of `out`, with the lost
-// exchanges.
-fn play(input: &[u8], out: &mut [u8]) -> usize
-    requires { (length input.now ≤ INPUT_BYTES) × (TABLE_BYTES ≤ length out.old) }
-    ensures { PlaysLost input.now out.old out.new result }
-{
-    let mut control = [0u8; limits::CONTROL_BYTES];
-    let mut area = [0u8; lend::STAND_AREA];
-    let strips = [0u8; limits::STRIPS_BYTES];
-    table::write(&mut control, &mut area, &strips, input, out, true)
+    table::run(&mut Stand::new(), reader, writer, LostColumn::Shown)
 }
 
 fn main(rt: HostRuntime) -> io::Result<()> {
-    let mut out = room();
-    let mut records = [0u8; input::MOST_BYTES];
-    let n = input::read_full(&mut rt.stdin(), &mut records)?;
-    let length = play(&records[..n], &mut out);
-    rt.stdout().write_all(&out[..length])
+    run(&mut rt.stdin(), &mut rt.stdout())
 }

@@ -1,40 +1,43 @@
 // The stock sheet on the stand: it reads a schedule from standard input, plays it, and writes to standard output one
-// byte, the code of the sheet's answer, and then the sheet. This program only reads, calls and writes; it reads no more
-// than the 65,536 bytes of its buffer.
+// byte, the code of the sheet's answer, and then the sheet.
 #![tactic(auto)]
 
-ghost use Rattle.std.specs.Prelude.{◌≤◌, length};
-ghost use Rattle.schedule.specs.Records.{INPUT_BYTES};
-ghost use Rattle.schedule.specs.Bytes.{after_all, started_part};
-ghost use Rattle.reports.specs.Reports.{Answers};
-ghost use Rattle.sheet.specs.Sheet.{sheet_of};
+ghost use Rattle.std.specs.Prelude.{replicate, OnOk};
+ghost use Rattle.schedule.specs.Bytes.{zeros, started_part};
+ghost use Rattle.sheet.specs.Sheet.{SHEET_BYTES, sheet_of};
+ghost use Rattle.stand_reports.specs.Written.{Writes};
 
-use control::answer;
-use schedule::{lend, play};
+use schedule::stand::Stand;
+use stand_reports::{LastCode, Report};
 use std::io;
-use std::io::Write;
+use std::io::{Read, Write};
 
-// Plays the schedule on three memories that are zero at first, and has the sheet of the pool that it leaves put into
-// the row. The sheet is lent the part of the area that the pool was started with.
-fn sheet_after(input: &[u8], row: &mut [u8]) -> u64
-    requires { length input.now ≤ INPUT_BYTES }
-    ensures { Answers (sheet_of (started_part (after_all input.now)) row.old)
-        row.new result }
+struct StockSheet;
+
+impl Report for StockSheet {
+    ghost report_on = { sheet_of };
+
+    fn write(control: &[u8], area: &[u8], strips: &[u8], row: &mut [u8]) -> u64 {
+        pool::pool_sheet(control, area, strips, row)
+    }
+}
+
+// Writes the sheet on what it reads, on memories that are zero at first. That it tells the plain pool is
+// `sheet-is-plain` of crates/stand_agreement.
+fn run<R: Read, W: Write>(reader: &mut R, writer: &mut W) -> io::Result<()>
+    ensures { OnOk result (Writes (λ s. sheet_of (started_part s)) LastCode.Hidden zeros (replicate SHEET_BYTES 0)
+        (R.remaining reader.old) (W.contents writer.old) (W.contents writer.new)) }
 {
-    let mut control = [0u8; limits::CONTROL_BYTES];
-    let mut area = [0u8; lend::STAND_AREA];
-    let strips = [0u8; limits::STRIPS_BYTES];
-    play::play(&mut control, &mut area, &strips, input);
-    let n = lend::lent(&control);
-    pool::pool_sheet(&control, &area[..n], &strips, row)
+    let mut row = [0; sheet::SHEET_BYTES];
+    stand_reports::run::<StockSheet, R, W>(
+        &mut Stand::new(),
+        reader,
+        writer,
+        &mut row,
+        LastCode::Hidden,
+    )
 }
 
 fn main(rt: HostRuntime) -> io::Result<()> {
-    let mut row = [0u8; sheet::SHEET_BYTES];
-    let mut records = [0u8; input::MOST_BYTES];
-    let n = input::read_full(&mut rt.stdin(), &mut records)?;
-    let answer = sheet_after(&records[..n], &mut row);
-    let code = [(answer % answer::CODES) as u8];
-    rt.stdout().write_all(&code)?;
-    rt.stdout().write_all(&row)
+    run(&mut rt.stdin(), &mut rt.stdout())
 }

@@ -41,17 +41,19 @@ module _ {f : ℕ → Field} {x : ℕ → ℕ} {n : ℕ} {before : List ℕ} whe
   pub filling-begins : length before ≡ CONTROL_BYTES → Filling f x n before n before
   filling-begins h = record { up_to = omega arith; length = h; rest = refl }
 
-  pub filling-goes : {i y : ℕ} {now after : List ℕ} → Filling f x n before i now → 0 < i → y ≡ x (i - 1)
-      → after ≡ changed (f (i - 1) := y ∷ []) now → Filling f x n before (i - 1) after
+  pub filling-goes : {i k y : ℕ} {now after : List ℕ} → Filling f x n before i now → 0 < i → k ≡ i - 1 → y ≡ x (i - 1)
+      → after ≡ changed (f k := y ∷ []) now → Filling f x n before (i - 1) after
   unfolding filled
-  filling-goes {i} {y} {now} {after} F l e h = record {
-    up_to = omega (arith, F.up_to);
-    length = ap length h ∙ length-written layout (f (i - 1) := y ∷ []) now ∙ F.length;
-    rest =
-        ap (changed (fill f x (i - 1))) (h ∙ ap (λ (z : ℕ). changed (f (i - 1) := z ∷ []) now) e)
-        ∙ ap (λ (k : ℕ). changed (fill f x k) now) (sym (one_less i l))
-        ∙ F.rest;
-  }
+  filling-goes {i} {k} {y} {now} {after} F l j e g =
+      let h = rw j at g in
+      record {
+        up_to = omega (arith, F.up_to);
+        length = ap length h ∙ length-written layout (f (i - 1) := y ∷ []) now ∙ F.length;
+        rest =
+            ap (changed (fill f x (i - 1))) (h ∙ ap (λ (z : ℕ). changed (f (i - 1) := z ∷ []) now) e)
+            ∙ ap (λ (k : ℕ). changed (fill f x k) now) (sym (one_less i l))
+            ∙ F.rest;
+      }
 
   pub filling-ends : {i : ℕ} {now : List ℕ} → Filling f x n before i now → i ≤ 0 → now ≡ filled f x n before
   unfolding filled
@@ -62,13 +64,23 @@ module _ {f : ℕ → Field} {x : ℕ → ℕ} {n : ℕ} {before : List ℕ} whe
 
 -- ---- the whole image
 
--- a field gets a value that is known
-pub with_value : (f : Field) {w : ℕ} (x : ℕ) (b : List ℕ) {after : List ℕ} → w ≡ x → after ≡ changed (f := w ∷ []) b
-    → after ≡ changed (f := x ∷ []) b
-with_value f x b e h = h ∙ ap (λ (y : ℕ). changed (f := y ∷ []) b) e
+-- a field whose index is known gets a value that is known
+pub with_value : (f : ℕ → Field) {k w : ℕ} (i x : ℕ) (b : List ℕ) {after : List ℕ} → k ≡ i → w ≡ x
+    → after ≡ changed (f k := w ∷ []) b → after ≡ changed (f i := x ∷ []) b
+with_value f {w = w} i x b e d h =
+    h ∙ ap (λ (y : ℕ). changed (f y := w ∷ []) b) e ∙ ap (λ (y : ℕ). changed (f i := y ∷ []) b) d
+
+-- so many fields are filled as the definition says
+pub filled-to : (f : ℕ → Field) {k : ℕ} (n : ℕ) (b : List ℕ) {after : List ℕ} → k ≡ n
+    → after ≡ filled f (next_up k) k b → after ≡ filled f (next_up n) n b
+filled-to f n b e h = h ∙ ap (λ (k : ℕ). filled f (next_up k) k b) e
+
+-- so many zeros
+pub zeros : {n : ℕ} (m : ℕ) → n ≡ m → replicate {A = ℕ} n 0 ≡ replicate m 0
+zeros m e = ap (λ (k : ℕ). replicate {A = ℕ} k 0) e
 
 -- the writes of a start one after the other, beginning with zeros
-pub image-is : (tasks regions n : ℕ) {b₀ b₁ b₂ b₃ b₄ b₅ b₆ b₇ b₈ : List ℕ} → n ≡ CONTROL_BYTES → b₀ ≡ replicate n 0
+pub image-is : (tasks regions : ℕ) {b₀ b₁ b₂ b₃ b₄ b₅ b₆ b₇ b₈ : List ℕ} → b₀ ≡ replicate CONTROL_BYTES 0
     → b₁ ≡ changed (Tasks := tasks ∷ []) b₀
     → b₂ ≡ changed (Regions := regions ∷ []) b₁
     → b₃ ≡ changed (Head SPARE_DESCRIPTORS := 1 ∷ []) b₂
@@ -78,7 +90,7 @@ pub image-is : (tasks regions n : ℕ) {b₀ b₁ b₂ b₃ b₄ b₅ b₆ b₇ 
     → b₇ ≡ filled RegionNext (next_up regions) regions b₆
     → b₈ ≡ filled TopOfCache (λ i. UNITS) CACHES b₇ → b₈ ≡ start_image (record { tasks = tasks }) regions
 unfolding start_image start_writes filled
-image-is tasks regions n e h₀ h₁ h₂ h₃ h₄ h₅ h₆ h₇ h₈ =
+image-is tasks regions h₀ h₁ h₂ h₃ h₄ h₅ h₆ h₇ h₈ =
     let ds = fill DescriptorNext (next_up DESCRIPTORS) DESCRIPTORS in
     let rs = fill RegionNext (next_up regions) regions in
     let ts = fill TopOfCache (λ i. UNITS) CACHES in
@@ -95,5 +107,5 @@ image-is tasks regions n e h₀ h₁ h₂ h₃ h₄ h₅ h₆ h₇ h₈ =
     (h₅ ∙ ap (changed (FreeNodes 0 := WHOLE_FREE ∷ []))
     (h₄ ∙ ap (changed (Head SPARE_REGIONS := 1 ∷ [])) (h₃ ∙ ap (changed (Head SPARE_DESCRIPTORS := 1 ∷ []))
     (h₂ ∙ ap (changed (Regions := regions ∷ [])) (h₁
-    ∙ ap (changed (Tasks := tasks ∷ [])) (h₀ ∙ ap (λ (k : ℕ). replicate k 0) e))))))))
+    ∙ ap (changed (Tasks := tasks ∷ [])) h₀)))))))
     ∙ sym (changed-append ds (rs ++ ts) (changed heads zeros) ∙ changed-append rs ts (changed ds (changed heads zeros)))

@@ -1,94 +1,73 @@
 // What a start leaves in the control memory, every byte of it. Only a start loops.
 #![tactic(auto)]
 
-ghost use Rattle.std.specs.Prelude.{◌≡◌, ◌*◌, ◌<◌, ◌≤◌, length, replicate};
-ghost use Rattle.limits.specs.Limits.{UNITS, TASKS, REGIONS, DESCRIPTORS};
-ghost use Rattle.control.specs.Layout.{CACHES, Control, DescriptorNext, RegionNext, TopOfCache};
+ghost use Rattle.std.specs.Prelude.{◌≡◌, ◌<◌, ◌≤◌, ℕ};
+ghost use Rattle.limits.specs.Limits.{DESCRIPTORS};
+ghost use Rattle.control.specs.Layout.{field_at};
 ghost use Rattle.stepped.specs.Start.{next_up, start_image};
 ghost use Rattle.start.specs.Filled.{filled};
 
-use control::{caches, layout, lists, started, strips};
+use control::column::{Column, Control};
+use control::layout;
+use fields::Number;
+use limits::index::{Index, List, Regions};
 use strip_tree::tree;
 use words::head::Head;
 
-// How many descriptors are spare at first, all of them; how many caches there is room for; the top of a cache without
-// blocks.
-const SPARES: u8 = limits::DESCRIPTORS as u8;
+// How many descriptors are spare at first: all of them.
+const SPARES: usize = limits::DESCRIPTORS;
 
-const CACHES: usize = layout::CACHES_OF_TASK * limits::TASKS;
-
+// The top of a cache without blocks.
 const BOTTOM: u16 = limits::UNITS as u16;
 
-// Sets every byte to zero.
-fn clear(control: &mut [u8])
-    ensures { control.new ≡ replicate (length control.old) 0 }
+// The next of an item as a number plus one, where `count` items rise from item 0 on top: none for the last.
+fn next_up(count: usize, item: usize) -> u8
+    requires { item < DESCRIPTORS }
+    ensures { result ≡ next_up count item }
 {
-    let mut i = 0;
-    while i < control.len() {
-        control[i] = 0;
-        i += 1;
+    if item + 1 == count {
+        0
+    } else {
+        (item + 2) as u8
     }
 }
 
-// The next of item i as a number plus one, where n items rise from item 0 on top: none for the last.
-fn next_up(n: u8, i: u8) -> u8
-    requires { (i < n) × (n ≤ DESCRIPTORS) }
-    ensures { result ≡ next_up n i }
+// Writes the first `count` numbers of a column, each that of its index.
+fn fill<T: Number, const N: usize, F: Fn(usize) -> T>(
+    control: &mut Control,
+    column: &Column<T, N>,
+    count: usize,
+    number: F,
+)
+    requires inside { count ≤ N }
+    requires callable { (i : ℕ) → i < count → F.pre number i }
+    ensures { (x : ℕ → ℕ) → ((i : ℕ) (y : _) → i < count → F.post number i y → T.value y ≡ x i)
+        → control.new ≡ filled (field_at column.now.start) x count control.old }
 {
-    if i + 1 == n { 0 } else { i + 2 }
-}
-
-// Writes the nexts of the list of spare descriptors, all that there are.
-fn chain_descriptors(control: &mut [u8])
-    requires { Control control.old }
-    ensures { control.new ≡ filled DescriptorNext (next_up DESCRIPTORS) DESCRIPTORS
-        control.old }
-{
-    let mut i: u8 = SPARES;
-    while 0 < i {
-        i -= 1;
-        lists::set_descriptor_next(control, i as usize, next_up(SPARES, i));
-    }
-}
-
-// Writes the nexts of the list of spare regions, all that the area has.
-fn chain_regions(control: &mut [u8], regions: u8)
-    requires { Control control.old × (regions ≤ REGIONS) }
-    ensures { control.new ≡ filled RegionNext (next_up regions) regions control.old }
-{
-    let mut i: u8 = regions;
-    while 0 < i {
-        i -= 1;
-        lists::set_region_next(control, i as usize, next_up(regions, i));
-    }
-}
-
-// Writes the top of each cache that there is room for: no block.
-fn empty_caches(control: &mut [u8])
-    requires { Control control.old }
-    ensures { control.new ≡ filled TopOfCache (λ i. UNITS) CACHES control.old }
-{
-    let mut i: usize = CACHES;
-    while 0 < i {
-        i -= 1;
-        caches::set_top(control, i, BOTTOM);
+    for i in (0..count).rev() {
+        column.set(control, Index::new(i), number(i));
     }
 }
 
 // The control memory of a pool that has just been started.
-pub fn image(control: &mut [u8], tasks: u8, regions: u8)
-    requires { Control control.old × (regions ≤ REGIONS) }
+pub fn image(control: &mut Control, tasks: u8, regions: Regions)
     ensures { control.new ≡ start_image (record { tasks = tasks }) regions }
 {
-    clear(control);
-    started::set_tasks(control, tasks);
-    started::set_regions(control, regions);
+    let count = regions.get();
     let first = Head { item: 1, tag: 0 };
     let word = first.word();
-    lists::set_head(control, limits::SPARE_DESCRIPTORS, word);
-    lists::set_head(control, limits::SPARE_REGIONS, word);
-    strips::set_free_nodes(control, 0, tree::WHOLE_FREE);
-    chain_descriptors(control);
-    chain_regions(control, regions);
-    empty_caches(control);
+    control.fill(0);
+    layout::STARTED_TASKS.set_only(control, tasks);
+    layout::STARTED_REGIONS.set_only(control, count as u8);
+    layout::HEADS.set(control, List::new(limits::SPARE_DESCRIPTORS), word);
+    layout::HEADS.set(control, List::new(limits::SPARE_REGIONS), word);
+    layout::FREE_NODES.set(control, Index::new(0), tree::WHOLE_FREE);
+    fill(
+        control,
+        &layout::DESCRIPTOR_NEXTS,
+        SPARES,
+        |i| next_up(SPARES, i),
+    );
+    fill(control, &layout::REGION_NEXTS, count, |i| next_up(count, i));
+    fill(control, &layout::CACHE_TOPS, layout::CACHES, |_| BOTTOM);
 }

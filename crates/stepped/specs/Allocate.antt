@@ -12,7 +12,7 @@ use Rattle.plain.specs.Moves.{nothing, anchor_empty, took, anchor_lost}
 use Rattle.control.specs.Layout.{Anchor, Marks, TaskAnchor, CacheTop, CacheCount, TaskIndex, TaskLeft, TaskPlace}
 use Rattle.control.specs.Layout.{TaskDescriptor, TaskRegion, DescriptorRegion, DescriptorClass, Map}
 use Rattle.control.specs.Places.{IDLE, A1, A3_READ, A3_EXCHANGE, A4, A8}
-use Rattle.control.specs.declared.answer.Answer.TheVariants.{Allocated}
+use Rattle.control.specs.Answers.{Allocated}
 use Rattle.control.specs.declared.moves.Pop.TheVariants.{Partial}
 use Rattle.control.specs.declared.moves.Push.TheVariants.{Retire}
 use Rattle.stepped.specs.Outcome.{Outcome, bad, accept, over, lose}

@@ -17,7 +17,7 @@ use Rattle.plain.specs.Calls.{Start, Call, start, allocate, free, leave, step, L
 use Rattle.control.specs.Layout.{Anchor, Marks, TaskUnit, TaskPlace, TaskClass, DescriptorRegion, DescriptorClass}
 use Rattle.control.specs.Layout.{Map, Tasks, Regions, TaskLost, seen}
 use Rattle.control.specs.Places.{IDLE, A1, F1, STRIP_TAKE, PLACES}
-use Rattle.control.specs.declared.answer.Answer.TheVariants.{Accepted}
+use Rattle.control.specs.Answers.{Accepted}
 use Rattle.stepped.specs.Outcome.{Outcome, refuse, bad, accept, Memories, Effect, effect, step_effect}
 use Rattle.stepped.specs.Ranges.{one_to, is_anchor}
 use Rattle.stepped.specs.StripSteps.{begin_free_strip}

@@ -11,7 +11,7 @@ use Rattle.plain.specs.Moves.{nothing, gave, anchor_lost}
 use Rattle.control.specs.Layout.{Anchor, TaskAnchor, CacheTop, CacheCount, TaskUnit, GroupFirst, GroupLast}
 use Rattle.control.specs.Layout.{GroupCount, TaskPlace, TaskDescriptor, TaskRegion, TaskState, Map}
 use Rattle.control.specs.Places.{IDLE, F2, F3_READ, F3_LINK, F3_EXCHANGE, F4_CLEAR}
-use Rattle.control.specs.declared.answer.Answer.TheVariants.{Freed}
+use Rattle.control.specs.Answers.{Freed}
 use Rattle.control.specs.declared.moves.Push.TheVariants.{Release}
 use Rattle.stepped.specs.Outcome.{Outcome, bad, accept, over, lose}
 use Rattle.stepped.specs.Ranges.{one_to, is_top, is_block, is_anchor, has_first, has_room}

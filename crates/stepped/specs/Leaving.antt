@@ -9,7 +9,7 @@ use Rattle.classes.specs.Classes.{per_region}
 use Rattle.plain.specs.Moves.{Decided, nothing}
 use Rattle.control.specs.Layout.{CacheCount, GroupCount, TaskLost, TaskPlace, TaskClass, TaskUnit, LEAVING}
 use Rattle.control.specs.Places.{IDLE, F2, LEAVE_END}
-use Rattle.control.specs.declared.answer.Answer.TheVariants.{Freed}
+use Rattle.control.specs.Answers.{Freed}
 use Rattle.stepped.specs.Outcome.{Outcome, bad, accept, over}
 
 -- v: what stands in the fields; t: the task

@@ -14,7 +14,7 @@ use Rattle.control.specs.Layout.{TaskRegion, TaskState, TaskUnit, LEAVING, Descr
 use Rattle.control.specs.Places.{IDLE, A3_READ, A7, F1, F2, POP_PARTIAL, POP_SPARE, POP_REGION, PUSH_RETIRE}
 use Rattle.control.specs.Places.{PUSH_BACK, PUSH_RELEASE, PUSH_OFFER}
 use Rattle.control.specs.Places.{TO_NEXT, TO_EXCHANGE}
-use Rattle.control.specs.declared.answer.Answer.TheVariants.{NoDescriptor, NoRegion}
+use Rattle.control.specs.Answers.{NoDescriptor, NoRegion}
 use Rattle.control.specs.declared.moves.Pop.{Pop}
 use Rattle.control.specs.declared.moves.Pop.TheVariants.{Partial, Spare, Region}
 use Rattle.control.specs.declared.moves.Push.{Push}

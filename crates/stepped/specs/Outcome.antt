@@ -7,8 +7,8 @@ use Rattle.plain.specs.Moves.{Decided, nothing}
 use Rattle.control.specs.Layout.{TaskPlace, TaskLost, seen, changed}
 use Rattle.control.specs.Losts.{one_more}
 use Rattle.control.specs.Answers.{lost_told}
-use Rattle.control.specs.declared.answer.Answer.{Answer}
-use Rattle.control.specs.declared.answer.Answer.TheVariants.{Accepted, Refused}
+use Rattle.control.specs.Answers.{Answer}
+use Rattle.control.specs.Answers.{Accepted, Refused}
 
 -- The answer, the move that was decided, the fields of the control memory that are written, and the links that are
 -- written in the area. Nothing else changes.

@@ -5,8 +5,9 @@ use Rattle.std.specs.Prelude.{ℕ, ◌+◌, ◌-◌, cond, ◌&&◌, List, [], �
 use Rattle.limits.specs.Limits.{WHOLE_ORDER, ORDERS}
 use Rattle.fields.specs.Columns.{View, Write, ◌:=◌}
 use Rattle.strip_tree.specs.declared.tree.Tree.{Tree}
+use Rattle.std.specs.declared.option.Option.{Option}
+use Rattle.std.specs.declared.option.Option.TheVariants.{None, Some}
 use Rattle.strip_tree.specs.declared.find.Found.{Found}
-use Rattle.strip_tree.specs.declared.find.Found.TheVariants.{At, Nothing}
 use Rattle.strip_tree.specs.Trees.{tree_with, without_free}
 use Rattle.strip_tree.specs.TreeMoves.{find, halving, joining, node_of, slot_of_node, can_begin}
 use Rattle.strip_tree.specs.SlotStates.{IN_HAND, FREE_BEGUN, LAST_BYTE, order_in}
@@ -14,7 +15,7 @@ use Rattle.pieces.specs.StripUnits.{strip_unit, slot_of_unit, is_strip_unit}
 use Rattle.plain.specs.Moves.{nothing, strip_taken, strip_given, no_strip}
 use Rattle.control.specs.Layout.{FreeNodes, SlotByte, TaskLost, TaskPlace, TaskUnit}
 use Rattle.control.specs.Places.{IDLE, STRIP_GIVE}
-use Rattle.control.specs.declared.answer.Answer.TheVariants.{Allocated, Freed, NoStrip}
+use Rattle.control.specs.Answers.{Allocated, Freed, NoStrip}
 use Rattle.stepped.specs.Outcome.{Outcome, refuse, bad, accept, over}
 
 -- the tree of the free pieces that the fields hold
@@ -43,9 +44,9 @@ module _ (v : View) (t c : ℕ) where
       []
 
   -- "16 ends a request" where no piece is found
-  abbrev pub strip_take_by : Found → Outcome
-  strip_take_by Nothing = over NoStrip no_strip (TaskPlace t := IDLE ∷ []) []
-  strip_take_by (At i j) = strip_take_at i j
+  abbrev pub strip_take_by : Option Found → Outcome
+  strip_take_by None = over NoStrip no_strip (TaskPlace t := IDLE ∷ []) []
+  strip_take_by (Some f) = strip_take_at f.node f.order
 
   -- "starting from the smallest sufficient piece, at the lowest place among equals", by the order of the request; 14
   -- where the class of the request is no order

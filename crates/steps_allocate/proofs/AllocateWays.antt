@@ -1,33 +1,51 @@
 -- The outcome of each step on each of its ways, from the tests that lead there.
-use mathlib.Core.Path.{◌≡◌}
-use mathlib.Core.Bool.{true, false}
+use mathlib.Core.Path.{◌≡◌, refl, ap, sym, ◌∙◌}
+use mathlib.Core.Bool.{Bool, true, false}
 use mathlib.Core.List.{List, [], ◌∷◌}
+use Rattle.std.specs.Prelude.{Ok, Err, IsErrAnd}
+use Rattle.std.specs.declared.result.Result.{Result}
 use Prim.Native.Nat.{ℕ, ◌-◌, ◌/◌, ◌%◌, ◌≤◌, ◌<◌}
-use borrow.Author.Tests.{lt-ltb, le-ltb, le-leb, lt-leb, eq-eqb, ne_eqb}
+use borrow.Author.Tests.{lt-ltb, le-ltb, eq-eqb, ne_eqb}
+use lib.Dec.{eqb, leb}
 use Rattle.limits.specs.Limits.{DESCRIPTORS, WORD_MARKS}
+use Rattle.limits.specs.declared.refusal.Refusal.{Refusal}
+use Rattle.limits.specs.declared.refusal.Refusal.TheVariants as refusal
 use Rattle.fields.specs.Columns.{View, ◌:=◌}
-use Rattle.words.specs.Anchor.{anchor_of}
+use Rattle.words.specs.Anchor.{EMPTY, anchor_of}
+use Rattle.words.specs.declared.anchor.Anchor.{Anchor as Parts}
 use Rattle.words.specs.Mark.{with_set}
 use Rattle.classes.specs.Classes.{per_region}
 use Rattle.plain.specs.Moves.{nothing, anchor_empty, took, anchor_lost}
 use Rattle.control.specs.Layout.{Anchor, Marks, TaskAnchor, CacheTop, CacheCount, TaskIndex, TaskLeft, TaskPlace}
 use Rattle.control.specs.Layout.{TaskDescriptor, TaskRegion, DescriptorRegion}
-use Rattle.control.specs.declared.answer.Answer.TheVariants.{Allocated}
+use Rattle.control.specs.Answers.{Allocated, answer_of}
 use Rattle.control.specs.declared.answer.Answer.{Answer}
 use Rattle.control.specs.Places.{IDLE, POP_PARTIAL, PUSH_RETIRE, A3_READ, A3_EXCHANGE, A4}
 use Rattle.stepped.specs.Done.{Done, DoneIn}
-use Rattle.stepped.proofs.Doing.{does, does-in}
+use Rattle.stepped.proofs.Doing.{done, done-in}
 use Rattle.stepped.specs.Outcome.{Outcome, bad, accept, over, lose}
 use Rattle.stepped.specs.Ranges.{is_top, is_block, is_anchor, has_chain}
 use Rattle.steps_allocate.specs.AnchorWords.{is_empty, full_word}
 use Rattle.stepped.specs.Allocate.{a1, a1_take, a3_read, a3_read_of, a3_exchange, a3_exchange_of}
 
--- another function did what the outcome says
-pub by : {o o' : Outcome} {before after : List ℕ} {r : Answer} → Done o' before after r → o ≡ o' → Done o before after r
-by d e = does e d
+-- a test came out as s
+pub shown : {b test s : Bool} → b ≡ test → b ≡ s → test ≡ s
+shown e h = sym e ∙ h
 
-pub by_in : {o o' : Outcome} {c a c' a' : List ℕ} {r : Answer} → DoneIn o' c a c' a' r → o ≡ o' → DoneIn o c a c' a' r
-by_in d e = does-in e d
+-- a test of the state among the parts of the anchor w came out as s
+state : {a : Parts} (w : ℕ) {s : Bool} → a ≡ anchor_of w → eqb a.state EMPTY ≡ s → is_empty w ≡ s
+state w g h = ap (λ (x : Parts). eqb x.state EMPTY) (sym g) ∙ h
+
+-- a value that is out of its range is refused, by `?`, where nothing has been written
+pub refuses : {o : Outcome} {before : List ℕ} (r : Result Answer Refusal) → o ≡ bad
+    → IsErrAnd r (λ e. e ≡ refusal.OutOfRange) → Done o before before r
+refuses (Ok x) e h = elim h [ ]
+refuses (Err x) e h = done e (ap (λ (y : Refusal). answer_of (Err y)) h) refl refl
+
+pub refuses-in : {o : Outcome} {c a : List ℕ} (r : Result Answer Refusal) → o ≡ bad
+    → IsErrAnd r (λ e. e ≡ refusal.OutOfRange) → DoneIn o c a c a r
+refuses-in (Ok x) e h = elim h [ ]
+refuses-in (Err x) e h = done-in e (ap (λ (y : Refusal). answer_of (Err y)) h) refl refl
 
 module _ (v : View) (link : ℕ → ℕ) (regions t c : ℕ) where
   -- ---- step 1
@@ -37,105 +55,119 @@ module _ (v : View) (link : ℕ → ℕ) (regions t c : ℕ) where
     unfolding a1_take
     a1_take-block h = rw h
 
-    -- the link of the block is x
-    module _ {x : ℕ} (e : x ≡ link u) (b : is_block regions c u ≡ true) where
-      pub a1_take-below : is_top regions c (k - 1) x ≡ false → a1_take v link regions t c k u ≡ bad
+    -- the link of the block is x, and `left` blocks are left
+    module _ {x left : ℕ} (e : x ≡ link u) (f : left ≡ k - 1) (b : is_block regions c u ≡ true) where
+      pub a1_take-below : is_top regions c left x ≡ false → a1_take v link regions t c k u ≡ bad
       unfolding a1_take
-      a1_take-below h = rw (← e, b, h)
+      a1_take-below h = rw (← e, ← f, b, h)
 
-      pub a1_take-taken : is_top regions c (k - 1) x ≡ true
+      pub a1_take-taken : is_top regions c left x ≡ true
           → a1_take v link regions t c k u
           ≡ over (Allocated u) nothing
           (TaskPlace t := IDLE
           ∷ CacheTop t c := x
-          ∷ CacheCount t c := (k - 1)
+          ∷ CacheCount t c := left
           ∷ Marks (u / WORD_MARKS) := with_set (v (Marks (u / WORD_MARKS))) (u % WORD_MARKS)
           ∷ [])
           []
       unfolding a1_take
-      a1_take-taken h = rw (← e, b, h)
+      a1_take-taken h = rw (← e, ← f, b, h)
 
-  pub a1-empty : v (CacheCount t c) ≡ 0 → a1 v link regions t c ≡ accept nothing (TaskPlace t := POP_PARTIAL ∷ []) []
-  unfolding a1
-  a1-empty h = rw (eq-eqb _ _ h)
+  -- the cache has k blocks
+  module _ {k : ℕ} (e : k ≡ v (CacheCount t c)) where
+    pub a1-empty : k ≡ 0 → a1 v link regions t c ≡ accept nothing (TaskPlace t := POP_PARTIAL ∷ []) []
+    unfolding a1
+    a1-empty h = rw (← e, eq-eqb _ _ h)
 
-  pub a1-many : (v (CacheCount t c) ≡ 0 → ⊥) → per_region c < v (CacheCount t c) → a1 v link regions t c ≡ bad
-  unfolding a1
-  a1-many s h = rw (ne_eqb _ _ s, lt-leb _ _ h)
+    module _ {n : ℕ} (f : n ≡ per_region c) (s : k ≡ 0 → ⊥) where
+      pub a1-many : leb k n ≡ false → a1 v link regions t c ≡ bad
+      unfolding a1
+      a1-many h = rw (← e, ← f, ne_eqb _ _ s, h)
 
-  pub a1-some : {k u : ℕ} → k ≡ v (CacheCount t c) → u ≡ v (CacheTop t c) → (k ≡ 0 → ⊥) → k ≤ per_region c
-      → a1 v link regions t c ≡ a1_take v link regions t c k u
-  unfolding a1
-  a1-some e f s h = rw (← e, ← f, ne_eqb _ _ s, le-leb _ _ h)
+      pub a1-some : {u : ℕ} → u ≡ v (CacheTop t c) → leb k n ≡ true
+          → a1 v link regions t c ≡ a1_take v link regions t c k u
+      unfolding a1
+      a1-some g h = rw (← e, ← f, ← g, ne_eqb _ _ s, h)
 
   -- ---- step 3
 
-  module _ (d : ℕ) where
-    pub a3_read_of-none : is_anchor (v (Anchor d)) ≡ false → a3_read_of v link regions t c d ≡ bad
+  -- the anchor of the descriptor d is w, whose parts are a
+  module _ (d : ℕ) {w : ℕ} (f : w ≡ v (Anchor d)) where
+    pub a3_read_of-none : is_anchor w ≡ false → a3_read_of v link regions t c d ≡ bad
     unfolding a3_read_of
-    a3_read_of-none h = rw h
+    a3_read_of-none h = rw (← f, h)
 
-    module _ (a : is_anchor (v (Anchor d)) ≡ true) where
-      pub a3_read_of-empty : is_empty (v (Anchor d)) ≡ true
+    module _ (b : is_anchor w ≡ true) {a : Parts} (g : a ≡ anchor_of w) where
+      pub a3_read_of-empty : a.state ≡ EMPTY
           → a3_read_of v link regions t c d ≡ accept (anchor_empty d) (TaskPlace t := PUSH_RETIRE ∷ []) []
       unfolding a3_read_of
-      a3_read_of-empty h = rw (a, h)
+      a3_read_of-empty h = rw (← f, b, state _ g (eq-eqb _ _ h))
 
-      module _ (s : is_empty (v (Anchor d)) ≡ false) where
-        pub a3_read_of-chain : has_chain (per_region c) (v (Anchor d)) ≡ false → a3_read_of v link regions t c d ≡ bad
+      module _ {n : ℕ} (k : n ≡ per_region c) (s : a.state ≡ EMPTY → ⊥) where
+        pub a3_read_of-chain : has_chain n w ≡ false → a3_read_of v link regions t c d ≡ bad
         unfolding a3_read_of
-        a3_read_of-chain h = rw (a, s, h)
+        a3_read_of-chain h = rw (← f, b, state _ g (ne_eqb _ _ s), ← k, h)
 
-        pub a3_read_of-noted : has_chain (per_region c) (v (Anchor d)) ≡ true
+        pub a3_read_of-noted : has_chain n w ≡ true
             → a3_read_of v link regions t c d
-            ≡ accept nothing (TaskPlace t := A3_EXCHANGE ∷ TaskAnchor t := v (Anchor d) ∷ []) []
+            ≡ accept nothing (TaskPlace t := A3_EXCHANGE ∷ TaskAnchor t := w ∷ []) []
         unfolding a3_read_of
-        a3_read_of-noted h = rw (a, s, h)
+        a3_read_of-noted h = rw (← f, b, state _ g (ne_eqb _ _ s), ← k, h)
 
-  pub a3_read-none : DESCRIPTORS ≤ v (TaskDescriptor t) → a3_read v link regions t c ≡ bad
-  unfolding a3_read
-  a3_read-none h = rw (le-ltb _ _ h)
+  -- the task has the descriptor d in hand
+  module _ {d : ℕ} (e : d ≡ v (TaskDescriptor t)) where
+    pub a3_read-none : DESCRIPTORS ≤ d → a3_read v link regions t c ≡ bad
+    unfolding a3_read
+    a3_read-none h = rw (← e, le-ltb _ _ h)
 
-  pub a3_read-some : {d : ℕ} → d ≡ v (TaskDescriptor t) → d < DESCRIPTORS
-      → a3_read v link regions t c ≡ a3_read_of v link regions t c d
-  unfolding a3_read
-  a3_read-some e h = rw (← e, lt-ltb _ _ h)
+    pub a3_read-some : d < DESCRIPTORS → a3_read v link regions t c ≡ a3_read_of v link regions t c d
+    unfolding a3_read
+    a3_read-some h = rw (← e, lt-ltb _ _ h)
 
-  module _ (d word : ℕ) where
-    pub a3_exchange_of-none : is_anchor (v (Anchor d)) ≡ false → a3_exchange_of v link regions t c d word ≡ bad
+  -- the anchor of the descriptor d is w
+  module _ (d word : ℕ) {w : ℕ} (f : w ≡ v (Anchor d)) where
+    pub a3_exchange_of-none : is_anchor w ≡ false → a3_exchange_of v link regions t c d word ≡ bad
     unfolding a3_exchange_of
-    a3_exchange_of-none h = rw h
+    a3_exchange_of-none h = rw (← f, h)
 
-    module _ (a : is_anchor (v (Anchor d)) ≡ true) where
-      pub a3_exchange_of-lost : (v (Anchor d) ≡ word → ⊥)
+    module _ (b : is_anchor w ≡ true) where
+      pub a3_exchange_of-lost : (w ≡ word → ⊥)
           → a3_exchange_of v link regions t c d word ≡ lose v t (anchor_lost d) A3_READ
       unfolding a3_exchange_of
-      a3_exchange_of-lost h = rw (a, ne_eqb _ _ h)
+      a3_exchange_of-lost h = rw (← f, b, ne_eqb _ _ h)
 
-      pub a3_exchange_of-region : v (Anchor d) ≡ word → regions ≤ v (DescriptorRegion d)
-          → a3_exchange_of v link regions t c d word ≡ bad
-      unfolding a3_exchange_of
-      a3_exchange_of-region w h = rw (a, eq-eqb _ _ w, le-ltb _ _ h)
+      module _ (g : w ≡ word) {r : ℕ} (e : r ≡ v (DescriptorRegion d)) where
+        pub a3_exchange_of-region : regions ≤ r → a3_exchange_of v link regions t c d word ≡ bad
+        unfolding a3_exchange_of
+        a3_exchange_of-region h = rw (← f, b, eq-eqb _ _ g, ← e, le-ltb _ _ h)
 
-      pub a3_exchange_of-won : {r f i k : ℕ} → r ≡ v (DescriptorRegion d) → f ≡ full_word c → i ≡ (anchor_of word).avail
-          → k ≡ (anchor_of word).count → v (Anchor d) ≡ word → r < regions
-          → a3_exchange_of v link regions t c d word
-          ≡ accept (took d)
-          (TaskPlace t := A4 ∷ Anchor d := f ∷ TaskRegion t := r ∷ TaskIndex t := i ∷ TaskLeft t := k ∷ []) []
-      unfolding a3_exchange_of
-      a3_exchange_of-won e f i k w h = rw (a, eq-eqb _ _ w, ← e, lt-ltb _ _ h, f, i, k)
+        -- the parts of the anchor are a
+        pub a3_exchange_of-won : {full : ℕ} {a : Parts} → full ≡ full_word c → a ≡ anchor_of w → r < regions
+            → a3_exchange_of v link regions t c d word
+            ≡ accept (took d)
+            (TaskPlace t := A4
+            ∷ Anchor d := full
+            ∷ TaskRegion t := r
+            ∷ TaskIndex t := a.avail
+            ∷ TaskLeft t := a.count
+            ∷ [])
+            []
+        unfolding a3_exchange_of
+        a3_exchange_of-won k i h = rw (← f, b, eq-eqb _ _ g, ← e, lt-ltb _ _ h, k, i, g)
 
-  pub a3_exchange-none : DESCRIPTORS ≤ v (TaskDescriptor t) → a3_exchange v link regions t c ≡ bad
-  unfolding a3_exchange
-  a3_exchange-none h = rw (le-ltb _ _ h)
+  -- the task has the descriptor d in hand
+  module _ {d : ℕ} (e : d ≡ v (TaskDescriptor t)) where
+    pub a3_exchange-none : DESCRIPTORS ≤ d → a3_exchange v link regions t c ≡ bad
+    unfolding a3_exchange
+    a3_exchange-none h = rw (← e, le-ltb _ _ h)
 
-  pub a3_exchange-chain : v (TaskDescriptor t) < DESCRIPTORS → has_chain (per_region c) (v (TaskAnchor t)) ≡ false
-      → a3_exchange v link regions t c ≡ bad
-  unfolding a3_exchange
-  a3_exchange-chain h k = rw (lt-ltb _ _ h, k)
+    -- and has noted the anchor `word`
+    module _ (l : d < DESCRIPTORS) {word n : ℕ} (f : word ≡ v (TaskAnchor t)) (k : n ≡ per_region c) where
+      pub a3_exchange-chain : has_chain n word ≡ false → a3_exchange v link regions t c ≡ bad
+      unfolding a3_exchange
+      a3_exchange-chain h = rw (← e, lt-ltb _ _ l, ← f, ← k, h)
 
-  pub a3_exchange-some : {d word : ℕ} → d ≡ v (TaskDescriptor t) → word ≡ v (TaskAnchor t) → d < DESCRIPTORS
-      → has_chain (per_region c) (v (TaskAnchor t)) ≡ true
-      → a3_exchange v link regions t c ≡ a3_exchange_of v link regions t c d word
-  unfolding a3_exchange
-  a3_exchange-some e f h k = rw (k, ← e, ← f, lt-ltb _ _ h)
+      pub a3_exchange-some : has_chain n word ≡ true
+          → a3_exchange v link regions t c ≡ a3_exchange_of v link regions t c d word
+      unfolding a3_exchange
+      a3_exchange-some h = rw (← e, lt-ltb _ _ l, ← f, ← k, h)

@@ -1,3 +1,2 @@
 -- Laws of the steps of an allocation that take.
-pub mod TakingBounds
 pub mod AllocateWays

@@ -1,4 +1,2 @@
--- The steps' ways out.
-pub mod PuttingWays
-pub mod GroupingWays
+-- What the steps' proofs share.
 pub mod Fitting

@@ -1,67 +1,50 @@
 -- The search for the next cache, and what a step makes of what it found.
-use Prim.Native.Nat.{ℕ, suc, ◌+◌, ◌-◌, ◌≤◌, ◌<◌}
+use Prim.Native.Nat.{ℕ, suc, ◌+◌, ◌-◌, ◌<◌}
 use native.Mathlib.Omega.{arith}
-use mathlib.Core.Path.{◌≡◌, refl, sym, ap, ◌∙◌}
+use mathlib.Core.Path.{◌≡◌, refl, ap, ◌∙◌}
 use mathlib.Core.Logic.{◌≢◌}
 use mathlib.Core.Bool.{Bool, true, false, cond}
 use mathlib.Core.List.{List, [], ◌∷◌}
-use borrow.Author.Tests.{le-leb, lt-leb, eq-eqb, ne_eqb}
+use borrow.Author.Tests.{eq-eqb, ne_eqb}
 use lib.Dec.{eqb}
 use Rattle.limits.specs.Limits.{CLASSES}
 use Rattle.fields.specs.Columns.{View, Write, ◌:=◌}
-use Rattle.classes.specs.Classes.{per_region}
 use Rattle.plain.specs.Moves.{Decided}
 use Rattle.control.specs.Layout.{changed, CacheCount, GroupCount, TaskPlace, TaskClass}
 use Rattle.control.specs.Places.{F2, LEAVE_END}
-use Rattle.control.specs.declared.answer.Answer.TheVariants.{Accepted, Refused}
+use Rattle.control.specs.declared.answer.Answer.TheVariants.{Accepted}
+use Rattle.limits.specs.declared.refusal.Refusal.TheVariants.{OutOfRange}
+use Rattle.control.specs.declared.answer.Answer.{Answer}
+use Rattle.limits.specs.declared.refusal.Refusal.{Refusal}
+use Rattle.std.specs.declared.result.Result.{Result}
+use Rattle.std.specs.Prelude.{Ok}
+use Rattle.std.specs.Result.{IsErrAnd}
+use Rattle.std.proofs.lemmas.Result.{err_from_is_err_and}
 use Rattle.stepped.specs.Outcome.{bad, accept}
 use Rattle.stepped.specs.Done.{Done}
-use Rattle.stepped.specs.Leaving.{first_cached, next_cached, leave_writes, leave_from}
+use Rattle.stepped.specs.Leaving.{first_cached, next_cached, count_fits, leave_writes, leave_from}
 use Rattle.stepped.proofs.Doing.{done}
 use Rattle.steps_leave.specs.Goes.{Goes}
 
 -- ---- the search
 
 module _ (v : View) (t : ℕ) where
-  pub next-none : (c : ℕ) → c ≡ CLASSES → c ≡ next_cached v t c
+  pub next-none : (c : ℕ) → c ≡ CLASSES → next_cached v t c ≡ CLASSES
   unfolding first_cached
   next-none c e = rw e refl
 
-  pub next_here : (c : ℕ) → c < CLASSES → v (CacheCount t c) ≢ 0 → c ≡ next_cached v t c
+  pub next_here : (j c : ℕ) → j ≡ c → c < CLASSES → v (CacheCount t j) ≢ 0 → j ≡ next_cached v t c
   unfolding first_cached
-  next_here c l n =
+  next_here j c e l n =
       let d : CLASSES - c ≡ suc (CLASSES - suc c) = omega arith in
-      rw (d, ne_eqb (v (CacheCount t c)) 0 n) refl
+      rw (d, ne_eqb (v (CacheCount t c)) 0 (rw (← e) n)) e
 
-  pub next-further : (c : ℕ) → c < CLASSES → v (CacheCount t c) ≡ 0 → next_cached v t (c + 1) ≡ next_cached v t c
+  pub next-further : (j c : ℕ) → j ≡ c → c < CLASSES → v (CacheCount t j) ≡ 0
+      → next_cached v t (c + 1) ≡ next_cached v t c
   unfolding first_cached
-  next-further c l e =
+  next-further j c i l e =
       let d : CLASSES - c ≡ suc (CLASSES - (c + 1)) = omega arith in
-      rw (d, eq-eqb (v (CacheCount t c)) 0 e) refl
-
--- ---- the ways of the code
-
-module _ {v : View} {t c : ℕ} {before after : List ℕ} where
-  pub to_end : (j : ℕ) → j ≡ next_cached v t c → j ≡ CLASSES → after ≡ changed (TaskPlace t := LEAVE_END ∷ []) before
-      → Goes v t c before after true
-  to_end j e n h =
-      let i = eq-eqb (next_cached v t c) CLASSES (sym e ∙ n) in
-      record { fits = rw i; control = rw i h }
-
-  module _ (j : ℕ) (e : j ≡ next_cached v t c) (n : j ≢ CLASSES) where
-    pub too_many : per_region j < v (CacheCount t j) → after ≡ before → Goes v t c before after false
-    too_many l h = record {
-      fits = rw (← e, ne_eqb j CLASSES n, lt-leb (v (CacheCount t j)) (per_region j) l);
-      control = h;
-    }
-
-    pub to-cache : v (CacheCount t j) ≤ per_region j
-        → after ≡ changed (TaskPlace t := F2 ∷ TaskClass t := j ∷ GroupCount t := 0 ∷ []) before
-        → Goes v t c before after true
-    to-cache l h = record {
-      fits = rw (← e, ne_eqb j CLASSES n, le-leb (v (CacheCount t j)) (per_region j) l);
-      control = rw (← e, ne_eqb j CLASSES n) h;
-    }
+      rw (d, eq-eqb (v (CacheCount t c)) 0 (rw (← i) e)) refl
 
 -- ---- what a step makes of it
 
@@ -74,17 +57,19 @@ both-writes : (p : Bool) (t j : ℕ) (ws : List Write) (before : List ℕ)
 both-writes true t j ws before = refl
 both-writes false t j ws before = refl
 
--- r is what the search told
-module _ {v : View} {t c : ℕ} (e : Decided) {before between : List ℕ} {r : Bool} where
-  pub gone : (ws : List Write) {after : List ℕ} → Goes v t c before between r → r ≡ true → after ≡ changed ws between
-      → Done (leave_from v t c e ws) before after Accepted
+module _ {v : View} {t c : ℕ} (e : Decided) {before between : List ℕ} where
+  pub gone : (ws : List Write) {after : List ℕ} → Goes v t c before between → after ≡ changed ws between
+      → Done (leave_from v t c e ws) before after (Ok Accepted)
   unfolding leave_from
-  gone ws g i h =
+  gone ws g h =
       let j = next_cached v t c in
-      done {o' = accept e (leave_writes v t j ws) []} (rw (← g.fits, i) refl) refl
-      (h ∙ ap (changed ws) (rw i at g.control) ∙ both-writes (eqb j CLASSES) t j ws before) refl
+      done {o' = accept e (leave_writes v t j ws) []} (rw g.fits refl) refl
+      (h ∙ ap (changed ws) g.control ∙ both-writes (eqb j CLASSES) t j ws before) refl
 
-  pub not-gone : (ws : List Write) → Goes v t c before between r → r ≡ false
-      → Done (leave_from v t c e ws) before between (Refused 14)
-  unfolding leave_from
-  not-gone ws g i = done {o' = bad} (rw (← g.fits, i) refl) refl (rw i at g.control) refl
+-- the exit of a `?`, where the count is out of its range
+pub not-gone : (v : View) (t c : ℕ) (e : Decided) (ws : List Write) (before after : List ℕ) (r : Result Answer Refusal)
+    → count_fits v t (next_cached v t c) ≡ false → after ≡ before → IsErrAnd r (λ d. d ≡ OutOfRange)
+    → Done (leave_from v t c e ws) before after r
+unfolding leave_from
+not-gone v t c e ws before after r g i h =
+    let p = err_from_is_err_and r h in done {o' = bad} (rw g refl) (rw (p.1, p.2) refl) i refl

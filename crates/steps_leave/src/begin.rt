@@ -1,24 +1,21 @@
 // The beginning of leaving.
-ghost use Rattle.std.specs.Prelude.{◌<◌};
-ghost use Rattle.limits.specs.Limits.{TASKS};
-ghost use Rattle.control.specs.Layout.{Control, seen};
+ghost use Rattle.control.specs.Layout.{seen};
 ghost use Rattle.stepped.specs.Done.{Done};
 ghost use Rattle.stepped.specs.Leaving.{begin_leave};
 
 use crate::next;
 use control::answer::Answer;
-use control::{losts, notes};
+use control::column::Control;
+use control::layout;
+use limits::index::Task;
+use limits::refusal::Refusal;
 
 // Begins leaving, with the first cache that is not empty. Caller: the beginning of a request, by an idle task.
-pub fn begin(control: &mut [u8], task: usize) -> Answer
-    requires { Control control.old × (task < TASKS) }
-    ensures { Done (begin_leave (seen control.old) task)
-        control.old control.new result }
+pub fn begin(control: &mut Control, task: Task) -> Result<Answer, Refusal>
+    ensures { Done (begin_leave (seen control.old) task) control.old control.new result }
 {
-    if !next::go(control, task, 0) {
-        return Answer::Refused(14);
-    }
-    notes::set_task_unit(control, task, notes::LEAVING);
-    losts::set_task_lost(control, task, 0);
-    Answer::Accepted
+    next::go(control, task, 0)?;
+    layout::TASK_UNITS.set(control, task, layout::LEAVING);
+    layout::TASK_LOSTS.set(control, task, 0);
+    Ok(Answer::Accepted)
 }

@@ -1,3 +1,2 @@
--- Laws of what the list moves share.
-pub mod Reasons
+-- Laws of where a return goes on.
 pub mod Following

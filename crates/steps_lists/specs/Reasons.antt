@@ -1,15 +1,13 @@
 -- docs/POOL.md, "Requests, steps and moves"
 -- Where a pop leads, by its reason.
-use Rattle.std.specs.Prelude.{ℕ, List, [], ◌∷◌}
-use Rattle.fields.specs.Columns.{Write, ◌:=◌}
-use Rattle.control.specs.Layout.{Head, TaskPlace}
-use Rattle.control.specs.declared.answer.Answer.{Answer}
-use Rattle.control.specs.declared.answer.Answer.TheVariants.{Accepted, NoDescriptor}
+use Rattle.std.specs.Prelude.{ℕ}
+use Rattle.control.specs.Answers.{Answer}
+use Rattle.control.specs.Answers.{Accepted, NoDescriptor}
 use Rattle.control.specs.declared.moves.Pop.{Pop}
 use Rattle.control.specs.declared.moves.Pop.TheVariants.{Partial, Spare, Region}
 use Rattle.control.specs.declared.moves.Push.TheVariants.{Back}
 use Rattle.control.specs.Places.{IDLE, A3_READ, A7}
-use Rattle.stepped.specs.Lists.{pop_place, pop_list, pop_items, push_place, hand_field}
+use Rattle.stepped.specs.Lists.{pop_place, push_place}
 
 -- the place to which a pop that finds its list empty leads: allocate, step 2 "Empty: go to 5", step 5 "Empty: end with
 -- 12", step 6 "Empty: push the descriptor back"
@@ -29,8 +27,3 @@ abbrev pub popped_place : Pop → ℕ
 popped_place Partial = A3_READ
 popped_place Spare = pop_place Region
 popped_place Region = A7
-
--- the writes of a won pop, which leaves the task t with the item x in hand and the list with the head `word`
-abbrev pub taken : ℕ → ℕ → Pop → ℕ → ℕ → List Write
-taken t c p x word =
-    TaskPlace t := popped_place p ∷ hand_field (pop_items p) t := x ∷ Head (pop_list p c) := word ∷ []

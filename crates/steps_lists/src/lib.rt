@@ -6,3 +6,4 @@ pub mod follow;
 pub mod heads;
 pub mod items;
 pub mod reason;
+pub mod shared;

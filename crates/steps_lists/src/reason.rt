@@ -1,48 +1,113 @@
-// What the reason of a list move decides: its list, how many items there are, its first place and where it leads. The
-// callers are the steps of the list moves, whose class and number of regions the call has tested.
-ghost use Rattle.std.specs.Prelude.{◌≡◌, ◌<◌, ◌≤◌};
-ghost use Rattle.limits.specs.Limits.{REGIONS, CLASSES, DESCRIPTORS, LISTS};
-ghost use Rattle.control.specs.Places.{POP_REGION, PUSH_OFFER};
-ghost use Rattle.stepped.specs.Lists.{how_many, pop_list, pop_items, pop_place, push_list, push_items, push_place};
+// What the reason of a list move decides: its list, what the items are, its first place and where it leads. The callers
+// are the steps of the list moves.
+ghost use Rattle.std.specs.Prelude.{◌≡◌, Ok};
+ghost use Rattle.control.specs.Answers.{answer_of};
 ghost use Rattle.steps_lists.specs.Reasons.{empty_place, empty_answer, popped_place};
 
+use crate::items::Items;
 use control::answer::Answer;
 use control::moves::{Pop, Push};
 use control::places;
+use limits::index::{Class, List};
 
-// The list that is popped.
-pub fn pop_list(pop: Pop, class: usize) -> usize
-    requires { class < CLASSES }
-    ensures { (result ≡ pop_list pop class) × (result < LISTS) }
-{
-    match pop {
-        Pop::Partial => class,
-        Pop::Spare => limits::SPARE_DESCRIPTORS,
-        Pop::Region => limits::SPARE_REGIONS,
+// A pop or a push, by its reason.
+pub trait ListMove: Copy {
+    ghost use Rattle.std.specs.Prelude.{ℕ, ◌≤◌};
+    ghost use Rattle.control.specs.Places.{PUSH_OFFER};
+    ghost use Rattle.stepped.specs.Lists.{Items};
+    ghost use Rattle.steps_lists.specs.Kinds.{kind};
+
+    // Its list, for a request of a class.
+    ghost list: { Self → ℕ → ℕ };
+
+    // What the items of its list are.
+    ghost items: { Self → Items };
+
+    // The place of its head read.
+    ghost place: { Self → ℕ };
+
+    // The list that is popped or pushed on.
+    fn list(self, class: Class) -> List
+        ensures { result ≡ list self class };
+
+    // What the items of the list are.
+    fn items(self) -> Items
+        ensures { kind result ≡ items self };
+
+    // The place of the head read; the other two steps follow it.
+    fn place(self) -> u8
+        ensures same { result ≡ place self }
+        ensures inside { result ≤ PUSH_OFFER };
+}
+
+impl ListMove for Pop {
+    ghost use Rattle.stepped.specs.Lists.{pop_list, pop_items, pop_place};
+
+    ghost list = { pop_list };
+
+    ghost items = { pop_items };
+
+    ghost place = { pop_place };
+
+    fn list(self, class: Class) -> List {
+        match self {
+            Pop::Partial => List::new(class.get()),
+            Pop::Spare => List::new(limits::SPARE_DESCRIPTORS),
+            Pop::Region => List::new(limits::SPARE_REGIONS),
+        }
+    }
+
+    fn items(self) -> Items {
+        match self {
+            Pop::Partial => Items::Descriptors,
+            Pop::Spare => Items::Descriptors,
+            Pop::Region => Items::Regions,
+        }
+    }
+
+    fn place(self) -> u8 {
+        match self {
+            Pop::Partial => places::POP_PARTIAL,
+            Pop::Spare => places::POP_SPARE,
+            Pop::Region => places::POP_REGION,
+        }
     }
 }
 
-// The most that an item's number plus one may be: how many items there are, no more than with the most regions.
-pub fn pop_most(pop: Pop, regions: usize) -> usize
-    requires { regions ≤ REGIONS }
-    ensures { (result ≡ how_many (pop_items pop) regions) × (result ≤ how_many (pop_items pop) REGIONS)
-        × (result ≤ DESCRIPTORS) }
-{
-    match pop {
-        Pop::Partial => limits::DESCRIPTORS,
-        Pop::Spare => limits::DESCRIPTORS,
-        Pop::Region => regions,
-    }
-}
+impl ListMove for Push {
+    ghost use Rattle.stepped.specs.Lists.{push_list, push_items, push_place};
 
-// The place of the head read; the other two steps follow it.
-pub fn pop_place(pop: Pop) -> u8
-    ensures { (result ≡ pop_place pop) × (result ≤ POP_REGION) }
-{
-    match pop {
-        Pop::Partial => places::POP_PARTIAL,
-        Pop::Spare => places::POP_SPARE,
-        Pop::Region => places::POP_REGION,
+    ghost list = { push_list };
+
+    ghost items = { push_items };
+
+    ghost place = { push_place };
+
+    fn list(self, class: Class) -> List {
+        match self {
+            Push::Retire => List::new(limits::SPARE_DESCRIPTORS),
+            Push::Back => List::new(limits::SPARE_DESCRIPTORS),
+            Push::Release => List::new(limits::SPARE_REGIONS),
+            Push::Offer => List::new(class.get()),
+        }
+    }
+
+    fn items(self) -> Items {
+        match self {
+            Push::Retire => Items::Descriptors,
+            Push::Back => Items::Descriptors,
+            Push::Release => Items::Regions,
+            Push::Offer => Items::Descriptors,
+        }
+    }
+
+    fn place(self) -> u8 {
+        match self {
+            Push::Retire => places::PUSH_RETIRE,
+            Push::Back => places::PUSH_BACK,
+            Push::Release => places::PUSH_RELEASE,
+            Push::Offer => places::PUSH_OFFER,
+        }
     }
 }
 
@@ -60,7 +125,7 @@ pub fn empty_place(pop: Pop) -> u8
 
 // What is answered on an empty list.
 pub fn empty_answer(pop: Pop) -> Answer
-    ensures { result ≡ empty_answer pop }
+    ensures { answer_of (Ok result) ≡ empty_answer pop }
 {
     match pop {
         Pop::Partial => Answer::Accepted,
@@ -77,44 +142,5 @@ pub fn popped_place(pop: Pop) -> u8
         Pop::Partial => places::A3_READ,
         Pop::Spare => places::POP_REGION,
         Pop::Region => places::A7,
-    }
-}
-
-// The list that is pushed on.
-pub fn push_list(push: Push, class: usize) -> usize
-    requires { class < CLASSES }
-    ensures { (result ≡ push_list push class) × (result < LISTS) }
-{
-    match push {
-        Push::Retire => limits::SPARE_DESCRIPTORS,
-        Push::Back => limits::SPARE_DESCRIPTORS,
-        Push::Release => limits::SPARE_REGIONS,
-        Push::Offer => class,
-    }
-}
-
-// The most that an item's number plus one may be: how many items there are, no more than with the most regions.
-pub fn push_most(push: Push, regions: usize) -> usize
-    requires { regions ≤ REGIONS }
-    ensures { (result ≡ how_many (push_items push) regions) × (result ≤ how_many (push_items push) REGIONS)
-        × (result ≤ DESCRIPTORS) }
-{
-    match push {
-        Push::Retire => limits::DESCRIPTORS,
-        Push::Back => limits::DESCRIPTORS,
-        Push::Release => regions,
-        Push::Offer => limits::DESCRIPTORS,
-    }
-}
-
-// The place of the head read; the other two steps follow it.
-pub fn push_place(push: Push) -> u8
-    ensures { (result ≡ push_place push) × (result ≤ PUSH_OFFER) }
-{
-    match push {
-        Push::Retire => places::PUSH_RETIRE,
-        Push::Back => places::PUSH_BACK,
-        Push::Release => places::PUSH_RELEASE,
-        Push::Offer => places::PUSH_OFFER,
     }
 }

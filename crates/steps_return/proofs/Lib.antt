@@ -1,3 +1,2 @@
--- The steps' ways out.
-pub mod ReturningWays
-pub mod ClearingWays
+-- What the steps' proofs share.
+pub mod Fitting

@@ -1,116 +1,67 @@
 // Step 3: the anchor is read, and the link of the group's last block is written.
-ghost use Rattle.std.specs.Prelude.{ℕ, ◌<◌};
-ghost use Rattle.limits.specs.Limits.{DESCRIPTORS};
+ghost use Rattle.std.specs.Prelude.{ℕ};
 ghost use Rattle.links.specs.Link.{link};
 ghost use Rattle.control.specs.Layout.{seen};
-ghost use Rattle.stepped.specs.Done.{Given, GivenArea, Done, DoneIn};
-ghost use Rattle.stepped.specs.Free.{f3_read_of, f3_read_by, f3_read, f3_link};
+ghost use Rattle.stepped.specs.Done.{AreaOf, Done, DoneIn};
+ghost use Rattle.stepped.specs.Free.{f3_read, f3_link};
 
-use crate::parts;
+use classes::{geometry, table};
 use control::answer::Answer;
-use control::places;
+use control::column::Control;
+use control::request::Request;
+use control::{layout, places};
+use limits::index::{Descriptor, in_range};
+use limits::refusal::Refusal;
+use words::anchor::Anchor;
 
-// The anchor of the descriptor is noted, if a group of so many blocks can be put before its chain. Caller: `read_by`.
-fn read_of(
-    control: &mut [u8],
-    regions: usize,
-    task: usize,
-    class: usize,
-    descriptor: u8,
-    group: u16,
-) -> Answer
-    requires { Given control.old regions task class × (descriptor < DESCRIPTORS) }
-    ensures { (link : ℕ → ℕ)
-        → Done (f3_read_of (seen control.old) link regions task class descriptor group)
+// Step 3, the read of the anchor, through the map entry of the group's region: it is noted, if the group can be put
+// before the chain. Caller: the step of a task at F3_READ.
+#[tactic(auto, unfolding(stepped::specs::Free::f3_read, stepped::specs::Free::f3_read_by, stepped::specs::Free::f3_read_of))]
+pub fn read(control: &mut Control, request: Request) -> Result<Answer, Refusal>
+    ensures { (link : ℕ → ℕ) → Done (f3_read (seen control.old) link request.regions request.task request.class)
         control.old control.new result }
 {
-    let word = control::regions::anchor(control, descriptor as usize);
-    if !ranges::is_anchor(word) {
-        return Answer::Refused(14);
-    }
-    if !ranges::has_room(classes::table::per_region(class), group as usize, word) {
-        return Answer::Refused(14);
-    }
-    control::tasks::set_task_place(control, task, places::F3_LINK);
-    control::tasks::set_task_descriptor(control, task, descriptor);
-    control::notes::set_task_anchor(control, task, word);
-    Answer::Accepted
-}
-
-// The descriptor that a map entry names. Caller: `read`.
-fn read_by(
-    control: &mut [u8],
-    regions: usize,
-    task: usize,
-    class: usize,
-    entry: u8,
-    group: u16,
-) -> Answer
-    requires { Given control.old regions task class }
-    ensures { (link : ℕ → ℕ) → Done (f3_read_by (seen control.old) link regions task class entry group)
-        control.old control.new result }
-{
-    if entry < 1 {
-        return Answer::Refused(14);
-    }
-    if limits::DESCRIPTORS < (entry as usize) {
-        return Answer::Refused(14);
-    }
-    read_of(control, regions, task, class, entry - 1, group)
-}
-
-// Step 3, the read of the anchor, through the map entry of the group's region. Caller: the step of a task at F3_READ.
-pub fn read(control: &mut [u8], regions: usize, task: usize, class: usize) -> Answer
-    requires { Given control.old regions task class }
-    ensures { (link : ℕ → ℕ) → Done (f3_read (seen control.old) link regions task class)
-        control.old control.new result }
-{
-    let region = control::tasks::task_region(control, task) as usize;
-    if regions <= region {
-        return Answer::Refused(14);
-    }
-    let group = control::notes::group_count(control, task);
-    if group < 1 {
-        return Answer::Refused(14);
-    }
-    if classes::table::per_region(class) < (group as usize) {
-        return Answer::Refused(14);
-    }
-    let entry = control::regions::map(control, region);
-    read_by(control, regions, task, class, entry, group)
+    let Request { task, class, .. } = request;
+    let n = table::per_region(class);
+    let noted = layout::TASK_REGIONS.get(control, task) as usize;
+    let region = request.regions.region(noted)?;
+    let group = layout::GROUP_COUNTS.get(control, task) as usize;
+    in_range(1 <= group && group <= n)?;
+    let entry = layout::MAP_ENTRIES.get(control, region) as usize;
+    in_range(1 <= entry)?;
+    let descriptor = Descriptor::of(entry - 1)?;
+    let word = layout::ANCHORS.get(control, descriptor);
+    in_range(ranges::is_anchor(word))?;
+    in_range(ranges::has_room(n, group, word))?;
+    layout::TASK_PLACES.set(control, task, places::F3_LINK);
+    layout::TASK_DESCRIPTORS.set(control, task, descriptor.get() as u8);
+    layout::TASK_ANCHORS.set(control, task, word);
+    Ok(Answer::Accepted)
 }
 
 // Step 3, the last link: that of the group's last block is written to the noted anchor's avail. Caller: the step of a
 // task at F3_LINK.
+#[tactic(auto, unfolding(stepped::specs::Free::f3_link))]
 pub fn write_last(
-    control: &mut [u8],
+    control: &mut Control,
     area: &mut [u8],
-    regions: usize,
-    task: usize,
-    class: usize,
-) -> Answer
-    requires { GivenArea control.old area.old regions task class }
-    ensures { DoneIn (f3_link (seen control.old) (link area.old) regions task class)
+    request: Request,
+) -> Result<Answer, Refusal>
+    requires { AreaOf request.regions area.old }
+    ensures { DoneIn (f3_link (seen control.old) (link area.old) request.regions request.task request.class)
         control.old area.old control.new area.new result }
 {
-    let n = classes::table::per_region(class);
-    let region = control::tasks::task_region(control, task) as usize;
-    if regions <= region {
-        return Answer::Refused(14);
-    }
-    let last = control::notes::group_last(control, task) as usize;
-    if n <= last {
-        return Answer::Refused(14);
-    }
-    let word = control::notes::task_anchor(control, task);
-    if !ranges::is_anchor(word) {
-        return Answer::Refused(14);
-    }
-    if !ranges::has_first(n, word) {
-        return Answer::Refused(14);
-    }
-    let unit = classes::geometry::first_unit(region, class, last);
-    links::write(area, unit, parts::avail_of(word));
-    control::tasks::set_task_place(control, task, places::F3_EXCHANGE);
-    Answer::Accepted
+    let Request { task, class, .. } = request;
+    let n = table::per_region(class);
+    let noted = layout::TASK_REGIONS.get(control, task) as usize;
+    let region = request.regions.region(noted)?;
+    let last = layout::GROUP_LASTS.get(control, task) as usize;
+    in_range(last < n)?;
+    let word = layout::TASK_ANCHORS.get(control, task);
+    in_range(ranges::is_anchor(word))?;
+    in_range(ranges::has_first(n, word))?;
+    let unit = geometry::first_unit(region, class, last);
+    links::write(area, unit, Anchor::of(word).avail);
+    layout::TASK_PLACES.set(control, task, places::F3_EXCHANGE);
+    Ok(Answer::Accepted)
 }

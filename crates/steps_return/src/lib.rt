@@ -5,4 +5,3 @@
 pub mod anchor;
 pub mod exchange;
 pub mod map;
-pub mod parts;

@@ -5,11 +5,13 @@ use mathlib.Core.Logic.{◌≢◌}
 use mathlib.Core.Bool.{true, false}
 use mathlib.Core.List.{List, [], ◌∷◌}
 use borrow.Author.Tests.{lt-ltb, le-ltb, le-leb, lt-leb, eq-eqb, ne_eqb}
+use lib.Dec.{leb}
 use Rattle.limits.specs.Limits.{WHOLE_ORDER, ORDERS}
 use Rattle.fields.specs.Columns.{View, ◌:=◌}
 use Rattle.strip_tree.specs.declared.tree.Tree.{Tree}
+use Rattle.std.specs.declared.option.Option.{Option}
+use Rattle.std.specs.declared.option.Option.TheVariants.{None, Some}
 use Rattle.strip_tree.specs.declared.find.Found.{Found}
-use Rattle.strip_tree.specs.declared.find.Found.TheVariants.{At, Nothing}
 use Rattle.strip_tree.specs.Trees.{without_free}
 use Rattle.strip_tree.specs.TreeMoves.{find, halving, joining, node_of, slot_of_node, can_begin}
 use Rattle.strip_tree.specs.SlotStates.{IN_HAND, FREE_BEGUN, LAST_BYTE, order_in}
@@ -17,7 +19,7 @@ use Rattle.pieces.specs.StripUnits.{strip_unit, slot_of_unit, is_strip_unit}
 use Rattle.plain.specs.Moves.{nothing, strip_taken, strip_given, no_strip}
 use Rattle.control.specs.Layout.{changed, SlotByte, TaskLost, TaskPlace, TaskUnit}
 use Rattle.control.specs.Places.{IDLE, STRIP_GIVE}
-use Rattle.control.specs.declared.answer.Answer.TheVariants.{Allocated, Freed, NoStrip}
+use Rattle.control.specs.Answers.{Allocated, Freed, NoStrip}
 use Rattle.stepped.specs.Outcome.{refuse, bad, accept, over}
 use Rattle.stepped.specs.StripSteps.{tree_of, tree_writes, strip_take, strip_take_at, strip_give, strip_give_at}
 use Rattle.stepped.specs.StripSteps.{begin_free_at, begin_free_strip}
@@ -48,12 +50,12 @@ module _ (v : View) (t c : ℕ) where
     unfolding strip_take_at
     cut i j = rw read
 
-    module _ (h : c < ORDERS) (f : Found) (sought : f ≡ find tree c) where
-      pub take-one : (i j : ℕ) → f ≡ At i j → strip_take v t c ≡ strip_take_at v t c i j
+    module _ (h : c < ORDERS) (f : Option Found) (sought : f ≡ find tree c) where
+      pub take-one : (y : Found) → f ≡ Some y → strip_take v t c ≡ strip_take_at v t c y.node y.order
       unfolding strip_take
-      take-one i j e = rw (lt-ltb _ _ h, ← read, ← sought, e)
+      take-one y e = rw (lt-ltb _ _ h, ← read, ← sought, e)
 
-      pub take_none : f ≡ Nothing → strip_take v t c ≡ over NoStrip no_strip (TaskPlace t := IDLE ∷ []) []
+      pub take_none : f ≡ None → strip_take v t c ≡ over NoStrip no_strip (TaskPlace t := IDLE ∷ []) []
       unfolding strip_take
       take_none e = rw (lt-ltb _ _ h, ← read, ← sought, e)
 
@@ -84,19 +86,19 @@ module _ (v : View) (t : ℕ) where
   module _ (s x : ℕ) (read : x ≡ v (SlotByte s)) where
     -- ---- the step that frees a strip, by its slot
 
-    pub give-small : x < FREE_BEGUN → strip_give_at v t s ≡ bad
+    pub give-small : leb FREE_BEGUN x ≡ false → strip_give_at v t s ≡ bad
     unfolding strip_give_at
-    give-small h = rw (← read, lt-leb _ _ h)
+    give-small h = rw (← read, h)
 
-    module _ (h : FREE_BEGUN ≤ x) where
-      pub give-large : LAST_BYTE < x → strip_give_at v t s ≡ bad
+    module _ (h : leb FREE_BEGUN x ≡ true) where
+      pub give-large : leb x LAST_BYTE ≡ false → strip_give_at v t s ≡ bad
       unfolding strip_give_at
-      give-large l = rw (← read, le-leb _ _ h, lt-leb _ _ l)
+      give-large l = rw (← read, h, l)
 
-      module _ (l : x ≤ LAST_BYTE) (k : ℕ) (order : k ≡ order_in x) where
+      module _ (l : leb x LAST_BYTE ≡ true) (k : ℕ) (order : k ≡ order_in x) where
         pub give-bad : can_begin s k ≡ false → strip_give_at v t s ≡ bad
         unfolding strip_give_at
-        give-bad d = rw (← read, le-leb _ x h, le-leb x _ l, ← order, d)
+        give-bad d = rw (← read, h, l, ← order, d)
 
         pub give-done : can_begin s k ≡ true
             → strip_give_at v t s
@@ -106,7 +108,7 @@ module _ (v : View) (t : ℕ) where
             ∷ tree_writes (joining (tree_of v) (WHOLE_ORDER - k) (node_of k s)))
             []
         unfolding strip_give_at
-        give-done d = rw (← read, le-leb _ x h, le-leb x _ l, ← order, d)
+        give-done d = rw (← read, h, l, ← order, d)
 
     -- ---- the beginning of a strip's free, by its slot
 
@@ -116,19 +118,19 @@ module _ (v : View) (t : ℕ) where
       begin-none h = rw (← read, eq-eqb _ _ h)
 
       module _ (h : x ≢ 0) where
-        pub begin-large : LAST_BYTE < x → begin_free_at v t u s ≡ bad
+        pub begin-large : leb x LAST_BYTE ≡ false → begin_free_at v t u s ≡ bad
         unfolding begin_free_at
-        begin-large l = rw (← read, ne_eqb _ _ h, lt-leb _ _ l)
+        begin-large l = rw (← read, ne_eqb _ _ h, l)
 
-        module _ (l : x ≤ LAST_BYTE) (k : ℕ) (order : k ≡ order_in x) where
+        module _ (l : leb x LAST_BYTE ≡ true) (k : ℕ) (order : k ≡ order_in x) where
           pub begin-bad : can_begin s k ≡ false → begin_free_at v t u s ≡ bad
           unfolding begin_free_at
-          begin-bad d = rw (← read, ne_eqb _ _ h, le-leb _ _ l, ← order, d)
+          begin-bad d = rw (← read, ne_eqb _ _ h, l, ← order, d)
 
           module _ (d : can_begin s k ≡ true) where
             pub begin-begun : FREE_BEGUN ≤ x → begin_free_at v t u s ≡ refuse 11
             unfolding begin_free_at
-            begin-begun m = rw (← read, ne_eqb _ _ h, le-leb x _ l, ← order, d, le-leb _ _ m)
+            begin-begun m = rw (← read, ne_eqb _ _ h, l, ← order, d, le-leb _ _ m)
 
             pub begin-done : x < FREE_BEGUN
                 → begin_free_at v t u s
@@ -136,4 +138,4 @@ module _ (v : View) (t : ℕ) where
                 (TaskPlace t := STRIP_GIVE ∷ TaskUnit t := u ∷ TaskLost t := 0 ∷ SlotByte s := (x + ORDERS) ∷ [])
                 []
             unfolding begin_free_at
-            begin-done m = rw (← read, ne_eqb _ _ h, le-leb x _ l, ← order, d, lt-leb _ _ m)
+            begin-done m = rw (← read, ne_eqb _ _ h, l, ← order, d, lt-leb _ _ m)

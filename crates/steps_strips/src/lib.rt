@@ -4,7 +4,5 @@
 
 pub mod begin;
 pub mod give;
-pub mod halve;
-pub mod join;
 pub mod take;
 pub mod tree_fields;

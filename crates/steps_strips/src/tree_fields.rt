@@ -1,30 +1,31 @@
 // The tree of free pieces in the control memory.
 ghost use Rattle.std.specs.Prelude.{◌≡◌};
-ghost use Rattle.control.specs.Layout.{Control, seen, changed};
+ghost use Rattle.control.specs.Layout.{seen, changed};
 ghost use Rattle.stepped.specs.StripSteps.{tree_of, tree_writes};
 
+use control::column::Control;
+use control::layout::FREE_NODES;
+use limits::index::Index;
 use strip_tree::tree::Tree;
 
 // The tree that the fields hold. Callers: the steps of strips.
-pub fn tree(control: &[u8]) -> Tree
-    requires { Control control.now }
+pub fn tree(control: &Control) -> Tree
     ensures { result ≡ tree_of (seen control.now) }
 {
     Tree {
-        a: control::strips::free_nodes(control, 0),
-        b: control::strips::free_nodes(control, 1),
-        c: control::strips::free_nodes(control, 2),
-        d: control::strips::free_nodes(control, 3),
+        a: FREE_NODES.get(control, Index::new(0)),
+        b: FREE_NODES.get(control, Index::new(1)),
+        c: FREE_NODES.get(control, Index::new(2)),
+        d: FREE_NODES.get(control, Index::new(3)),
     }
 }
 
-// Leaves a tree in the fields. Callers: the last halving and the last joining.
-pub fn set_tree(control: &mut [u8], t: Tree)
-    requires { Control control.old }
-    ensures { control.new ≡ changed (tree_writes t) control.old }
+// Leaves a tree in the fields. Callers: the steps of strips.
+pub fn set_tree(control: &mut Control, tree: Tree)
+    ensures { control.new ≡ changed (tree_writes tree) control.old }
 {
-    control::strips::set_free_nodes(control, 0, t.a);
-    control::strips::set_free_nodes(control, 1, t.b);
-    control::strips::set_free_nodes(control, 2, t.c);
-    control::strips::set_free_nodes(control, 3, t.d);
+    FREE_NODES.set(control, Index::new(0), tree.a);
+    FREE_NODES.set(control, Index::new(1), tree.b);
+    FREE_NODES.set(control, Index::new(2), tree.c);
+    FREE_NODES.set(control, Index::new(3), tree.d);
 }

@@ -1,36 +1,38 @@
 -- The steps of the search over the orders, of a halving and of a joining.
-use Prim.Native.Nat.{ℕ, zero, suc, ◌+◌, ◌-◌, ◌*◌, ◌/◌, ◌^◌, ◌<◌}
+use Prim.Native.Nat.{ℕ, zero, suc, ◌+◌, ◌-◌, ◌*◌, ◌/◌, ◌^◌, ◌<◌, ◌≤◌}
 use mathlib.Core.Path.{◌≡◌, sym, ap, ◌∙◌}
 use mathlib.Core.Logic.{◌≢◌}
 use mathlib.Core.Bool.{true, false}
 use native.Mathlib.Nat.{pow-suc, mul_assoc, mul_comm}
 use native.Mathlib.Omega.{arith}
 use borrow.Author.Tests.{eq-eqb, ne_eqb}
+use Rattle.std.specs.declared.option.Option.TheVariants.{None}
 use Rattle.limits.specs.Limits.{WHOLE_ORDER, ORDERS}
 use Rattle.strip_tree.specs.declared.tree.Tree.{Tree}
 use Rattle.strip_tree.specs.Trees.{is_free_node, with_free, without_free, buddy}
-use Rattle.strip_tree.specs.TreeMoves.{lowest_of_order, find_from, order_found, halving, joining}
+use Rattle.strip_tree.specs.TreeMoves.{lowest_of_order, found_at, find_from, halving, joining}
 
 module _ (t : Tree) (j : ℕ) where
-  pub find-here : j < ORDERS → lowest_of_order t j ≢ 0 → j ≡ order_found (find_from t (ORDERS - j) j)
+  pub find-here : j < ORDERS → lowest_of_order t j ≢ 0
+      → found_at (lowest_of_order t j) j ≡ find_from t (ORDERS - j) j
   unfolding find_from
   find-here h d =
       let s : ORDERS - j ≡ suc (WHOLE_ORDER - j) = omega arith in
       rw (s, ne_eqb _ _ d)
 
-  pub find-no : j ≡ WHOLE_ORDER → lowest_of_order t j ≡ 0 → ORDERS ≡ order_found (find_from t (ORDERS - j) j)
-  unfolding find_from
-  find-no h e =
-      let s : ORDERS - j ≡ 1 = omega arith in
-      rw (s, eq-eqb _ _ e)
-
-  pub find-next : j < WHOLE_ORDER → lowest_of_order t j ≡ 0
-      → order_found (find_from t (ORDERS - (j + 1)) (j + 1)) ≡ order_found (find_from t (ORDERS - j) j)
+  pub find-next : j < ORDERS → lowest_of_order t j ≡ 0
+      → find_from t (ORDERS - (j + 1)) (j + 1) ≡ find_from t (ORDERS - j) j
   unfolding find_from
   find-next h e =
       let s : ORDERS - j ≡ suc (ORDERS - (j + 1)) = omega arith in
       let n : suc j ≡ j + 1 = omega arith in
       rw (s, eq-eqb _ _ e, n)
+
+  pub find-no : ORDERS ≤ j → None ≡ find_from t (ORDERS - j) j
+  unfolding find_from
+  find-no h =
+      let s : ORDERS - j ≡ 0 = omega arith in
+      rw s
 
 module _ (t : Tree) (j k i : ℕ) where
   pub halve-done : j ≡ k → t ≡ halving t (j - k) i

@@ -1,17 +1,18 @@
 -- What a search over the tree finds.
 use Prim.Native.Nat.{ℕ, zero, suc, ◌+◌, ◌-◌, ◌^◌, ◌<◌, ◌≤◌}
-use mathlib.Core.Path.{◌≡◌, refl, sym, ap, ◌∙◌}
+use mathlib.Core.Path.{◌≡◌, refl}
 use mathlib.Core.Logic.{◌≢◌}
 use mathlib.Core.Bool.{true, false}
 use native.Mathlib.Omega.{arith}
 use borrow.Author.Tests.{eq-eqb, ne_eqb}
+use Rattle.std.specs.declared.option.Option.{Option}
+use Rattle.std.specs.declared.option.Option.TheVariants.{None, Some}
 use Rattle.limits.specs.Limits.{WHOLE_ORDER, ORDERS}
 use Rattle.rows.specs.Comparisons.{Equality, same, other, same?, Truth, holds, fails, true?}
 use Rattle.strip_tree.specs.declared.tree.Tree.{Tree}
 use Rattle.strip_tree.specs.declared.find.Found.{Found}
-use Rattle.strip_tree.specs.declared.find.Found.TheVariants.{At, Nothing}
 use Rattle.strip_tree.specs.Trees.{is_free_node}
-use Rattle.strip_tree.specs.TreeMoves.{lowest, lowest_of_order, find_from, order_found, InLevel}
+use Rattle.strip_tree.specs.TreeMoves.{lowest, lowest_of_order, found_at, find_from, InLevel}
 use Rattle.strip_tree.proofs.Powers.{twice, some}
 
 module _ (t : Tree) where
@@ -78,20 +79,20 @@ module _ (t : Tree) where
     pub smaller : (m : ℕ) → k ≤ m → m < j → NoneAt m
 
   -- what a search from the order k on says
-  pub data Search (k : ℕ) : Found → Type 0 where
-    found : {i j : ℕ} → Finds k i j → Search k (At i j)
-    none : ((m : ℕ) → k ≤ m → m < ORDERS → NoneAt m) → Search k Nothing
+  pub data Search (k : ℕ) : Option Found → Type 0 where
+    found : {f : Found} → Finds k f.node f.order → Search k (Some f)
+    none : ((m : ℕ) → k ≤ m → m < ORDERS → NoneAt m) → Search k None
 
   -- one order more that has none
-  more : (k : ℕ) (f : Found) → NoneAt k → Search (suc k) f → Search k f
-  more k f h (found {i} {j} x) = found {i = i} {j = j} (record {
+  more : (k : ℕ) (f : Option Found) → NoneAt k → Search (suc k) f → Search k f
+  more k f h (found {f = y} x) = found {f = y} (record {
     enough = omega (arith, x.enough);
     order = x.order;
     lowest = x.lowest;
     smaller = λ m a b. by m a b (same? m k);
   })
     where
-      by : (m : ℕ) → k ≤ m → m < j → Equality m k → NoneAt m
+      by : (m : ℕ) → k ≤ m → m < y.order → Equality m k → NoneAt m
       by m a b (same e) = rw e h
       by m a b (other e) = x.smaller m (omega arith) b
   more k f h (none g) = none (λ m a b. by m a b (same? m k))
@@ -111,7 +112,7 @@ module _ (t : Tree) where
           (some k (omega arith)) d) f)
       by (other d) f =
           rw (ne_eqb _ _ d)
-          (found {i = lowest_of_order t k} {j = k} (record {
+          (found {f = record { node = lowest_of_order t k; order = k }} (record {
             enough = omega arith;
             order = omega arith;
             lowest = lowest-some (2 ^ (WHOLE_ORDER - k)) (2 ^ (WHOLE_ORDER - k)) d;
@@ -125,50 +126,22 @@ module _ (t : Tree) where
     below = omega (arith, x.lowest.below, twice j x.order);
   }
 
-  finds-of : (k i j : ℕ) (f : Found) → f ≡ At i j → Search k f → Finds k i j
-  finds-of k i j f e (found {i = a} {j = b} x) =
-      let p : a ≡ i = cc in
-      let q : b ≡ j = cc in
+  finds-of : (k i j : ℕ) (f : Option Found) → f ≡ found_at i j → Search k f → Finds k i j
+  finds-of k i j f e (found {f = y} x) =
+      let p : y.node ≡ i = cc in
+      let q : y.order ≡ j = cc in
       rw (← p, ← q) x
   finds-of k i j f e (none h) = let z : ◌≡◌ {A = ℕ} 0 1 = cc in absurd (omega arith)
 
   -- a node that is found, and its order
-  pub finds : (k i j : ℕ) → k < ORDERS → find_from t (ORDERS - k) k ≡ At i j → Finds k i j
+  pub finds : (k i j : ℕ) → k < ORDERS → find_from t (ORDERS - k) k ≡ found_at i j → Finds k i j
   finds k i j h e = finds-of k i j (find_from t (ORDERS - k) k) e (searched (ORDERS - k) k (omega arith))
 
-  none_of : (k : ℕ) (f : Found) → f ≡ Nothing → Search k f → (m : ℕ) → k ≤ m → m < ORDERS → NoneAt m
-  none_of k f e (found {i = a} {j = b} x) = let z : ◌≡◌ {A = ℕ} 0 1 = cc in absurd (omega arith)
+  none_of : (k : ℕ) (f : Option Found) → f ≡ None → Search k f → (m : ℕ) → k ≤ m → m < ORDERS → NoneAt m
+  none_of k f e (found x) = let z : ◌≡◌ {A = ℕ} 0 1 = cc in absurd (omega arith)
   none_of k f e (none h) = h
 
   -- nothing is found: no order from k on has a free node
-  pub nothing-free : (k : ℕ) → k < ORDERS → find_from t (ORDERS - k) k ≡ Nothing → (m : ℕ) → k ≤ m → m < ORDERS
+  pub nothing-free : (k : ℕ) → k < ORDERS → find_from t (ORDERS - k) k ≡ None → (m : ℕ) → k ≤ m → m < ORDERS
       → NoneAt m
   nothing-free k h e = none_of k (find_from t (ORDERS - k) k) e (searched (ORDERS - k) k (omega arith))
-
-  -- what is found is the lowest free node of the order found
-  pub data Shape (f : Found) : Type 0 where
-    nowhere : f ≡ Nothing → Shape f
-    somewhere : (o : ℕ) → o < ORDERS → f ≡ At (lowest_of_order t o) o → Shape f
-
-  pub shape : (n k : ℕ) → n + k ≡ ORDERS → Shape (find_from t n k)
-  unfolding find_from
-  shape zero k e = nowhere refl
-  shape (suc n) k e = by (same? (lowest_of_order t k) 0) (shape n (suc k) (omega arith))
-    where
-      by : Equality (lowest_of_order t k) 0 → Shape (find_from t n (suc k)) → Shape (find_from t (suc n) k)
-      by (same d) f = rw (eq-eqb _ _ d) f
-      by (other d) f = rw (ne_eqb _ _ d) (somewhere k (omega arith) refl)
-
-  pub found_nothing : (f : Found) → Shape f → order_found f ≡ ORDERS → Nothing ≡ f
-  found_nothing f (nowhere e) d = sym e
-  found_nothing f (somewhere o l e) d = absurd (omega (arith, ap order_found e))
-
-  pub found_below : (f : Found) → Shape f → order_found f ≢ ORDERS → order_found f < ORDERS
-  found_below f (nowhere e) d = absurd (d (ap order_found e))
-  found_below f (somewhere o l e) d = omega (arith, ap order_found e)
-
-  pub found-there : (f : Found) → Shape f → (o : ℕ) → o ≡ order_found f → o ≢ ORDERS → At (lowest_of_order t o) o ≡ f
-  found-there f (nowhere e) o p d = absurd (d (p ∙ ap order_found e))
-  found-there f (somewhere m l e) o p d =
-      let q : o ≡ m = p ∙ ap order_found e in
-      rw q (sym e)

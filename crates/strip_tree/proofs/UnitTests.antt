@@ -5,8 +5,10 @@ use mathlib.Core.Bool.{true, false, true≢false}
 use native.Mathlib.Omega.{arith}
 use borrow.Author.Tests.{le-leb, lt-leb, lt-ltb, le-ltb, eq-eqb, ne_eqb}
 use lib.Dec.{eqb}
+use Rattle.std.specs.Prelude.{cond, Some, None}
 use Rattle.limits.specs.Limits.{UNITS, SLOTS, SLOT_UNITS, BOTH_UNITS}
-use Rattle.rows.specs.Comparisons.{Equality, same, other, same?, Order, before, after, order?}
+use Rattle.rows.specs.Comparisons.{Equality, same, other, same?, Order, before, after, order?, Truth, holds, fails}
+use Rattle.rows.specs.Comparisons.{true?}
 use Rattle.pieces.specs.StripUnits.{strip_unit, slot_of_unit, is_strip_unit}
 
 module _ (u : ℕ) where
@@ -40,6 +42,35 @@ module _ (u : ℕ) where
 
   pub unit-of-slot-is : is_strip_unit u ≡ true → strip_unit (slot_of_unit u) ≡ u
   unit-of-slot-is h = let p = unit-passed h in omega (arith, p.from, p.first)
+
+module _ (u : ℕ) where
+  -- what a slot that begins at a unit has
+  pub record Begins (s : ℕ) : Type 0 where
+    pub passes : is_strip_unit u ≡ true
+    pub slot : s ≡ slot_of_unit u
+
+  -- a slot begins at the unit, or none does
+  pub slot-begins : (s : ℕ) → cond (is_strip_unit u) (Some (slot_of_unit u)) None ≡ Some s → Begins s
+  slot-begins s h = by (true? (is_strip_unit u))
+    where
+      by : Truth (is_strip_unit u) → Begins s
+      by (holds e) =
+          let d : Some (slot_of_unit u) ≡ Some s = rw e at h in
+          record { passes = e; slot = cc }
+      by (fails e) =
+          let d : None ≡ Some s = rw e at h in
+          let z : ◌≡◌ {A = ℕ} 0 1 = cc in
+          absurd (omega arith)
+
+  pub no-slot : cond (is_strip_unit u) (Some (slot_of_unit u)) None ≡ None → is_strip_unit u ≡ false
+  no-slot h = by (true? (is_strip_unit u))
+    where
+      by : Truth (is_strip_unit u) → is_strip_unit u ≡ false
+      by (holds e) =
+          let d : Some (slot_of_unit u) ≡ None = rw e at h in
+          let z : ◌≡◌ {A = ℕ} 0 1 = cc in
+          absurd (omega arith)
+      by (fails e) = e
 
 module _ (s : ℕ) where
   -- the unit of a slot passes, and its slot is that one

@@ -1,10 +1,11 @@
 -- docs/POOL.md, "Strips"
 -- Finding a free piece, halving it and joining freed halves, on the tree.
 use Rattle.std.specs.Prelude.{ℕ, zero, suc, ◌+◌, ◌-◌, ◌*◌, ◌/◌, ◌^◌, ◌≤◌, ◌<◌, Bool, cond, eqb}
+use Rattle.std.specs.declared.option.Option.{Option}
+use Rattle.std.specs.declared.option.Option.TheVariants.{None, Some}
 use Rattle.limits.specs.Limits.{WHOLE_ORDER, ORDERS}
 use Rattle.strip_tree.specs.declared.tree.Tree.{Tree}
 use Rattle.strip_tree.specs.declared.find.Found.{Found}
-use Rattle.strip_tree.specs.declared.find.Found.TheVariants.{At, Nothing}
 use Rattle.strip_tree.specs.Trees.{is_free_node, with_free, without_free, buddy}
 
 -- the lowest free node of n from the node i on, or 0
@@ -17,18 +18,22 @@ lowest t (suc n) i = cond (is_free_node t i) i (lowest t n (suc i))
 abbrev pub lowest_of_order : Tree → ℕ → ℕ
 lowest_of_order t j = lowest t (2 ^ (WHOLE_ORDER - j)) (2 ^ (WHOLE_ORDER - j))
 
+-- what a search finds: the free piece at the node i, of order j
+abbrev pub found_at : ℕ → ℕ → Option Found
+found_at i j = Some (record { node = i; order = j })
+
 -- "starting from the smallest sufficient piece, at the lowest place among equals": of n orders from j on
-unfoldable pub find_from : Tree → ℕ → ℕ → Found
-find_from t zero j = Nothing
-find_from t (suc n) j = cond (eqb (lowest_of_order t j) 0) (find_from t n (suc j)) (At (lowest_of_order t j) j)
+unfoldable pub find_from : Tree → ℕ → ℕ → Option Found
+find_from t zero j = None
+find_from t (suc n) j = cond (eqb (lowest_of_order t j) 0) (find_from t n (suc j)) (found_at (lowest_of_order t j) j)
 
 -- the order that was found, or one past the largest
-abbrev pub order_found : Found → ℕ
-order_found (At i j) = j
-order_found Nothing = ORDERS
+abbrev pub order_found : Option Found → ℕ
+order_found (Some f) = f.order
+order_found None = ORDERS
 
 -- "the smallest sufficient piece" for a strip of order k
-abbrev pub find : Tree → ℕ → Found
+abbrev pub find : Tree → ℕ → Option Found
 find t k = find_from t (ORDERS - k) k
 
 -- "A free piece is halved again and again until it fits, lower half first": n times, from the node i on

@@ -1,23 +1,66 @@
-// Halving a free piece in the first word of the tree, lower half first.
+// Halving a free piece, lower half first. The order falls by one at each halving. Both are recursions on the order, the
+// form that the customer's paper names.
 ghost use Rattle.std.specs.Prelude.{◌≡◌, ℕ, ◌-◌, ◌≤◌};
 ghost use Rattle.strip_tree.specs.Trees.{FIRST_WORD_ORDER, tree_with};
 ghost use Rattle.strip_tree.specs.TreeMoves.{halving, Within};
 
+use crate::tree;
+use crate::tree::Tree;
+use limits::index::Order;
+use words::mark;
+
 // The first word after the piece at `node` was halved down to the order `wanted`, all of whose nodes are in the first
-// word. Its arguments and its result are numbers, so that the recursion is compiled to a loop. Caller: the step that
-// takes a strip.
-pub fn halve_high(a: u64, node: usize, order: usize, wanted: usize) -> u64
-    requires { Within order node × (FIRST_WORD_ORDER ≤ wanted) × (wanted ≤ order) }
-    ensures { (b c d : ℕ) → tree_with result b c d ≡ halving (tree_with a b c d) (order - wanted) node }
+// word. Its arguments and its result are numbers, so that the recursion is compiled to a loop. Caller: `halve`.
+fn halve_high(first: u64, node: usize, order: usize, wanted: usize) -> u64
+    requires node { Within order node }
+    requires in_first_word { FIRST_WORD_ORDER ≤ wanted }
+    requires smaller { wanted ≤ order }
+    ensures { (b c d : ℕ) → tree_with result b c d ≡ halving (tree_with first b c d) (order - wanted) node }
 {
     if order == wanted {
-        return a;
+        return first;
     }
     let lower = 2 * node;
     halve_high(
-        words::mark::set(a, (lower + 1) as u32),
+        mark::set(first, (lower + 1) as u32),
         lower,
         order - 1,
         wanted,
     )
+}
+
+// The last halvings, in any of the words. Caller: `halve`.
+fn halve_low(tree: Tree, node: usize, order: usize, wanted: usize) -> Tree
+    requires node { Within order node }
+    requires smaller { wanted ≤ order }
+    ensures { result ≡ halving tree (order - wanted) node }
+{
+    if order == wanted {
+        return tree;
+    }
+    let lower = 2 * node;
+    halve_low(tree.mark(lower + 1), lower, order - 1, wanted)
+}
+
+impl Tree {
+    // The tree after the piece at `node` was halved down to the order `wanted`: the upper halves are free. Orders whose
+    // nodes are all in the first word are halved there. Caller: the step that takes a strip.
+    pub fn halve(self, node: usize, order: Order, wanted: Order) -> Tree
+        requires node { Within order node }
+        requires smaller { wanted ≤ order }
+        ensures { result ≡ halving self (order - wanted) node }
+    {
+        let order = order.get();
+        let wanted = wanted.get();
+        if order <= tree::FIRST_WORD_ORDER {
+            return halve_low(self, node, order, wanted);
+        }
+        if tree::FIRST_WORD_ORDER <= wanted {
+            let a = halve_high(self.a, node, order, wanted);
+            return Tree { a, ..self };
+        }
+        let a = halve_high(self.a, node, order, tree::FIRST_WORD_ORDER);
+        let low = node << (order - tree::FIRST_WORD_ORDER);
+        halve_low(Tree { a, ..self }, low, tree::FIRST_WORD_ORDER, wanted)
+    }
 }

@@ -1,21 +1,61 @@
-// Joining freed halves in the first word of the tree.
-ghost use Rattle.std.specs.Prelude.{◌≡◌, ℕ, ◌-◌, ◌≤◌};
+// Joining freed halves. The order grows by one at each joining, up to that of the whole memory.
+ghost use Rattle.std.specs.Prelude.{◌≡◌, ℕ, ◌-◌, ◌<◌, ◌≤◌};
 ghost use Rattle.limits.specs.Limits.{WHOLE_ORDER};
-ghost use Rattle.strip_tree.specs.Trees.{FIRST_WORD_ORDER, tree_with};
+ghost use Rattle.strip_tree.specs.Trees.{FIRST_WORD_ORDER, NODES, buddy, tree_with};
 ghost use Rattle.strip_tree.specs.TreeMoves.{joining, Within};
 
-// The first word with the node a free piece, joined with its other half as long as that is free. Its arguments and its
-// result are numbers, so that the recursion is compiled to a loop. Caller: the step that frees a strip.
-pub fn join_high(a: u64, node: usize, order: usize) -> u64
-    requires { Within order node × (FIRST_WORD_ORDER ≤ order) }
-    ensures { (b c d : ℕ) → tree_with result b c d ≡ joining (tree_with a b c d) (WHOLE_ORDER - order) node }
+use crate::tree;
+use crate::tree::Tree;
+use limits::index::Order;
+use words::mark;
+
+// The other half of the piece that a node is half of.
+fn buddy_of(node: usize) -> usize
+    requires { node < NODES }
+    ensures { result ≡ buddy node }
 {
-    if order == limits::WHOLE_ORDER {
-        return words::mark::set(a, node as u32);
+    node + 1 - 2 * (node % 2)
+}
+
+// The first word with the node a free piece, joined with its other half as long as that is free. Caller: `join`.
+fn join_high(first: u64, node: usize, order: usize) -> u64
+    requires node { Within order node }
+    requires in_first_word { FIRST_WORD_ORDER ≤ order }
+    ensures { (b c d : ℕ) → tree_with result b c d ≡ joining (tree_with first b c d) (WHOLE_ORDER - order) node }
+{
+    let mut word = first;
+    let mut joined = node;
+    for _ in order..limits::WHOLE_ORDER {
+        let buddy = buddy_of(joined);
+        if !mark::test(word, buddy as u32) {
+            return mark::set(word, joined as u32);
+        }
+        word = mark::clear(word, buddy as u32);
+        joined /= 2;
     }
-    let buddy = node + 1 - 2 * (node % 2);
-    if words::mark::test(a, buddy as u32) {
-        return join_high(words::mark::clear(a, buddy as u32), node / 2, order + 1);
+    mark::set(word, joined as u32)
+}
+
+impl Tree {
+    // The tree with the node a free piece, joined with its other half as long as that is free. Orders whose nodes are
+    // all in the first word are joined there. Caller: the step that frees a strip.
+    pub fn join(self, node: usize, order: Order) -> Tree
+        requires { Within order node }
+        ensures { result ≡ joining self (WHOLE_ORDER - order) node }
+    {
+        let order = order.get();
+        let mut tree = self;
+        let mut joined = node;
+        for _ in order..tree::FIRST_WORD_ORDER {
+            let buddy = buddy_of(joined);
+            if !tree.is_free(buddy) {
+                return tree.mark(joined);
+            }
+            tree = tree.clear(buddy);
+            joined /= 2;
+        }
+        let high = order.max(tree::FIRST_WORD_ORDER);
+        let a = join_high(tree.a, joined, high);
+        Tree { a, ..tree }
     }
-    words::mark::set(a, node as u32)
 }

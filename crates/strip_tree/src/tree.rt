@@ -4,6 +4,8 @@ ghost use Rattle.std.specs.Prelude.{◌≡◌, ◌/◌, ◌<◌};
 ghost use Rattle.limits.specs.Limits.{WORD_MARKS};
 ghost use Rattle.strip_tree.specs.Trees.{NODES, tree_word, with_word, is_free_node, with_free, without_free};
 
+use words::mark;
+
 // The nodes of this order and of every larger one have their bits in the first word.
 pub const FIRST_WORD_ORDER: usize = 2;
 
@@ -18,83 +20,62 @@ pub struct Tree {
     pub d: u64,
 }
 
-// The word that has the bits of 64 nodes.
-pub fn word(t: Tree, i: usize) -> u64
-    requires { i < NODES / WORD_MARKS }
-    ensures { result ≡ tree_word t i }
-{
-    match i {
-        0 => t.a,
-        1 => t.b,
-        2 => t.c,
-        _ => t.d,
+impl Tree {
+    // The word that has the bits of 64 nodes.
+    fn word(self, i: usize) -> u64
+        requires { i < NODES / WORD_MARKS }
+        ensures { result ≡ tree_word self i }
+    {
+        match i {
+            0 => self.a,
+            1 => self.b,
+            2 => self.c,
+            _ => self.d,
+        }
     }
-}
 
-// The tree with another word.
-pub fn with_word(t: Tree, i: usize, w: u64) -> Tree
-    requires { i < NODES / WORD_MARKS }
-    ensures { result ≡ with_word t i w }
-{
-    match i {
-        0 => Tree {
-            a: w,
-            b: t.b,
-            c: t.c,
-            d: t.d,
-        },
-        1 => Tree {
-            a: t.a,
-            b: w,
-            c: t.c,
-            d: t.d,
-        },
-        2 => Tree {
-            a: t.a,
-            b: t.b,
-            c: w,
-            d: t.d,
-        },
-        _ => Tree {
-            a: t.a,
-            b: t.b,
-            c: t.c,
-            d: w,
-        },
+    // The tree with another word.
+    fn with_word(self, i: usize, word: u64) -> Tree
+        requires { i < NODES / WORD_MARKS }
+        ensures { result ≡ with_word self i word }
+    {
+        match i {
+            0 => Tree { a: word, ..self },
+            1 => Tree { b: word, ..self },
+            2 => Tree { c: word, ..self },
+            _ => Tree { d: word, ..self },
+        }
     }
-}
 
-// Whether a node is a free piece.
-pub fn is_free(t: Tree, node: usize) -> bool
-    requires { node < NODES }
-    ensures { result ≡ is_free_node t node }
-{
-    words::mark::test(
-        word(t, node / limits::WORD_MARKS),
-        (node % limits::WORD_MARKS) as u32,
-    )
-}
+    // Whether a node is a free piece.
+    #[tactic(auto, unfolding(crate::specs::Trees::is_free_node))]
+    pub fn is_free(self, node: usize) -> bool
+        requires { node < NODES }
+        ensures { result ≡ is_free_node self node }
+    {
+        let word = self.word(node / limits::WORD_MARKS);
+        mark::test(word, (node % limits::WORD_MARKS) as u32)
+    }
 
-// The tree with one free piece more.
-pub fn mark(t: Tree, node: usize) -> Tree
-    requires { node < NODES }
-    ensures { result ≡ with_free t node }
-{
-    let w = words::mark::set(
-        word(t, node / limits::WORD_MARKS),
-        (node % limits::WORD_MARKS) as u32,
-    );
-    with_word(t, node / limits::WORD_MARKS, w)
-}
+    // The tree with one free piece more.
+    #[tactic(auto, unfolding(crate::specs::Trees::with_free))]
+    pub fn mark(self, node: usize) -> Tree
+        requires { node < NODES }
+        ensures { result ≡ with_free self node }
+    {
+        let i = node / limits::WORD_MARKS;
+        let bit = (node % limits::WORD_MARKS) as u32;
+        self.with_word(i, mark::set(self.word(i), bit))
+    }
 
-// The tree with one free piece less.
-pub fn clear(t: Tree, node: usize) -> Tree
-    requires { node < NODES }
-    ensures { result ≡ without_free t node }
-{
-    let w = words::mark::clear(
-        word(t, node / limits::WORD_MARKS),
-        (node % limits::WORD_MARKS) as u32,
-    );
-    with_word(t, node / limits::WORD_MARKS, w)
+    // The tree with one free piece less.
+    #[tactic(auto, unfolding(crate::specs::Trees::without_free))]
+    pub fn clear(self, node: usize) -> Tree
+        requires { node < NODES }
+        ensures { result ≡ without_free self node }
+    {
+        let i = node / limits::WORD_MARKS;
+        let bit = (node % limits::WORD_MARKS) as u32;
+        self.with_word(i, mark::clear(self.word(i), bit))
+    }
 }

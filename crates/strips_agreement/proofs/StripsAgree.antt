@@ -16,10 +16,11 @@ use Rattle.pieces.proofs.StripGiving.{first-is, give-joined, begin-joined}
 use Rattle.pieces.proofs.StripStarting.{Begins, taken-begins, given-begins, began-begins, strip_order, strip-aligned}
 use Rattle.pieces.proofs.FreeStretches.{Took, found_none, found-one, took}
 use Rattle.strip_tree.specs.declared.tree.Tree.{Tree}
+use Rattle.std.specs.declared.option.Option.{Option}
+use Rattle.std.specs.declared.option.Option.TheVariants.{None, Some}
 use Rattle.strip_tree.specs.declared.find.Found.{Found}
-use Rattle.strip_tree.specs.declared.find.Found.TheVariants.{At, Nothing}
 use Rattle.strip_tree.specs.Trees.{NODES, is_free_node, with_free, without_free}
-use Rattle.strip_tree.specs.TreeMoves.{find, halving, joining, node_of, slot_of_node, can_begin}
+use Rattle.strip_tree.specs.TreeMoves.{find, found_at, halving, joining, node_of, slot_of_node, can_begin}
 use Rattle.strip_tree.specs.SlotStates.{IN_HAND, FREE_BEGUN}
 use Rattle.strip_tree.proofs.Powers.{most, some, twice, slot-below}
 use Rattle.strip_tree.proofs.NodeBits.{mark-here}
@@ -130,7 +131,7 @@ module _ (t : Tree) (byte : ℕ → ℕ) (p : Pieces WHOLE_ORDER) (h : Follows t
           let l = in-level t k i j x in
           rw (← spot) (slot-below j i l.order l.from l.below)
 
-      taken-agrees : find t k ≡ At i j → TakenAgrees t byte k (least_place k p) (least_halved k p)
+      taken-agrees : find t k ≡ found_at i j → TakenAgrees t byte k (least_place k p) (least_halved k p)
       taken-agrees e = record {
         node = i;
         order = j;
@@ -152,11 +153,12 @@ module _ (t : Tree) (byte : ℕ → ℕ) (p : Pieces WHOLE_ORDER) (h : Follows t
     pub take-agrees : TakeAgrees t byte k (take_strip k p)
     take-agrees = by (find t k) refl (took k p)
       where
-        by : (f : Found) → find t k ≡ f → Took k p → TakeAgrees t byte k (take_strip k p)
-        by (At i j) e (found-one g d) = rw d (taken-agrees i j (finds t k i j few e) e)
-        by (At i j) e (found_none g d) = absurd (omega (arith, small i j (finds t k i j few e)))
-        by Nothing e (found_none g d) = rw d e
-        by Nothing e (found-one g d) =
+        by : (f : Option Found) → find t k ≡ f → Took k p → TakeAgrees t byte k (take_strip k p)
+        by (Some f) e (found-one g d) = rw d (taken-agrees f.node f.order (finds t k f.node f.order few e) e)
+        by (Some f) e (found_none g d) =
+            absurd (omega (arith, small f.node f.order (finds t k f.node f.order few e)))
+        by None e (found_none g d) = rw d e
+        by None e (found-one g d) =
             let none = no-order ORDERS (nothing-free t k few e) in
             absurd (omega (arith, least-from k t ORDERS (omega arith) p 1 (omega arith) h.tree none))
 

@@ -1,14 +1,14 @@
 -- docs/POOL.md, "Strips"
 -- What the moves of strips find and leave in the tree and in the slots' bytes, by what they are in the plain pool.
 use Rattle.std.specs.Prelude.{◌≡◌, true, ℕ, ◌+◌, ◌-◌, ◌≤◌, ◌<◌}
+use Rattle.std.specs.declared.option.Option.TheVariants.{None}
 use Rattle.limits.specs.Limits.{SLOTS, WHOLE_ORDER, ORDERS}
 use Rattle.rows.specs.Update.{update}
 use Rattle.pieces.specs.Pieces.{free, held, begun, Pieces}
 use Rattle.pieces.specs.Strips.{StripTaken, none_found, strip_at, StripStart, nowhere, here, free_begun, give_strip}
 use Rattle.strip_tree.specs.declared.tree.Tree.{Tree}
-use Rattle.strip_tree.specs.declared.find.Found.TheVariants.{At, Nothing}
 use Rattle.strip_tree.specs.Trees.{without_free}
-use Rattle.strip_tree.specs.TreeMoves.{find, halving, joining, node_of, slot_of_node, can_begin, InLevel}
+use Rattle.strip_tree.specs.TreeMoves.{find, found_at, halving, joining, node_of, slot_of_node, can_begin, InLevel}
 use Rattle.strip_tree.specs.SlotStates.{IN_HAND, FREE_BEGUN}
 use Rattle.strips_agreement.specs.TreeFollows.{Follows}
 
@@ -18,7 +18,7 @@ module _ (t : Tree) (byte : ℕ → ℕ) where
   pub record TakenAgrees (k s : ℕ) (q : Pieces WHOLE_ORDER) : Type 0 where
     pub node : ℕ
     pub order : ℕ
-    pub found : find t k ≡ At node order
+    pub found : find t k ≡ found_at node order
     pub slot : slot_of_node order node ≡ s
     pub fits : s < SLOTS
     pub enough : k ≤ order
@@ -28,7 +28,7 @@ module _ (t : Tree) (byte : ℕ → ℕ) where
   -- "finishes, or ends with 16": where the plain pool finds no strip of order k the search finds nothing, else that
   -- strip
   abbrev pub TakeAgrees : ℕ → StripTaken → Type 0
-  TakeAgrees k none_found = find t k ≡ Nothing
+  TakeAgrees k none_found = find t k ≡ None
   TakeAgrees k (strip_at s q) = TakenAgrees k s q
 
   module _ (p : Pieces WHOLE_ORDER) (s : ℕ) where

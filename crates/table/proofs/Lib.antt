@@ -1,2 +1,3 @@
 -- Laws of the table's text.
 pub mod Playing
+pub mod Writing

@@ -1,61 +1,58 @@
 // The table of a schedule, as the bytes that the program writes.
 #![tactic(auto)]
 
-ghost use Rattle.std.specs.Prelude.{◌≤◌, length};
+ghost use Rattle.std.specs.Prelude.{◌≡◌, ◌≤◌, length, OnOk};
 ghost use Rattle.schedule.specs.Records.{INPUT_BYTES};
-ghost use Rattle.schedule.specs.Bytes.{StandMemories, together};
-ghost use Rattle.text.specs.Texts.{Appended};
-ghost use Rattle.table.specs.Output.{TABLE_BYTES, output};
+ghost use Rattle.schedule.specs.Bytes.{memories};
+ghost use Rattle.table.specs.Output.{TABLE_BYTES, Plays, Writes};
 
-use schedule::{record, tallied, tally};
+use schedule::records::Records;
+use schedule::stand::Stand;
+use schedule::tally::Tally;
+use std::io;
+use std::io::{Read, Write};
+use text::LostColumn;
 
 // Room for the longest table. A line has at most 34 bytes (LINE_BYTES) and its record at least one, so that the lines
 // of 65,536 bytes of records fit into 65,536 * 34 bytes; the first and the last line fit into the rest.
 pub const TABLE_BYTES: usize = 2228480;
 
-// Has the records treated one after the other, and puts the table's text at the start of `out`, with the lost exchanges
-// where they are to be shown.
-pub fn write(
-    control: &mut [u8],
-    area: &mut [u8],
-    strips: &[u8],
-    input: &[u8],
-    out: &mut [u8],
-    shown: bool,
-) -> usize
-    requires { StandMemories control.old area.old strips.now × (length input.now ≤ INPUT_BYTES)
-        × (TABLE_BYTES ≤ length out.old) }
-    ensures { Appended out.old out.new 0
-        (output shown input.now
-        (together control.old area.old strips.now)) result }
+// Has the records treated one after the other, and puts the table's text at the start of `out`.
+pub fn write(stand: &mut Stand, input: &[u8], out: &mut [u8], lost: LostColumn) -> usize
+    requires input { length input.now ≤ INPUT_BYTES }
+    requires room { TABLE_BYTES ≤ length out.old }
+    ensures { Plays lost input.now (memories stand.old) out.old out.new result }
 {
-    let mut used = text::columns(out, shown);
-    let mut counts = tally::empty();
-    let mut number: u64 = 0;
-    let mut at = 0;
-    while at < input.len() {
-        let entry = record::numbered(input, at, number);
-        let treated = tallied::treat_with(control, area, strips, entry, counts);
-        let line = treated.line;
-        used += text::line(
-            &mut out[used..],
-            line.number,
-            line.kind as u64,
-            line.code,
-            line.value,
-            line.lost as u64,
-            shown,
-        );
-        counts = treated.tally;
-        let body = entry.body;
-        at = record::end(body, at, input.len());
-        number += 1;
+    let mut used = text::columns(out, lost);
+    let mut counts = Tally::default();
+    for entry in Records::of(input) {
+        let line = stand.treat_counted(entry, &mut counts);
+        used += text::line(&mut out[used..], &line, lost);
     }
-    let last = text::total(
-        &mut out[used..],
-        counts.finished,
-        counts.accepted,
-        counts.others,
-    );
-    used + last
+    used + text::total(&mut out[used..], &counts)
+}
+
+// So many zeros. It stands apart so that a proof about their user does not write them out.
+fn zeros<const N: usize>() -> [u8; N]
+    ensures { length result ≡ N }
+{
+    [0; N]
+}
+
+// The work of the stand's two programs: reads a schedule, plays it, and writes its table in one call. It reads no more
+// than the 65,536 bytes of its buffer.
+pub fn run<R: Read, W: Write>(
+    stand: &mut Stand,
+    reader: &mut R,
+    writer: &mut W,
+    lost: LostColumn,
+) -> io::Result<()>
+    ensures { OnOk result (Writes lost (memories stand.old) (R.remaining reader.old)
+        (W.contents writer.old) (W.contents writer.new)) }
+{
+    let mut records = zeros::<{ input::MOST_BYTES }>();
+    let mut out = zeros::<TABLE_BYTES>();
+    let n = input::read_full(reader, &mut records)?;
+    let length = write(stand, &records[..n], &mut out, lost);
+    writer.write_all(&out[..length])
 }

@@ -2,7 +2,7 @@
 use Rattle.std.proofs.Common.{◌≡◌, ℕ, ◌+◌, ◌-◌, ◌%◌, ◌<◌, ◌≢◌, sym, refl, ap, ◌∙◌, arith, eq-eqb, ne_eqb}
 use Rattle.limits.specs.Limits.{TAGS}
 use Rattle.words.specs.declared.head.Head.{Head}
-use Rattle.words.specs.declared.head.Top.TheVariants.{Empty, Item}
+use Rattle.std.specs.declared.option.Option.TheVariants.{None, Some}
 use Rattle.words.specs.Head.{TAG_WEIGHT, item_of, tag_of, word, next_tag, advanced_word, head_of, word_of, top_of}
 use Rattle.words.specs.Head.{advanced}
 
@@ -69,10 +69,10 @@ advanced-last h item e = ap next_tag e
 
 -- ---- the item on top
 
-pub top-empty : (h : Head) → h.item ≡ 0 → Empty ≡ top_of h
+pub top-empty : (h : Head) → h.item ≡ 0 → None ≡ top_of h
 top-empty h e = rw eq-eqb
 
-pub top-item : (h : Head) → h.item ≢ 0 → Item (h.item - 1) ≡ top_of h
+pub top-item : (h : Head) → h.item ≢ 0 → Some (h.item - 1) ≡ top_of h
 top-item h e = rw ne_eqb
 
 -- ---- an advanced head as a word

@@ -4,8 +4,8 @@
 use Rattle.std.specs.Prelude.{ℕ, ◌+◌, ◌-◌, ◌*◌, ◌/◌, ◌%◌, cond, ◌==◌}
 use Rattle.limits.specs.Limits.{TAGS}
 use Rattle.words.specs.declared.head.Head.{Head}
-use Rattle.words.specs.declared.head.Top.{Top}
-use Rattle.words.specs.declared.head.Top.TheVariants.{Empty, Item}
+use Rattle.std.specs.declared.option.Option.{Option}
+use Rattle.std.specs.declared.option.Option.TheVariants.{None, Some}
 
 -- ---- on numbers
 
@@ -48,8 +48,8 @@ abbrev pub empty_head : Head
 empty_head = record { item = 0; tag = 0 }
 
 -- 0 is an empty list; anything else is the number of the item on top plus one
-abbrev pub top_of : Head → Top
-top_of h = cond (h.item == 0) Empty (Item (h.item - 1))
+abbrev pub top_of : Head → Option ℕ
+top_of h = cond (h.item == 0) None (Some (h.item - 1))
 
 -- the head after a won exchange that leaves `item` on top
 abbrev pub advanced : Head → ℕ → Head

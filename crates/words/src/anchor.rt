@@ -12,7 +12,7 @@ pub const PARTIAL: u32 = 1;
 // No block of the region is in its chain.
 pub const FULL: u32 = 2;
 
-#[derive(Drop)]
+#[derive(Clone, Copy, Debug, PartialEq, Eq)]
 pub struct Anchor {
     pub state: u32,
     pub avail: u32,
@@ -82,12 +82,6 @@ impl Anchor {
     pub fn same(self, other: Anchor) -> bool
         ensures { result ≡ same_anchor self other }
     {
-        if self.state != other.state {
-            return false;
-        }
-        if self.avail != other.avail {
-            return false;
-        }
-        self.count == other.count
+        self == other
     }
 }

@@ -6,18 +6,11 @@ ghost use Rattle.words.specs.Head.{head_of, word_of, empty_head, top_of, advance
 // What 1 in the tag adds to the word; the low 32 bits hold the numbers below this.
 const TAG_WEIGHT: u64 = 4_294_967_296;
 
-#[derive(Drop)]
+#[derive(Clone, Copy, Debug, PartialEq, Eq)]
 pub struct Head {
     // The number of the item on top plus one; 0 for none.
     pub item: u32,
     pub tag: u32,
-}
-
-// What stands on top of a list: nothing, or the item of this number.
-#[derive(Drop)]
-pub enum Top {
-    Empty,
-    Item(u32),
 }
 
 impl Head {
@@ -45,16 +38,11 @@ impl Head {
         (self.item as u64) + (self.tag as u64) * TAG_WEIGHT
     }
 
-    // The item on top. The read by which a pop finds its list empty is this one.
-    pub fn top(self) -> Top
+    // The item on top, if the list has one. The read by which a pop finds its list empty is this one.
+    pub fn top(self) -> Option<u32>
         ensures { result ≡ top_of self }
     {
-        let item = self.item;
-        if item == 0 {
-            Top::Empty
-        } else {
-            Top::Item(item - 1)
-        }
+        self.item.checked_sub(1)
     }
 
     // The head after a won exchange that leaves `item`, an item's number plus one or 0 for none, on top.
@@ -62,10 +50,9 @@ impl Head {
     pub fn advance(self, item: u32) -> Head
         ensures { result ≡ advanced self item }
     {
-        let tag = self.tag;
         Head {
             item,
-            tag: std::num::wrapping_add_u32(tag, 1),
+            tag: self.tag.wrapping_add(1),
         }
     }
 }

@@ -1,12 +1,15 @@
--- The counts of the regions before `region` are added up.
-use Prim.Native.Nat.{◌-◌, ◌≤◌}
+-- The numbers of the regions before `region` are added up.
+use mathlib.Core.Path.{◌≡◌}
+use Prim.Native.Nat.{ℕ, ◌+◌, ◌*◌, ◌≤◌, ◌<◌}
 use lib.ListN.{get_or}
+use Rattle.std.specs.Prelude.{None}
+use Rattle.limits.specs.Limits.{MOST_BLOCKS}
+use Rattle.holders.specs.FormFilling.{class_read}
 use Rattle.holders.proofs.AddingUp.{AddedTo}
 use Rattle.holders.proofs.add_up.Given as goal
 
 abbrev pub invariant-loop-region : goal.invariant-loop-region
-invariant-loop-region l =
-    (l.region ≤ l.regions) × AddedTo (λ z. get_or l.classes z 0) l.class (λ z. get_or l.counts z 0) l.region l.sum
-
-abbrev pub decreases-loop-region : goal.decreases-loop-region
-decreases-loop-region l = l.regions - l.region
+invariant-loop-region g l =
+    (l.sum ≤ (MOST_BLOCKS + 1) * l.region)
+    × ((n : ℕ → ℕ) → ((r x : ℕ) → r < l.fn.regions → goal.F-post g l.number r x → x ≡ n r)
+    → AddedTo (λ r. class_read (get_or l.opened r None)) l.class n l.region l.sum)

@@ -1,35 +1,22 @@
 -- The caches of the classes before `class` are in their ranges.
-use mathlib.Core.Path.{◌≡◌, refl, sym, ◌∙◌}
+use mathlib.Core.Path.{refl}
 use native.Mathlib.Omega.{arith}
+use Rattle.std.proofs.lemmas.Result.{err_from_is_err_and}
 use Rattle.limits.specs.Limits.{CLASSES}
-use Rattle.ranges.proofs.Passed.{failed, passed}
 use Rattle.reports.specs.Passing.{all_pass}
-use Rattle.reports.proofs.GivenFor.{given-for}
 use Rattle.reports.proofs.Passing.{one_more, one-fails}
 use Rattle.keepers.proofs.caches_fit.Goals as goal
 
 pub loop-class-init : goal.loop-class-init
 unfolding all_pass
-loop-class-init c = (omega arith, refl)
+loop-class-init c = refl
 
-pub of_class-found-requires : goal.of_class-found-requires
-of_class-found-requires c =
-    let G = c.requires in
-    given-for G G.given.task (omega arith)
-
-pub returns-then-not-found : goal.returns-then-not-found
-returns-then-not-found c =
-    sym (one-fails CLASSES _ c.loop-class.class (omega arith)
-    (sym c.of_class-found.ensures.tested ∙ failed refl c.if-not-found.true))
+pub returns-in_err-of_class-clause-failed : goal.returns-in_err-of_class-clause-failed
+returns-in_err-of_class-clause-failed c =
+    let p = err_from_is_err_and c.from_residual.result c.from_residual.ensures.1 in
+    rw p.1
+    (one-fails CLASSES _ c.loop-class.class (omega arith) (rw c.new.ensures at c.in_err-of_class.ensures.out_of_range))
 
 pub loop-class-preserved : goal.loop-class-preserved
-loop-class-preserved c = (
-  omega arith,
-  one_more _ _ c.loop-class.invariant.1
-      (sym c.of_class-found.ensures.tested ∙ passed refl c.if-not-found.false),
-)
-
-pub returns : goal.returns
-returns c =
-    let e : c.loop-class.class ≡ CLASSES = omega arith in
-    sym (rw e at c.loop-class.invariant.1)
+loop-class-preserved c =
+    one_more _ _ c.loop-class.invariant (rw c.new.ensures at c.in_ok-of_class.ensures.in_range_is)

@@ -1,33 +1,20 @@
 -- One law for each answer.
-use mathlib.Core.Path.{refl, sym, ◌∙◌}
-use mathlib.Core.List.{[]}
 use native.Mathlib.Omega.{arith}
-use Rattle.reports.proofs.ReportAnswers.{not-gathered, answers-14, answers-23, answers-20}
-use Rattle.keepers.proofs.KeepersFound.{keepers-gathered, read-refused}
+use Rattle.reports.proofs.ReportAnswers.{refused, answers-on}
+use Rattle.keepers.proofs.KeepersFound.{kept-tell, keepers-gathered, read-refused}
 use Rattle.keepers.proofs.write.Goals as goal
 
-pub returns-then-not-read_fits : goal.returns-then-not-read_fits
-returns-then-not-read_fits c =
-    answers-14 _ _ _ _ (not-gathered _ [] (read-refused _ _ _ (sym c.read_fits.ensures ∙ c.if-not-read_fits.true)))
-    refl
+pub returns-in_err-read_fits : goal.returns-in_err-read_fits
+returns-in_err-read_fits c =
+    refused _ _ _ _ c.from_residual.ensures.1 (read-refused _ _ _ c.in_err-read_fits.ensures.failed)
 
-pub returns-then-not-fill : goal.returns-then-not-fill
-returns-then-not-fill c =
-    answers-14 _ _ _ _
-    (keepers-gathered _ _ _ (sym c.read_fits.ensures ∙ c.if-not-read_fits.false) c.requires.given.regions
-    c.fill.ensures)
-    c.if-not-fill.true
-
-pub returns-then-row-regions : goal.returns-then-row-regions
-returns-then-row-regions c =
-    answers-23 _ _ _ _
-    (keepers-gathered _ _ _ (sym c.read_fits.ensures ∙ c.if-not-read_fits.false) c.requires.given.regions
-    c.fill.ensures)
-    c.if-not-fill.false (omega arith)
+pub returns-in_err-fill : goal.returns-in_err-fill
+returns-in_err-fill c =
+    refused _ _ _ _ c.from_residual-in_err-fill.ensures.1
+    (kept-tell _ _ _ c.in_ok-read_fits.ensures.passed c.in_err-fill.ensures.failed)
 
 pub returns : goal.returns
 returns c =
-    answers-20 _ _ _ _
-    (keepers-gathered _ _ _ (sym c.read_fits.ensures ∙ c.if-not-read_fits.false) c.requires.given.regions
-    c.fill.ensures)
-    c.if-not-fill.false (omega arith) c.write.ensures
+    answers-on _ _ _ (kept-tell _ _ _ c.in_ok-read_fits.ensures.passed c.in_ok-fill.ensures.passed)
+    (rw c.get.ensures.same
+    (keepers-gathered _ _ _ c.in_ok-read_fits.ensures.passed (omega arith) c.in_ok-fill.ensures)) c.write.ensures

@@ -1,12 +1,18 @@
--- The tests, then the beginning.
-use native.Mathlib.Omega.{arith}
-use Rattle.pool.proofs.Calling.{free-refused, free-does}
+-- A control memory of another length is refused; on one of its length another function does the call.
+use Rattle.stepped.specs.Outcome.{effect}
+use Rattle.stepped.specs.Calls.{free_outcome}
+use Rattle.pool.proofs.Calling.{lent, refused-is, other, short, call-does}
 use Rattle.pool.proofs.pool_begin_free.Goals as goal
 
-pub returns-then-refused-ne0 : goal.returns-then-refused-ne0
-returns-then-refused-ne0 c = free-refused _ _ _ _ _ c.tests-refused.ensures _ (λ e. omega arith)
+pub returns-in_default : goal.returns-in_default
+unfolding free_outcome
+returns-in_default c =
+    let m = c.args.control.now in
+    let a = c.args.area.now in
+    let z = c.args.strips.now in
+    short m a z (λ o. effect o (lent m a z)) (refused-is m a z 1) (other m a z _ c.in_default.ensures.cases _) c.number.ensures
 
 pub returns : goal.returns
 returns c =
-    free-does _ _ _ _ _ c.tests-refused.ensures _ _ (omega arith) c.regions-regions.ensures
-    c.begin.ensures c.number.ensures
+    let kept = c.in-Some.ensures.cases in
+    call-does _ _ _ kept.long kept.same (λ l v. free_outcome l v c.args.task c.args.unit) c.begin_free.ensures c.number-2.ensures

@@ -1,13 +1,19 @@
--- The tests, then the form.
-use native.Mathlib.Omega.{arith}
-use Rattle.holders.specs.Form.{FORM_NUMBERS}
-use Rattle.pool.proofs.Reporting.{on-refused, on-answers}
+-- A control memory of another length is refused; on one of its length another function fills the row.
+use mathlib.Core.List.{List}
+use Prim.Native.Nat.{ℕ}
+use Rattle.sheet.specs.Sheet.{sheet_in_range}
+use Rattle.holders.specs.Form.{FORM_NUMBERS, form_number}
+use Rattle.holders.specs.Form.{form_of}
+use Rattle.pool.proofs.Reporting.{short-report, elsewhere}
 use Rattle.pool.proofs.pool_holders.Goals as goal
 
-pub returns-then-refused-ne0 : goal.returns-then-refused-ne0
-returns-then-refused-ne0 c = on-refused _ _ _ _ _ c.report_tests-refused.ensures _ (λ e. omega arith)
+pub returns-in_default : goal.returns-in_default
+returns-in_default c =
+    short-report sheet_in_range form_number _ _ _ _ c.in_default.ensures.cases c.number.ensures
 
 pub returns : goal.returns
 returns c =
-    on-answers _ _ _ _ _ c.report_tests-refused.ensures (λ k. FORM_NUMBERS) _ (omega arith)
-    c.regions-regions.ensures c.write.ensures
+    let kept = c.in-Some.ensures.cases in
+    elsewhere
+    (λ (b : List ℕ). form_of (record { control = b; area = c.args.area.now; strips = c.args.strips.now }) c.args.form.now)
+    kept.same c.report_number.ensures c.fill_holders.ensures

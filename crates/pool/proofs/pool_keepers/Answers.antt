@@ -1,14 +1,19 @@
--- The tests, then the keepers.
-use native.Mathlib.Omega.{arith}
+-- A control memory of another length is refused; on one of its length another function fills the row.
+use mathlib.Core.List.{List}
+use Prim.Native.Nat.{ℕ}
 use Prim.Native.Nat.{◌*◌}
-use Rattle.keepers.specs.Keepers.{KEEPER_NUMBERS}
-use Rattle.pool.proofs.Reporting.{on-refused, on-answers}
+use Rattle.keepers.specs.Keepers.{KEEPER_NUMBERS, keeper_number, are_kept}
+use Rattle.keepers.specs.Keepers.{keepers_of}
+use Rattle.pool.proofs.Reporting.{short-report, elsewhere}
 use Rattle.pool.proofs.pool_keepers.Goals as goal
 
-pub returns-then-refused-ne0 : goal.returns-then-refused-ne0
-returns-then-refused-ne0 c = on-refused _ _ _ _ _ c.report_tests-refused.ensures _ (λ e. omega arith)
+pub returns-in_default : goal.returns-in_default
+returns-in_default c =
+    short-report are_kept keeper_number _ _ _ _ c.in_default.ensures.cases c.number.ensures
 
 pub returns : goal.returns
 returns c =
-    on-answers _ _ _ _ _ c.report_tests-refused.ensures (λ k. KEEPER_NUMBERS * k) _ (omega arith)
-    c.regions-regions.ensures c.write.ensures
+    let kept = c.in-Some.ensures.cases in
+    elsewhere
+    (λ (b : List ℕ). keepers_of (record { control = b; area = c.args.area.now; strips = c.args.strips.now }) c.args.keepers.now)
+    kept.same c.report_number.ensures c.fill_keepers.ensures

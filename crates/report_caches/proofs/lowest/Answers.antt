@@ -1,27 +1,35 @@
--- What is left of the cache gives the lowest of the whole. The measure is the number of blocks that are left.
+-- What is left of the cache gives the lowest of the whole.
+use Prim.Native.Nat.{◌+◌, ◌-◌}
+use native.Mathlib.Nat.{sub-zero}
 use native.Mathlib.Omega.{arith}
 use Rattle.report_caches.proofs.LowestBlocks.{lowest-begins, lowest-inside, lowest-goes, lowest-ends}
+use Rattle.report_caches.proofs.LowestBlocks.{found-is, none-found}
 use Rattle.report_caches.proofs.lowest.Goals as goal
 
-pub loop-left-init : goal.loop-left-init
-loop-left-init c =
-    lowest-begins c.requires.1 c.cache_top-unit.ensures c.cache_count-left.ensures
+pub loop-init : goal.loop-init
+loop-init c =
+    (rw sub-zero (lowest-begins c.requires.1 c.get_of-unit.ensures c.get_of-end.ensures), tt)
+
+pub lower-low-requires : goal.lower-low-requires
+lower-low-requires c =
+    (omega (arith, lowest-inside {more = c.get_of-end.result - (c.loop.counter + 1)} c.loop.invariant.0 (omega arith)), c.loop.invariant.1)
 
 pub read-unit-requires : goal.read-unit-requires
 read-unit-requires c =
     omega (
       arith,
-      lowest-inside c.loop-left.invariant c.loop-left-test.true,
-      c.requires.0.area,
+      lowest-inside {more = c.get_of-end.result - (c.loop.counter + 1)} c.loop.invariant.0 (omega arith),
+      c.requires.0,
     )
 
-pub loop-left-preserved : goal.loop-left-preserved
-loop-left-preserved c =
-    lowest-goes c.loop-left.invariant c.loop-left-test.true c.lower-low.ensures
-    c.read-unit.ensures
+pub loop-preserved : goal.loop-preserved
+loop-preserved c = (
+  lowest-goes c.loop.invariant.0 (omega arith) c.lower-low.ensures.lower c.read-unit.ensures,
+  c.lower-low.ensures.below,
+)
 
-pub overflow_cast-result : goal.overflow_cast-result
-overflow_cast-result c = omega (arith, c.loop-left.invariant.most)
+pub returns-clause-found : goal.returns-clause-found
+returns-clause-found c = found-is c.loop.low (lowest-ends c.loop.invariant.0 (omega arith))
 
-pub returns : goal.returns
-returns c = lowest-ends c.loop-left.invariant (omega arith)
+pub returns-clause-none : goal.returns-clause-none
+returns-clause-none c = none-found c.loop.low (lowest-ends c.loop.invariant.0 (omega arith))

@@ -1,12 +1,14 @@
--- What is left of the cache gives the lowest of the whole. The measure is the number of blocks that are left.
+-- What is left of the cache gives the lowest of the whole.
+use Prim.Native.Nat.{◌-◌, ◌<◌}
+use Rattle.std.specs.Prelude.{unwrap_or, IfSome}
+use Rattle.limits.specs.Limits.{UNITS}
 use Rattle.links.specs.Link.{link}
 use Rattle.control.specs.Layout.{seen}
 use Rattle.report_caches.proofs.LowestBlocks.{LowestTo}
 use Rattle.report_caches.proofs.lowest.Given as goal
 
-abbrev pub invariant-loop-left : goal.invariant-loop-left
-invariant-loop-left l =
-    LowestTo (seen l.control) (link l.area) l.regions l.task l.class l.region l.unit l.left l.low
-
-abbrev pub decreases-loop-left : goal.decreases-loop-left
-decreases-loop-left l = l.left
+abbrev pub invariant-loop : goal.invariant-loop
+invariant-loop l =
+    LowestTo (seen l.control) (link l.area) l.fn.regions l.fn.task l.fn.class l.fn.region l.unit (l.end - l.counter)
+    (unwrap_or l.low UNITS)
+    × IfSome l.low (λ lowest. lowest < UNITS)

@@ -1,6 +1,4 @@
 -- The caches of the tasks before `task` are counted.
-use Prim.Native.Nat.{◌-◌, ◌≤◌}
-use Rattle.limits.specs.Limits.{TASKS}
 use Rattle.links.specs.Link.{link}
 use Rattle.control.specs.Layout.{seen}
 use Rattle.reports.specs.ByRegion.{in_region}
@@ -10,9 +8,5 @@ use Rattle.report_caches.proofs.of_class.Given as goal
 
 abbrev pub invariant-loop-task : goal.invariant-loop-task
 invariant-loop-task l =
-    (l.task ≤ TASKS)
-    × TasksCounted (λ t. is_cache (seen l.control) (link l.area) l.regions t l.class) in_region
+    TasksCounted (λ t. is_cache (seen l.control) (link l.area) l.regions t l.class) in_region
     (λ t. cache_row (seen l.control) (link l.area) t l.class) l.task l.counts
-
-abbrev pub decreases-loop-task : goal.decreases-loop-task
-decreases-loop-task l = TASKS - l.task

@@ -1,61 +1,35 @@
--- What is left of the cache gives the whole's answer. The measure is the number of blocks that are left.
-use mathlib.Core.Path.{refl, sym, ◌∙◌}
+-- The blocks before `unit` are passed: what is left of the cache gives the whole's answer.
+use mathlib.Core.Path.{sym, ◌∙◌}
 use native.Mathlib.Omega.{arith}
 use borrow.Author.Rules.{rules}
-use Rattle.ranges.proofs.Passed.{block-passed}
-use Rattle.report_caches.proofs.Walking.{region-counted, walk_begins, walk-room, walk-goes, walk-stops, walk_ends}
+use Rattle.std.proofs.lemmas.Result.{err_from_is_err_and}
+use Rattle.report_caches.proofs.Walking.{walk_begins, walk-room, walk-goes, walk-stops, walk_ends, walk-fails}
 use Rattle.report_caches.proofs.walk.Goals as goal
 
-pub loop-left-init : goal.loop-left-init
-loop-left-init c = walk_begins (search rules)
+pub loop-init : goal.loop-init
+loop-init c = walk_begins (search rules)
 
-pub returns-then-not-is_block : goal.returns-then-not-is_block
-returns-then-not-is_block c =
-    walk-stops c.loop-left.invariant c.loop-left-test.true
-    (sym c.is_block.ensures ∙ c.if-not-is_block.true)
+pub returns-in_err-in_range : goal.returns-in_err-in_range
+returns-in_err-in_range c =
+    let p = err_from_is_err_and c.from_residual.result c.from_residual.ensures.1 in
+    rw p.1 (walk-stops c.loop.invariant (omega arith) (sym c.is_block.ensures ∙ c.in_err-in_range.ensures.failed))
 
 pub overflow_add-counts : goal.overflow_add-counts
 overflow_add-counts c =
-    let pre = c.requires in
     omega (
       arith,
-      walk-room c.loop-left.invariant c.loop-left-test.true pre.3 pre.4
-          c.region_of-region.ensures,
+      walk-room c.loop.invariant (omega arith) c.requires.1 c.requires.2 c.region_of.ensures,
     )
 
-pub read-unit-requires : goal.read-unit-requires
-read-unit-requires c = omega (
-  arith,
-  block-passed c.args.regions c.args.class c.loop-left.unit
-      (sym c.is_block.ensures ∙ c.if-not-is_block.false),
-  c.requires,
-)
+pub loop-preserved : goal.loop-preserved
+loop-preserved c =
+    walk-goes c.loop.invariant (omega arith) (omega arith) (sym c.is_block.ensures ∙ c.in_ok-in_range.ensures.passed)
+    c.region_of.ensures c.read-unit.ensures
 
-pub loop-left-preserved : goal.loop-left-preserved
-loop-left-preserved c =
-    walk-goes c.loop-left.invariant c.loop-left-test.true c.requires.1
-    (sym c.is_block.ensures ∙ c.if-not-is_block.false)
-    c.region_of-region.ensures c.read-unit.ensures
+pub returns-in_err-in_range-2 : goal.returns-in_err-in_range-2
+returns-in_err-in_range-2 c =
+    let p = err_from_is_err_and c.from_residual-in_err-in_range-2.result c.from_residual-in_err-in_range-2.ensures.1 in
+    rw p.1 (walk-fails c.loop.invariant (omega arith) c.in_err-in_range-2.ensures.failed)
 
 pub returns : goal.returns
-returns c = walk_ends c.loop-left.invariant (omega arith) refl
-
-pub offset_bounds-counts-region : goal.offset_bounds-counts-region
-offset_bounds-counts-region c =
-    let e = sym c.is_block.ensures ∙ c.if-not-is_block.false in
-    omega (arith, region-counted _ _ _ c.requires.1 e c.region_of-region.ensures)
-
-pub bounds-counts-region : goal.bounds-counts-region
-bounds-counts-region c =
-    let e = sym c.is_block.ensures ∙ c.if-not-is_block.false in
-    omega (arith, region-counted _ _ _ c.requires.1 e c.region_of-region.ensures)
-
-pub offset_bounds-counts-region-in-loop-left : goal.offset_bounds-counts-region-in-loop-left
-offset_bounds-counts-region-in-loop-left c =
-    let e = sym c.is_block.ensures ∙ c.if-not-is_block.false in
-    omega (arith, region-counted _ _ _ c.requires.1 e c.region_of-region.ensures)
-
-pub bounds-counts-region-in-loop-left : goal.bounds-counts-region-in-loop-left
-bounds-counts-region-in-loop-left c =
-    let e = sym c.is_block.ensures ∙ c.if-not-is_block.false in
-    omega (arith, region-counted _ _ _ c.requires.1 e c.region_of-region.ensures)
+returns c = walk_ends c.loop.invariant (omega arith) c.in_ok-in_range-2.ensures.passed

@@ -1,11 +1,7 @@
--- What is left of the cache gives the whole's answer. The measure is the number of blocks that are left.
+-- The blocks before `unit` are passed: what is left of the cache gives the whole's answer.
 use Rattle.links.specs.Link.{link}
 use Rattle.report_caches.proofs.Walking.{Walking}
 use Rattle.report_caches.proofs.walk.Given as goal
 
-abbrev pub invariant-loop-left : goal.invariant-loop-left
-invariant-loop-left l =
-    Walking (link l.area) l.regions l.class l.top l.count l.from l.unit l.left l.counts
-
-abbrev pub decreases-loop-left : goal.decreases-loop-left
-decreases-loop-left l = l.left
+abbrev pub invariant-loop : goal.invariant-loop
+invariant-loop l = Walking (link l.area) l.regions l.class l.top l.count l.fn.from l.unit l.counter l.counts

@@ -1,66 +1,60 @@
 -- A request of another class has none of the class; else its blocks are counted, and then its own block.
-use mathlib.Core.Path.{◌≡◌}
-use Prim.Native.Nat.{ℕ, ◌≤◌}
+use mathlib.Core.Path.{sym, ◌∙◌}
 use native.Mathlib.Omega.{arith}
 use borrow.Author.Rules.{rules}
-use Rattle.limits.specs.Limits.{REGIONS}
-use Rattle.fields.specs.Columns.{View}
-use Rattle.report_requests.specs.declared.RequestBlocks.{RequestBlocks}
-use Rattle.report_requests.specs.UnderWay.{request_blocks}
-use Rattle.report_requests.proofs.RequestBounds.{Bounded, request-bounded}
-use Rattle.report_requests.proofs.RequestsCounted.{request-other, request-blocks, own_room, request-own}
+use Rattle.std.proofs.lemmas.Result.{err_from_is_err_and}
+use Rattle.report_requests.proofs.RequestBounds.{read-bounded}
+use Rattle.report_requests.proofs.RequestsCounted.{request-outside, request-other, request-blocks, own_inside, own_room}
+use Rattle.report_requests.proofs.RequestsCounted.{request-own}
 use Rattle.report_requests.proofs.with_request.Goals as goal
 
--- what was read of the task can be counted
-bounded : (v : View) (regions t : ℕ) {got : RequestBlocks} → got ≡ request_blocks v regions t → regions ≤ REGIONS
-    → Bounded got
-bounded v regions t e h = rw e (request-bounded v regions t h)
+pub returns-in_err-request : goal.returns-in_err-request
+returns-in_err-request c =
+    let p = err_from_is_err_and c.from_residual.result c.from_residual.ensures.1 in
+    rw p.1 (request-outside _ c.in_err-request.ensures)
 
-pub returns-then-class-got : goal.returns-then-class-got
-returns-then-class-got c = request-other c.of_task-got.ensures _ _ c.if-class-got.true
-
-pub bounds-counts-region : goal.bounds-counts-region
-bounds-counts-region c =
-    let b = bounded _ _ _ c.of_task-got.ensures c.requires.1 in
-    omega (arith, b.region)
+pub returns-then-get : goal.returns-then-get
+returns-then-get c =
+    request-other c.in_ok-request.ensures _ _
+    (λ e. c.if-get.true (c.get.ensures.same ∙ e ∙ sym c.get-2.ensures.same))
 
 pub overflow_add-counts : goal.overflow_add-counts
 overflow_add-counts c =
-    let b = bounded _ _ _ c.of_task-got.ensures c.requires.1 in
-    omega (arith, b.blocks, c.requires.4 c.of_task-got.result.region)
+    let b = read-bounded _ _ _ c.in_ok-request.ensures (omega arith) in
+    omega (arith, b.blocks, c.requires c.get-3.result)
 
-pub bounds-counts-region-2 : goal.bounds-counts-region-2
-bounds-counts-region-2 c =
-    let b = bounded _ _ _ c.of_task-got.ensures c.requires.1 in
-    omega (arith, b.region)
+pub bounds-counts-region_of : goal.bounds-counts-region_of
+bounds-counts-region_of c =
+    let b = read-bounded _ _ _ c.in_ok-request.ensures (omega arith) in
+    let same = sym c.get.ensures.same ∙ c.if-get.false ∙ c.get-2.ensures.same in
+    own_inside c.in_ok-request.ensures _ c.args.from same (search rules) b c.in-Some.is c.region_of.ensures
 
-pub bounds-counts-own : goal.bounds-counts-own
-bounds-counts-own c =
-    let b = bounded _ _ _ c.of_task-got.ensures c.requires.1 in
-    omega (arith, b.own c.if-got-ne-NONE.true, c.region_of-own.ensures)
-
-pub overflow_add-counts-then-got-ne-NONE : goal.overflow_add-counts-then-got-ne-NONE
-overflow_add-counts-then-got-ne-NONE c =
-    let b = bounded _ _ _ c.of_task-got.ensures c.requires.1 in
-    omega (
+pub overflow_add-counts-in-Some : goal.overflow_add-counts-in-Some
+overflow_add-counts-in-Some c =
+    let b = read-bounded _ _ _ c.in_ok-request.ensures (omega arith) in
+    let same = sym c.get.ensures.same ∙ c.if-get.false ∙ c.get-2.ensures.same in
+    rw c.get-3.ensures.same
+    (omega (
       arith,
-      own_room c.of_task-got.ensures c.args.class c.args.from c.if-class-got.false (search rules) b
-          c.if-got-ne-NONE.true c.region_of-own.ensures c.requires.4,
-    )
+      own_room c.in_ok-request.ensures _ c.args.from same (search rules) b c.in-Some.is c.region_of.ensures c.requires,
+    ))
 
-pub bounds-counts-own-then-got-ne-NONE : goal.bounds-counts-own-then-got-ne-NONE
-bounds-counts-own-then-got-ne-NONE c =
-    let b = bounded _ _ _ c.of_task-got.ensures c.requires.1 in
-    omega (arith, b.own c.if-got-ne-NONE.true, c.region_of-own.ensures)
+pub bounds-counts-region_of-in-Some : goal.bounds-counts-region_of-in-Some
+bounds-counts-region_of-in-Some c =
+    let b = read-bounded _ _ _ c.in_ok-request.ensures (omega arith) in
+    let same = sym c.get.ensures.same ∙ c.if-get.false ∙ c.get-2.ensures.same in
+    own_inside c.in_ok-request.ensures _ c.args.from same (search rules) b c.in-Some.is c.region_of.ensures
 
-pub returns-then-got-ne-NONE : goal.returns-then-got-ne-NONE
-returns-then-got-ne-NONE c =
-    let b = bounded _ _ _ c.of_task-got.ensures c.requires.1 in
-    request-own c.of_task-got.ensures c.args.class c.args.from c.if-class-got.false (search rules) b
-    c.if-got-ne-NONE.true c.region_of-own.ensures
+pub returns-in-Some : goal.returns-in-Some
+returns-in-Some c =
+    let b = read-bounded _ _ _ c.in_ok-request.ensures (omega arith) in
+    let same = sym c.get.ensures.same ∙ c.if-get.false ∙ c.get-2.ensures.same in
+    rw c.get-3.ensures.same
+    (request-own c.in_ok-request.ensures _ c.args.from same (search rules) b c.in-Some.is c.region_of.ensures)
 
-pub returns-else-got-ne-NONE : goal.returns-else-got-ne-NONE
-returns-else-got-ne-NONE c =
-    let b = bounded _ _ _ c.of_task-got.ensures c.requires.1 in
-    request-blocks c.of_task-got.ensures c.args.class c.args.from c.if-class-got.false (search rules) b
-    c.if-got-ne-NONE.false
+pub returns-in_default : goal.returns-in_default
+returns-in_default c =
+    let b = read-bounded _ _ _ c.in_ok-request.ensures (omega arith) in
+    let same = sym c.get.ensures.same ∙ c.if-get.false ∙ c.get-2.ensures.same in
+    rw c.get-3.ensures.same
+    (request-blocks c.in_ok-request.ensures _ c.args.from same (search rules) b c.in_default.is)

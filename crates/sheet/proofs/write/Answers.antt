@@ -1,13 +1,6 @@
--- One law for each answer.
-use native.Mathlib.Omega.{arith}
-use Rattle.reports.proofs.ReportAnswers.{answers-14, answers-23, answers-20}
+-- A value out of its range is answered with 14.
+use Rattle.reports.proofs.ReportAnswers.{refused}
 use Rattle.sheet.proofs.write.Goals as goal
 
-pub returns-then-not-fill : goal.returns-then-not-fill
-returns-then-not-fill c = answers-14 _ _ _ _ c.fill.ensures c.if-not-fill.true
-
-pub returns-then-row-lt-SHEET_BYTES : goal.returns-then-row-lt-SHEET_BYTES
-returns-then-row-lt-SHEET_BYTES c = answers-23 _ _ _ _ c.fill.ensures c.if-not-fill.false (omega arith)
-
-pub returns : goal.returns
-returns c = answers-20 _ _ _ _ c.fill.ensures c.if-not-fill.false (omega arith) c.write.ensures
+pub returns-in_err-fill : goal.returns-in_err-fill
+returns-in_err-fill c = refused _ _ _ _ c.from_residual.ensures.1 c.in_err-fill.ensures.out_of_range

@@ -1,40 +1,48 @@
-use mathlib.Core.Path.{refl, ◌∙◌}
-use native.Mathlib.Omega.{arith}
-use borrow.Author.Rules.{rules}
+-- The column names, a line more, and the last line.
+use Rattle.std.proofs.Common.{◌≡◌, ◌<◌, ◌^◌, subst, sym, ◌∙◌, arith}
+use Rattle.schedule.specs.Reading.{Begins}
+use Rattle.schedule.specs.Tally.{none_counted}
+use Rattle.text.specs.Lines.{line_text}
 use Rattle.text.proofs.TextWriting.{at_part}
 use Rattle.table.proofs.Playing.{within, begins, short, goes_on, ends}
 use Rattle.table.proofs.write.Goals as goal
 
-pub loop-at-init : goal.loop-at-init
-loop-at-init c = (begins _ _ _ c.columns-used.ensures c.empty-counts.ensures, refl, refl, refl)
+pub loop-entry-init : goal.loop-entry-init
+loop-entry-init c =
+    let zero = c.default-counts.ensures in
+    let none : c.default-counts.result ≡ none_counted =
+    λ i. record { finished = zero.0 i; accepted = zero.1.0 i; others = zero.1.1 i } in
+    record {
+      ahead =
+          begins _ _ _ c.columns-used.ensures
+          (subst (Begins c.args.input.now) (sym c.into_iter-entry-iterator.ensures.into_iter_gives)
+          c.of-entry-items.ensures)
+          none;
+      same_length = c.columns-used.ensures.same_length;
+    }
 
-pub loop-at-preserved : goal.loop-at-preserved
-loop-at-preserved c =
-    let input = c.args.input.now in
-    let inv = c.loop-at.invariant in
-    let fits =
-    within _ input inv.0 c.requires.1
-    (omega (arith, inv.3, c.columns-used.ensures.same_length, c.requires.2)) in
-    let line-is = c.line-used in
+pub loop-entry-preserved : goal.loop-entry-preserved
+loop-entry-preserved c =
+    let I = c.loop-entry.invariant in
+    let passed = c.in-Some.ensures.steps in
+    let line = c.treat_counted-line in
+    let fits = within _ _ I.ahead c.requires.input (omega (arith, I.same_length, c.requires.room)) in
     let written =
-    at_part c.loop-at.out line-is.new.out _ c.loop-at.used line-is.result fits line-is.ensures in
-    let entry = c.numbered-entry.ensures in
-    let done = c.treat_with-treated.ensures in
-    let short-is =
-    short _ input c.loop-at.at c.loop-at.number entry (omega (arith, inv.0.few, c.requires.1, c.loop-at-test.true))
-    done.0
-    (omega (arith, c.treat_with-treated.type_inv)) (omega (arith, c.treat_with-treated.type_inv)) in (
-      goes_on _ input inv.0 (omega arith) entry done.0 (written, short-is) done.1 c.end-at.ensures,
-      search (rules, inv.1),
-      search (rules, inv.2),
-      written.same_length ∙ inv.3,
-    )
+    at_part c.loop-entry.out c.line-used.new.out (line_text c.args.lost line.result) c.loop-entry.used
+    c.line-used.result fits c.line-used.ensures in
+    let few : c.loop-entry.entry-iterator.number < 10 ^ 5 =
+    omega (arith, passed.before_end, c.loop-entry.entry-iterator.short, c.loop-entry.entry-iterator.numbered) in
+    record {
+      ahead =
+          goes_on _ _ I.ahead passed (omega (arith, c.loop-entry.entry-iterator.numbered)) line.ensures.does
+          (written, short _ c.args.input.now passed few line.ensures.does (omega (arith, line.type_inv)) (omega (arith, line.type_inv)))
+          line.ensures.counted;
+      same_length = written.same_length ∙ I.same_length;
+    }
 
 pub returns : goal.returns
 returns c =
-    let out = c.loop-at.out in
-    let total = c.total-last in
-    let inv = c.loop-at.invariant in
-    let same = inv.3 ∙ c.columns-used.ensures.same_length in
-    let fits = within _ c.args.input.now inv.0 c.requires.1 (omega (arith, same, c.requires.2)) in
-    ends _ _ inv.0 (omega arith) same (at_part out total.new.out _ c.loop-at.used total.result fits total.ensures)
+    let I = c.loop-entry.invariant in
+    let fits = within _ _ I.ahead c.requires.input (omega (arith, I.same_length, c.requires.room)) in
+    ends _ _ I.ahead c.in-None.ensures.steps I.same_length
+    (at_part c.loop-entry.out c.total.new.out _ c.loop-entry.used c.total.result fits c.total.ensures)

@@ -3,18 +3,16 @@ use Rattle.text.specs.Lines.{line_text}
 use Rattle.text.proofs.TextWriting.{both}
 use Rattle.text.proofs.line.Goals as goal
 
-pub returns-then-shown : goal.returns-then-shown
+pub returns-in-Hidden : goal.returns-in-Hidden
 unfolding line_text
-returns-then-shown c =
-    rw c.if-shown.true
-    (both
-    (both (both c.field-first.ensures.0 c.field-second.ensures.0) c.field-third.ensures.0)
-    (both c.field-fourth.ensures.0 c.field.ensures.0))
+returns-in-Hidden c =
+    rw c.in-Hidden.is
+    (both (both (both c.field-first.ensures.appended c.field-second.ensures.appended) c.field-third.ensures.appended)
+    c.field.ensures.appended)
 
-pub returns : goal.returns
+pub returns-in-Shown : goal.returns-in-Shown
 unfolding line_text
-returns c =
-    rw c.if-shown.false
-    (both
-    (both (both c.field-first.ensures.0 c.field-second.ensures.0) c.field-third.ensures.0)
-    c.field-2.ensures.0)
+returns-in-Shown c =
+    rw c.in-Shown.is
+    (both (both (both c.field-first.ensures.appended c.field-second.ensures.appended) c.field-third.ensures.appended)
+    (both c.field-fourth.ensures.appended c.field-in-Shown.ensures.appended))

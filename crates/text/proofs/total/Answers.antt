@@ -7,5 +7,5 @@ pub returns : goal.returns
 unfolding total_text
 returns c =
     both
-    (both (both c.word-start.ensures c.field-first.ensures.0) c.field-second.ensures.0)
-    c.field.ensures.0
+    (both (both c.word-start.ensures c.field-first.ensures.appended) c.field-second.ensures.appended)
+    c.field.ensures.appended

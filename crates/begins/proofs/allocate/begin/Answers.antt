@@ -1,28 +1,42 @@
 -- One law for each way out.
-use Rattle.std.proofs.Common.{refl, arith, rules}
-use Rattle.stepped.proofs.Doing.{done, does}
-use Rattle.begins.proofs.Beginning.{no_place, in-hand, idle-is, size-refused, strip-larger, served}
+use Rattle.std.proofs.Common.{refl, sym, ap, ◌∙◌, Ok}
+use Rattle.classes.specs.Sizes.{choice}
+use Rattle.control.specs.Answers.{answer_of}
+use Rattle.control.specs.declared.answer.Answer.{Answer}
+use Rattle.stepped.specs.Calls.{begin_allocate}
+use Rattle.stepped.proofs.Doing.{done}
+use Rattle.begins.proofs.Refusals.{goes, stops, refused-by}
+use Rattle.begins.proofs.Beginning.{by-choice, strip-size, as-strip}
 use Rattle.begins.proofs.allocate.begin.Goals as goal
 
-pub returns-then-place-ge-PLACES : goal.returns-then-place-ge-PLACES
-returns-then-place-ge-PLACES c = done (no_place _ _ _ (omega arith)) refl (cc) refl
+pub returns-in_err-idle : goal.returns-in_err-idle
+returns-in_err-idle c =
+    refused-by _ (stops _ _ (c.idle.ensures (begin_allocate c.args.task c.args.size)) c.in_err-idle.was)
+    c.from_residual.ensures.1
 
-pub returns-then-place-ne-IDLE : goal.returns-then-place-ne-IDLE
-returns-then-place-ne-IDLE c = done (in-hand _ _ _ (omega arith) (λ e. omega arith)) refl (cc) refl
+pub returns-in_err-class : goal.returns-in_err-class
+returns-in_err-class c =
+    let i = goes _ _ (c.idle.ensures (begin_allocate c.args.task c.args.size)) c.in_ok-idle.was in
+    let e = sym c.size_class.ensures ∙ c.in_err-class.was in
+    refused-by _ (i ∙ stops (choice c.args.size) _ (by-choice _ _) e) c.from_residual-in_err-class.ensures.1
 
-pub returns-then-size : goal.returns-then-size
-returns-then-size c = does (idle-is _ _ _ (omega arith)) c.strip.ensures
-
-pub returns-in-Refused : goal.returns-in-Refused
-returns-in-Refused c = done (size-refused _ _ _ (omega arith) _ (cc)) refl (cc) refl
-
-pub strip-requires-in-Strip : goal.strip-requires-in-Strip
-strip-requires-in-Strip c = (search rules, search rules, strip-larger _ (cc))
-
-pub returns-in-Strip : goal.returns-in-Strip
-returns-in-Strip c = does (idle-is _ _ _ (omega arith)) c.strip-in-Strip.ensures
+pub order_of-order-requires : goal.order_of-order-requires
+order_of-order-requires c =
+    let e = strip-size _ (sym c.size_class.ensures ∙ c.in_ok-class.was ∙ ap Ok c.in-Strip.is) in
+    record { some = e.0; most = e.1 }
 
 pub returns-in-Class : goal.returns-in-Class
 returns-in-Class c =
-    served _ _ _ (omega arith) _ _ c.set_task_place.ensures c.set_task_class.ensures
-    c.set_task_lost.ensures (cc)
+    let i = goes _ _ (c.idle.ensures (begin_allocate c.args.task c.args.size)) c.in_ok-idle.was in
+    let e = sym c.size_class.ensures ∙ c.in_ok-class.was ∙ ap Ok c.in-Class.is in
+    done (i ∙ goes (choice c.args.size) _ (by-choice _ _) e)
+    (ap (λ (a : Answer). answer_of (Ok a)) c.accept.ensures.answer)
+    (rw c.get-class.ensures.same at c.accept.ensures.stores) refl
+
+pub returns-in-Strip : goal.returns-in-Strip
+returns-in-Strip c =
+    let i = goes _ _ (c.idle.ensures (begin_allocate c.args.task c.args.size)) c.in_ok-idle.was in
+    let e = sym c.size_class.ensures ∙ c.in_ok-class.was ∙ ap Ok c.in-Strip.is in
+    done (i ∙ as-strip _ _ c.order_of-order.result e c.order_of-order.ensures)
+    (ap (λ (a : Answer). answer_of (Ok a)) c.accept-in-Strip.ensures.answer)
+    (rw c.get.ensures.same at c.accept-in-Strip.ensures.stores) refl

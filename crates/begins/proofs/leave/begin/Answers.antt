@@ -1,14 +1,16 @@
 -- One law for each way out.
-use Rattle.std.proofs.Common.{refl, arith}
-use Rattle.stepped.proofs.Doing.{done, does}
-use Rattle.begins.proofs.Beginning.{no_place, in-hand, idle-is}
+use Rattle.control.specs.Layout.{seen}
+use Rattle.stepped.specs.Leaving.{begin_leave}
+use Rattle.stepped.proofs.Doing.{does}
+use Rattle.begins.proofs.Refusals.{goes, stops, refused-by}
 use Rattle.begins.proofs.leave.begin.Goals as goal
 
-pub returns-then-place-ge-PLACES : goal.returns-then-place-ge-PLACES
-returns-then-place-ge-PLACES c = done (no_place _ _ _ (omega arith)) refl (cc) refl
-
-pub returns-then-place-ne-IDLE : goal.returns-then-place-ne-IDLE
-returns-then-place-ne-IDLE c = done (in-hand _ _ _ (omega arith) (λ e. omega arith)) refl (cc) refl
+pub returns-in_err-idle : goal.returns-in_err-idle
+returns-in_err-idle c =
+    refused-by _ (stops _ _ (c.idle.ensures (begin_leave (seen c.args.control.now) c.args.task)) c.in_err-idle.was)
+    c.from_residual.ensures.1
 
 pub returns : goal.returns
-returns c = does (idle-is _ _ _ (omega arith)) c.begin.ensures
+returns c =
+    does (goes _ _ (c.idle.ensures (begin_leave (seen c.args.control.now) c.args.task)) c.in_ok-idle.was)
+    c.begin.ensures

@@ -12,7 +12,7 @@ small : {u : ℕ} (r c i : ℕ) → u ≡ units c → r < REGIONS → i < per_re
 small r c i e k h = rw e (unit-below (block_at r c i h) k)
 
 pub overflow_mul-result-2 : goal.overflow_mul-result-2
-overflow_mul-result-2 c = omega (arith, small _ _ _ c.units.ensures c.requires.0 c.requires.2)
+overflow_mul-result-2 c = omega (arith, small c.get.result c.args.class c.args.index c.units.ensures c.get.ensures.inside c.requires)
 
 pub overflow_add-result : goal.overflow_add-result
-overflow_add-result c = omega (arith, small _ _ _ c.units.ensures c.requires.0 c.requires.2)
+overflow_add-result c = omega (arith, small c.get.result c.args.class c.args.index c.units.ensures c.get.ensures.inside c.requires)

@@ -1,10 +1,8 @@
 -- What is left of the list tells whether the whole is one.
+use Prim.Native.Nat.{◌-◌}
 use Rattle.control.specs.Layout.{seen}
 use Rattle.report_regions.proofs.SpareWalks.{ListLeft}
 use Rattle.report_regions.proofs.spares.fits.Given as goal
 
-abbrev pub invariant-loop-left : goal.invariant-loop-left
-invariant-loop-left l = ListLeft (seen l.control) l.regions l.left l.item
-
-abbrev pub decreases-loop-left : goal.decreases-loop-left
-decreases-loop-left l = l.left
+abbrev pub invariant-loop : goal.invariant-loop
+invariant-loop l = ListLeft (seen l.control) l.regions (l.regions - l.counter) l.item

@@ -1,34 +1,36 @@
 -- What is left of the list tells whether the region is on the whole.
+use mathlib.Core.Path.{◌≡◌}
+use Prim.Native.Nat.{◌+◌, ◌-◌}
+use native.Mathlib.Nat.{sub-zero}
 use native.Mathlib.Omega.{arith}
 use Rattle.report_regions.proofs.SpareWalks.{on-begins, on-ends, on-found, on-inside, on-goes, on-over}
 use Rattle.report_regions.proofs.spares.has.Goals as goal
 
-pub loop-left-init : goal.loop-left-init
-loop-left-init c = on-begins _ _ _ c.requires.2 c.first-item.ensures
+pub loop-init : goal.loop-init
+loop-init c = rw sub-zero (on-begins _ _ _ c.requires c.first-item.ensures)
 
-pub returns-then-item-eq0 : goal.returns-then-item-eq0
-returns-then-item-eq0 c =
-    on-ends _ _ _ c.loop-left.left c.loop-left.invariant (omega arith) c.if-item-eq0.true
+pub returns-in_default : goal.returns-in_default
+returns-in_default c =
+    on-ends _ _ _ _ c.loop.invariant (omega arith) (omega (arith, c.in_default.ensures))
 
-pub returns-then-item-region : goal.returns-then-item-region
-returns-then-item-region c =
-    on-found _ _ _ c.loop-left.left c.loop-left.invariant (omega arith) c.if-item-eq0.false c.if-item-region.true
+pub returns-then-number-get : goal.returns-then-number-get
+returns-then-number-get c =
+    let some = c.in-Some.ensures in
+    on-found _ _ _ _ c.loop.invariant (omega arith) (λ e. omega (arith, some)) (omega (arith, some))
 
-pub region_next-item-requires : goal.region_next-item-requires
-region_next-item-requires c =
-    let pre = c.requires in (
-      pre.0,
-      omega (
-        arith,
-        pre.1,
-        on-inside _ _ _ c.loop-left.left c.loop-left.invariant (omega arith) c.if-item-eq0.false,
-      ),
-    )
+pub new-requires : goal.new-requires
+new-requires c =
+    let some = c.in-Some.ensures in
+    omega (arith, some, on-inside _ _ _ _ c.loop.invariant (omega arith) (λ e. omega (arith, some)))
 
-pub loop-left-preserved : goal.loop-left-preserved
-loop-left-preserved c =
-    on-goes _ _ _ c.loop-left.left c.loop-left.invariant (omega arith) c.if-item-eq0.false c.if-item-region.false
-    c.region_next-item.ensures
+pub loop-preserved : goal.loop-preserved
+loop-preserved c =
+    let l = c.loop in
+    let s : c.args.regions - (l.counter + 1) ≡ c.args.regions - l.counter - 1 = omega arith in
+    let some = c.in-Some.ensures in
+    rw s
+    (on-goes _ _ _ _ l.invariant (omega arith) (λ e. omega (arith, some)) (λ e. omega (arith, some))
+    (rw (c.new.ensures, some.1) at c.get-item.ensures))
 
 pub returns : goal.returns
-returns c = on-over _ _ _ c.loop-left.left c.loop-left.invariant (omega arith)
+returns c = on-over _ _ _ _ c.loop.invariant (omega arith)

@@ -1,10 +1,8 @@
 -- What is left of the list tells whether the region is on the whole.
+use Prim.Native.Nat.{◌-◌}
 use Rattle.control.specs.Layout.{seen}
 use Rattle.report_regions.proofs.SpareWalks.{OnLeft}
 use Rattle.report_regions.proofs.spares.has.Given as goal
 
-abbrev pub invariant-loop-left : goal.invariant-loop-left
-invariant-loop-left l = OnLeft (seen l.control) l.regions l.region l.left l.item
-
-abbrev pub decreases-loop-left : goal.decreases-loop-left
-decreases-loop-left l = l.left
+abbrev pub invariant-loop : goal.invariant-loop
+invariant-loop l = OnLeft (seen l.control) l.fn.regions l.region (l.fn.regions - l.counter) l.item

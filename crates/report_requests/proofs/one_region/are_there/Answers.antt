@@ -1,16 +1,20 @@
 -- One law for each way out.
 use mathlib.Core.Path.{sym, ◌∙◌}
+use borrow.Author.Tests.{ne_eqb}
 use Rattle.report_requests.proofs.OneRegionTests.{blocks-other, blocks-row, blocks-own}
 use Rattle.report_requests.proofs.one_region.are_there.Goals as goal
 
-pub returns-then-class-found : goal.returns-then-class-found
-returns-then-class-found c = sym (blocks-other _ _ _ c.if-class-found.true)
-
 pub returns-then-has_row : goal.returns-then-has_row
 returns-then-has_row c =
-    blocks-row _ _ _ c.if-class-found.false (sym c.has_row.ensures ∙ c.if-has_row.true)
+    let same = sym c.get.ensures.same ∙ c.if-get.true ∙ c.get-2.ensures.same in
+    c.if-has_row.true ∙ blocks-row _ _ _ same (sym c.has_row.ensures ∙ c.if-has_row.true)
 
-pub returns : goal.returns
-returns c =
-    blocks-own _ _ _ c.if-class-found.false (sym c.has_row.ensures ∙ c.if-has_row.false)
-    c.has_own.ensures
+pub returns-else-has_row : goal.returns-else-has_row
+returns-else-has_row c =
+    let same = sym c.get.ensures.same ∙ c.if-get.true ∙ c.get-2.ensures.same in
+    blocks-own _ _ _ same (sym c.has_row.ensures ∙ c.if-has_row.false) c.has_own.ensures
+
+pub returns-else-get : goal.returns-else-get
+returns-else-get c =
+    ne_eqb _ _ c.if-get.false
+    ∙ sym (blocks-other _ _ _ (λ e. c.if-get.false (c.get.ensures.same ∙ e ∙ sym c.get-2.ensures.same)))

@@ -1,6 +1,7 @@
 -- The tasks before `task` are in their ranges.
 use mathlib.Core.Path.{◌≡◌, refl, sym, ◌∙◌}
 use native.Mathlib.Omega.{arith}
+use Rattle.std.proofs.lemmas.Result.{err_from_is_err_and}
 use Rattle.limits.specs.Limits.{TASKS}
 use Rattle.reports.specs.Passing.{all_pass}
 use Rattle.reports.proofs.Passing.{one_more, one-fails}
@@ -9,22 +10,23 @@ use Rattle.report_requests.proofs.one_region.fits.Goals as goal
 
 pub loop-task-init : goal.loop-task-init
 unfolding all_pass
-loop-task-init c = (omega arith, refl)
+loop-task-init c = refl
 
-pub returns-then-not-region_fits : goal.returns-then-not-region_fits
+pub returns-in_err-in_range-clause-failed : goal.returns-in_err-in_range-clause-failed
 unfolding held_regions_in_range
-returns-then-not-region_fits c =
-    sym (one-fails TASKS _ c.loop-task.task (omega arith)
-    (sym c.region_fits.ensures ∙ c.if-not-region_fits.true))
+returns-in_err-in_range-clause-failed c =
+    let p = err_from_is_err_and c.from_residual.result c.from_residual.ensures.1 in
+    rw p.1
+    (one-fails TASKS _ c.loop-task.task (omega arith)
+    (rw c.new.ensures at (sym c.region_fits.ensures ∙ c.in_err-in_range.ensures.failed)))
 
 pub loop-task-preserved : goal.loop-task-preserved
-loop-task-preserved c = (
-  omega arith,
-  one_more _ _ c.loop-task.invariant.1 (sym c.region_fits.ensures ∙ c.if-not-region_fits.false),
-)
+loop-task-preserved c =
+    one_more _ _ c.loop-task.invariant
+    (rw c.new.ensures at (sym c.region_fits.ensures ∙ c.in_ok-in_range.ensures.passed))
 
-pub returns : goal.returns
+pub returns-clause-passed : goal.returns-clause-passed
 unfolding held_regions_in_range
-returns c =
+returns-clause-passed c =
     let e : c.loop-task.task ≡ TASKS = omega arith in
-    sym (rw e at c.loop-task.invariant.1)
+    rw e at c.loop-task.invariant

@@ -1,21 +1,14 @@
 -- The classes before the one that is looked at have empty caches.
 use native.Mathlib.Omega.{arith}
-use mathlib.Core.Path.{refl, ◌∙◌}
+use mathlib.Core.Path.{sym, ◌∙◌}
 use Rattle.steps_leave.proofs.Going.{next-none, next_here, next-further}
 use Rattle.steps_leave.proofs.next.next.Goals as goal
 
-pub loop-class-preserved : goal.loop-class-preserved
-loop-class-preserved c =
-    (next-further _ _ _ (omega arith) (omega arith) ∙ c.loop-class.invariant.0, omega arith)
+pub loop-number-preserved : goal.loop-number-preserved
+loop-number-preserved c = next-further _ _ _ _ c.new-class.ensures (omega arith) (omega arith) ∙ c.loop-number.invariant
 
-pub returns-then-cache_count-ne0 : goal.returns-then-cache_count-ne0
-returns-then-cache_count-ne0 c =
-    (next_here _ _ _ (omega arith) (λ e. omega arith) ∙ c.loop-class.invariant.0, omega arith)
+pub returns-then-get_of-ne0 : goal.returns-then-get_of-ne0
+returns-then-get_of-ne0 c = next_here _ _ _ _ c.new-class.ensures (omega arith) (λ e. omega arith) ∙ c.loop-number.invariant
 
 pub returns : goal.returns
-returns c =
-    (next-none _ _ _ (omega (arith, c.loop-class.invariant.1)) ∙ c.loop-class.invariant.0, c.loop-class.invariant.1)
-
-pub loop-class-init : goal.loop-class-init
-loop-class-init c =
-    (refl, omega arith)
+returns c = sym c.loop-number.invariant ∙ next-none _ _ _ (omega arith)

@@ -1,29 +1,29 @@
--- The tests are those of the definition; of the noted anchor it is known that it is one.
-use mathlib.Core.Path.{ap}
-use mathlib.Core.Bool.{not}
+-- The exchange is lost where the anchor is another than the noted one.
+use Prim.Native.Nat.{ℕ}
 use native.Mathlib.Omega.{arith}
-use mathlib.Core.Path.{refl}
-use Rattle.stepped.proofs.Doing.{done, does, loses}
+use mathlib.Core.Path.{◌≡◌, sym, ◌∙◌}
+use mathlib.Core.Bool.{true}
+use borrow.Author.Rules.{rules}
+use borrow.Author.Tests.{ne_eqb}
+use Rattle.fields.specs.Columns.{View}
+use Rattle.plain.specs.Moves.{anchor_lost}
+use Rattle.control.specs.Layout.{Anchor}
+use Rattle.control.specs.Places.{F3_READ}
+use Rattle.stepped.specs.Outcome.{lose}
 use Rattle.stepped.specs.Ranges.{is_anchor}
-use Rattle.ranges.proofs.Passed.{failed-at, passed-at}
-use Rattle.steps_return.proofs.ReturningWays.{anchor-bad, anchor-changed, anchor_noted}
+use Rattle.stepped.specs.Free.{f3_exchange_of}
+use Rattle.stepped.proofs.Doing.{loses}
 use Rattle.steps_return.proofs.exchange.exchange_of.Goals as goal
 
-pub returns-then-not-is_anchor : goal.returns-then-not-is_anchor
-returns-then-not-is_anchor c =
-    λ link. done (anchor-bad _ link _ _ _ _ _ _ _ (failed-at is_anchor c.anchor-current.ensures
-    c.is_anchor.ensures (ap not c.if-not-is_anchor.true))) refl refl refl
+-- k is the anchor that stands there
+another : (v : View) (link : ℕ → ℕ) (regions t c d word first g : ℕ) {k : ℕ} → k ≡ v (Anchor d) → is_anchor k ≡ true
+    → (k ≡ word → ⊥) → f3_exchange_of v link regions t c d word first g ≡ lose v t (anchor_lost d) F3_READ
+unfolding f3_exchange_of
+another v link regions t c d word first g p h e = rw (← p, h, ne_eqb _ _ e)
 
 pub returns-then-current-word : goal.returns-then-current-word
-returns-then-current-word c =
-    λ link.
-    let anchor = c.anchor-current.ensures in
-    loses (anchor-changed _ link _ _ _ _ _ _ _ (passed-at is_anchor anchor c.is_anchor.ensures
-    (ap not c.if-not-is_anchor.false)) (omega arith)) (omega arith) c.set_task_place.ensures
-    c.count.ensures
-
-pub returns : goal.returns
-returns c =
-    λ link.
-    does (anchor_noted _ link _ _ _ _ _ _ _ (omega arith) c.requires.3)
-    (c.won.ensures link)
+returns-then-current-word c link =
+    loses
+    (another _ link _ _ _ _ _ _ _ c.get-current.ensures (sym c.is_anchor.ensures ∙ c.in_ok-in_range.ensures.passed)
+    (omega arith))
+    (search rules) c.set.ensures c.count.ensures

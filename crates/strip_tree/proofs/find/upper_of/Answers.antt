@@ -6,4 +6,4 @@ use Rattle.strip_tree.proofs.LowBits.{one_shifted}
 use Rattle.strip_tree.proofs.find.upper_of.Goals as goal
 
 pub returns : goal.returns
-returns c = rw (one_shifted c.args.p (omega arith)) (and_mask (c.args.w / 2 ^ c.args.p) c.args.p)
+returns c = rw (one_shifted c.args.p (omega arith)) (and_mask (c.args.word / 2 ^ c.args.p) c.args.p)

@@ -11,7 +11,7 @@ use Rattle.strip_tree.proofs.halve.+halve_high.Goals as goal
 
 pub returns-then-order-wanted : goal.returns-then-order-wanted
 returns-then-order-wanted t c x y z =
-    halve-done (tree_with c.args.a x y z) c.args.order c.args.wanted c.args.node (omega arith)
+    halve-done (tree_with c.args.first x y z) c.args.order c.args.wanted c.args.node (omega arith)
 
 pub set-requires : goal.set-requires
 set-requires t c =
@@ -25,8 +25,7 @@ halve_high-requires t c = (
       order = omega arith;
       below = omega (arith, raised c.args.order (omega arith) (omega arith));
     },
-    omega arith,
-    omega arith,
+    (omega arith, omega arith),
   ),
 )
 
@@ -37,5 +36,5 @@ returns t c x y z =
     ∙ ap (λ (w : ℕ). halving (tree_with w x y z) (c.args.order - 1 - c.args.wanted) (2 * c.args.node))
     c.set.ensures.value
     ∙ ap (λ (w : Tree). halving w (c.args.order - 1 - c.args.wanted) (2 * c.args.node))
-    (sym (low-mark c.args.a x y z (2 * c.args.node + 1) l))
-    ∙ halve-next (tree_with c.args.a x y z) c.args.order c.args.wanted c.args.node (omega arith)
+    (sym (low-mark c.args.first x y z (2 * c.args.node + 1) l))
+    ∙ halve-next (tree_with c.args.first x y z) c.args.order c.args.wanted c.args.node (omega arith)

@@ -1,0 +1,7 @@
+-- The number is written by its low half and its high half.
+use Rattle.fields.proofs.Little.{set_le-join}
+use Rattle.fields.proofs.U16Number.store.Goals as goal
+
+pub returns : goal.returns
+returns c =
+    cc (set_le-join c.args.s.now c.args.at 1 1 c.args.self)

@@ -1,7 +1,0 @@
--- The number is its low half and its high half.
-use native.Mathlib.Omega.{arith}
-use Rattle.fields.proofs.Little.{get_le-join}
-use Rattle.fields.proofs.load16.Goals as goal
-
-pub returns : goal.returns
-returns c = omega (arith, get_le-join c.args.s.now c.args.at 1 1)

@@ -1,8 +1,0 @@
--- A number of one byte is the byte.
-use borrow.Author.Rules.{rules}
-use Rattle.fields.specs.Little.{get_le}
-use Rattle.fields.proofs.load8.Goals as goal
-
-pub returns : goal.returns
-unfolding get_le
-returns c = search rules

@@ -1,7 +1,0 @@
--- The number is written by its low half and its high half.
-use Rattle.fields.proofs.Little.{set_le-join}
-use Rattle.fields.proofs.store64.Goals as goal
-
-pub returns : goal.returns
-returns c =
-    cc (set_le-join c.args.s.now c.args.at 4 4 c.args.v)

@@ -1,0 +1,15 @@
+-- The tests, then the report.
+use native.Mathlib.Omega.{arith}
+use Rattle.sheet.specs.Sheet.{sheet_in_range}
+use Rattle.holders.specs.Form.{FORM_NUMBERS, form_number}
+use Rattle.pool.proofs.Reporting.{stops-at, fills}
+use Rattle.pool.proofs.fill_holders.Goals as goal
+
+pub returns-in_err-started : goal.returns-in_err-started
+returns-in_err-started c =
+    stops-at sheet_in_range form_number _ _ (omega arith) c.report_tests.ensures _ c.from_residual.result
+    c.in_err-started.was c.from_residual.ensures.1
+
+pub returns : goal.returns
+returns c =
+    fills sheet_in_range form_number _ _ (omega arith) c.report_tests.ensures (λ k. FORM_NUMBERS) c.in_ok-started.was c.write.ensures

@@ -1,0 +1,3 @@
+-- Laws of the stand's reports.
+pub mod Reading
+pub mod Beginning

@@ -1,0 +1,3 @@
+-- Definitions of the stand's reports.
+pub mod Reported
+pub mod Written

@@ -1,2 +1,0 @@
--- Definitions of the steps of an allocation that fill the cache.
-pub mod Chains

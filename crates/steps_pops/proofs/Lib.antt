@@ -1,2 +1,0 @@
--- Laws of the pops.
-pub mod Popping
