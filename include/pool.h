@@ -115,7 +115,7 @@
  *   1. The three memories do not overlap, and each really has the length that is lent with it. A pointer may be null
  *      where its length is 0.
  *   2. Calls do not overlap in time: mask interrupts or lock around each single call. But for a report, which is a tool
- *      (see "Reports" below), the longest is a step of at most 438 instructions; docs/BENCHMARKS.md says what this
+ *      (see "Reports" below), the longest is a step of at most 327 instructions; docs/BENCHMARKS.md says what this
  *      bound rests on. A start, which comes before the others, also fills 8,192 bytes by your memset.
  *   3. Each call but a start lends the control memory, the area and the strips' memory of the last accepted start. If
  *      it lends another length, it is refused and does no harm.
@@ -214,14 +214,14 @@
  * Each function has a section of its own, so that the linker can leave out a report that is never called (gcc:
  * -Wl,--gc-sections). What it leaves out are code and constants that no other call uses:
  *
- *   1,216 bytes   of the sheet alone, where the sheet is not called;
- *   1,508 bytes   of the form alone, where the form is not called;
- *   5,869 bytes   of the keepers alone, where the keepers are not called;
- *   2,771 bytes   that reports share, where none is called.
+ *   1,913 bytes   of the sheet alone, where the sheet is not called;
+ *   2,869 bytes   of the form alone, where the form is not called;
+ *   6,132 bytes   of the keepers alone, where the keepers are not called;
+ *   1,343 bytes   that reports share, where none is called.
  *
- * So 11,364 bytes are left out where no report is called, and no memcpy is needed.
+ * So 12,257 bytes are left out where no report is called, and no memcpy is needed.
  *
- * A report keeps values below the stack pointer, in the 128 bytes that the System V ABI calls the red zone; the other
+ * A report may keep values below the stack pointer, in the 128 bytes that the System V ABI calls the red zone; the other
  * calls do not. An interrupt that comes during a report, and uses the same stack, has to leave these bytes as they are.
  */
 #ifndef POOL_H
@@ -433,9 +433,9 @@ uint64_t pool_step(uint8_t *control, uint64_t control_length, uint8_t *area, uin
  * that is read is out of its range, POOL_SHORT_ROW; else POOL_FINISHED with value 0.
  *
  * It is a tool, and takes what the other calls need not. All its loops are bounded, but it follows the link of every
- * cached block, at 14 instructions each: it takes 13,363 instructions in a fresh pool of one region, and 128,196 where
- * all blocks of sixteen regions are cached. The most that was found for any memories is 213,228. A sheet uses at most
- * 2,288 bytes of stack, of which 1,664 hold the numbers until all are tested; what your memset and memcpy use comes on
+ * cached block, at 14 instructions each: it takes 8,951 instructions in a fresh pool of one region, and 105,984 where
+ * all blocks of sixteen regions are cached. The most that was found for any memories is 170,568. A sheet uses at most
+ * 2,104 bytes of stack, of which 1,664 hold the numbers until all are tested; what your memset and memcpy use comes on
  * top. "What the code needs" above says what its code takes.
  */
 uint64_t pool_sheet(const uint8_t *control, uint64_t control_length, const uint8_t *area, uint64_t area_length,
@@ -460,9 +460,9 @@ uint64_t pool_sheet(const uint8_t *control, uint64_t control_length, const uint8
  * Answers, by the first test that fails: POOL_BAD_CONTROL, POOL_NOT_STARTED, POOL_BAD_AREA, POOL_DAMAGED exactly where
  * pool_sheet has it, POOL_SHORT_ROW; else POOL_FINISHED with value 0.
  *
- * It follows the link of every cached block, at 14 instructions each. It takes 18,981 instructions in a fresh pool of
- * one region, and 149,429 where all blocks of sixteen regions are cached. The most that was found for any memories is
- * 234,165. A form uses at most 1,904 bytes of stack, of which 468 hold the numbers until all are tested; what your memset
+ * It follows the link of every cached block, at 14 instructions each. It takes 16,866 instructions in a fresh pool of
+ * one region, and 113,276 where all blocks of sixteen regions are cached. The most that was found for any memories is
+ * 178,692. A form uses at most 2,008 bytes of stack, of which 468 hold the numbers until all are tested; what your memset
  * and memcpy use comes on top. "What the code needs" above says what its code takes.
  */
 uint64_t pool_holders(const uint8_t *control, uint64_t control_length, const uint8_t *area, uint64_t area_length,
@@ -496,9 +496,9 @@ uint64_t pool_holders(const uint8_t *control, uint64_t control_length, const uin
  * POOL_SHORT_ROW; else POOL_FINISHED with value 0.
  *
  * It follows the link of every cached block, at 14 instructions each. For each open region that has no block in hand
- * it follows those of the region's class once more, at 9 to 10 each, task by task up to the first that has a block of
- * the region. The keepers of a fresh pool of one region take 6,702 instructions, and those of sixteen regions whose
- * blocks are all cached take 528,861. The most that was found for any memories is 1,133,864. They use at most 560 bytes of
+ * it follows those of the region's class once more, at about 10 each, task by task up to the first that has a block of
+ * the region. The keepers of a fresh pool of one region take 4,473 instructions, and those of sixteen regions whose
+ * blocks are all cached take 372,847. The most that was found for any memories is 790,101. They use at most 408 bytes of
  * stack; what your memcpy uses comes on top. "What the code needs" above says what their code takes.
  */
 uint64_t pool_keepers(const uint8_t *control, uint64_t control_length, const uint8_t *area, uint64_t area_length,

@@ -1,7 +1,7 @@
 -- The beginning of an allocation, one law for each way out.
 use Rattle.std.proofs.Common.{◌≡◌, ℕ, ◌<◌, ◌≤◌, Bool, true, false, cond, eqb, ltb, ◌≢◌, [], ◌∷◌, refl, Ok, Err}
 use Rattle.std.proofs.Common.{◌∙◌, ap, sym, arith, le-ltb, lt-ltb, eq-eqb, ne_eqb}
-use borrow.Author.Tests.{eqb-false, ltb-false}
+use borrow.Author.Tests.{eqb-false, ltb-true, ltb-false}
 use Rattle.limits.specs.Limits.{LARGEST_SIZE, LARGEST_STRIP}
 use Rattle.limits.specs.declared.refusal.Refusal.TheVariants.{SizeZero, SizeTooLarge}
 use Rattle.fields.specs.Columns.{View, ◌:=◌}
@@ -71,6 +71,21 @@ unfolding choice
 strip-size size e =
     let b = is-strip (eqb size 0) (ltb LARGEST_STRIP size) (ltb LARGEST_SIZE size) (class_of size) e in
     (omega (arith, eqb-false size 0 b.0), omega (arith, ltb-false LARGEST_STRIP size b.1))
+
+-- a strip is given to no size up to the largest of a small block
+is-large : (p q s : Bool) (c : ℕ)
+    → cond p (Err SizeZero) (cond q (Err SizeTooLarge) (cond s (Ok Strip) (Ok (Class c)))) ≡ Ok Strip → s ≡ true
+is-large true q s c e = let z : ◌≡◌ {A = ℕ} 0 1 = cc in absurd (omega arith)
+is-large false true s c e = let z : ◌≡◌ {A = ℕ} 0 1 = cc in absurd (omega arith)
+is-large false false true c e = refl
+is-large false false false c e = let z : ◌≡◌ {A = ℕ} 0 1 = cc in absurd (omega arith)
+
+-- a strip serves larger sizes than the small blocks do
+pub strip-larger : (size : ℕ) → choice size ≡ Ok Strip → LARGEST_SIZE < size
+unfolding choice
+strip-larger size e =
+    ltb-true LARGEST_SIZE size
+    (is-large (eqb size 0) (ltb LARGEST_STRIP size) (ltb LARGEST_SIZE size) (class_of size) e)
 
 -- k is the order that the code has of a strip
 pub as-strip : (t size k : ℕ) → choice size ≡ Ok Strip → RoundsTo size k → begin_allocate t size ≡ begins t STRIP_TAKE k

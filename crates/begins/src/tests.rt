@@ -1,5 +1,5 @@
 // The tests that every call but a start makes first.
-ghost use Rattle.std.specs.Prelude.{◌≡◌, true, false, OnOk, OnErr, IfErr};
+ghost use Rattle.std.specs.Prelude.{◌≡◌, true, false, OnOk, OnErr, IfErr, length};
 ghost use Rattle.limits.specs.Limits.{CONTROL_BYTES};
 ghost use Rattle.control.specs.Layout.{seen};
 ghost use Rattle.begins.specs.TestNumber.{first_failed, TestsAre};
@@ -42,11 +42,16 @@ fn follows(tasks: u8, test: bool, refusal: Refusal) -> Result<(), Refusal>
     Err(first_failed(tasks, refusal))
 }
 
-// The tests 4, 2, 5, in this order, by the lengths of the area and of the strips' memory; 14 where a stored number is
-// out of its range. Test 1 is the type of the control memory. In a pool that is not started test 5 fails, too, since it
-// has no tasks: so 4 is asked for only where a test behind it fails, and not by a call that passes. The callers are the
-// exported calls.
-pub fn tests(control: &Control, area: usize, strips: usize, task: u64) -> Result<Started, Refusal>
+// The tests behind test 1, which is the type of the control memory: 4, 2, 5, in this order, by the lengths of the area
+// and of the strips' memory; 14 where a stored number is out of its range. In a pool that is not started test 5 fails,
+// too, since it has no tasks: so 4 is asked for only where a test behind it fails, and not by a call that passes. The
+// callers are the exported calls, and `tests`.
+pub fn later_tests(
+    control: &Control,
+    area: usize,
+    strips: usize,
+    task: u64,
+) -> Result<Started, Refusal>
     ensures { TestsAre (record { control = CONTROL_BYTES; area = area; strips = strips })
         (seen control.now) task result }
 {
@@ -66,4 +71,16 @@ pub fn tests(control: &Control, area: usize, strips: usize, task: u64) -> Result
         regions,
         task: Task::new(task as usize),
     })
+}
+
+// The tests 1, 4, 2, 5, in this order, by the lengths of the three memories: whether a call passes them, and what they
+// find, or the first that fails.
+pub fn tests(control: &[u8], area: usize, strips: usize, task: u64) -> Result<Started, Refusal>
+    ensures { TestsAre (record { control = length control.now; area = area; strips = strips })
+        (seen control.now) task result }
+{
+    let Some(control) = control.as_array::<{ limits::CONTROL_BYTES }>() else {
+        return Err(Refusal::ControlLength);
+    };
+    later_tests(control, area, strips, task)
 }

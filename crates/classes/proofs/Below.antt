@@ -11,7 +11,8 @@ abbrev pub all : (ℕ → Bool) → ℕ → Bool
 all f zero = true
 all f (suc n) = f n && all f n
 
-both : (a b : Bool) → T (a && b) → T a × T b
+-- two tests of which both pass
+pub both : (a b : Bool) → T (a && b) → T a × T b
 both true b t = (tt, t)
 both false b t = absurd t
 

@@ -1,14 +1,16 @@
 -- The law of the factors: a test of the units of a region, which antt computes for each class.
-use mathlib.Core.Path.{◌≡◌, refl, ◌∙◌, subst⁻¹}
-use mathlib.Core.Bool.{Bool, true, false, not}
+use mathlib.Core.Path.{◌≡◌, refl, sym, ◌∙◌, subst⁻¹}
+use mathlib.Core.Bool.{Bool, true, false, not, ◌&&◌}
 use Prim.Native.Nat.{ℕ, ◌*◌, ◌%◌, ◌<◌}
 use native.Mathlib.Omega.{arith}
 use native.Mathlib.Nat.{mul-le-mul_left}
+use mathlib.Core.List.{List}
 use lib.Dec.{T, ltb, ltb→lt}
-use Rattle.limits.specs.Limits.{REGION_UNITS}
+use lib.ListN.{get_or}
+use Rattle.limits.specs.Limits.{REGION_UNITS, CLASSES}
 use Rattle.classes.specs.Geometry.{is_first}
 use Rattle.classes.specs.Factors.{PRODUCT_MODULUS, FIRST_PRODUCTS, Factor}
-use Rattle.classes.proofs.Below.{all, at}
+use Rattle.classes.proofs.Below.{all, at, both}
 
 -- two tests answer the same
 abbrev alike : Bool → Bool → Bool
@@ -35,6 +37,18 @@ is-factor c f l t = record {
 -- the factor of class k is that of every class that is k
 pub factor-at : (c k : ℕ) {f : ℕ} → Factor k f → c ≡ k → Factor c f
 factor-at c k {f} h e = subst⁻¹ (λ (n : ℕ). Factor n f) e h
+
+-- the test of an entry of the row of factors
+abbrev passes : List ℕ → ℕ → Bool
+passes fs c = ltb (get_or fs c 0) PRODUCT_MODULUS && all (tells c (get_or fs c 0)) REGION_UNITS
+
+-- a row whose entries all pass their test has, at an index c that is the class d, a factor of d
+pub factor-in : (fs : List ℕ) → T (all (passes fs) CLASSES) → (c d : ℕ) → c < CLASSES → c ≡ d
+    → Factor d (get_or fs c 0)
+factor-in fs t c d h e =
+    let p = both (ltb (get_or fs c 0) PRODUCT_MODULUS) (all (tells c (get_or fs c 0)) REGION_UNITS)
+    (at (passes fs) CLASSES t c h) in
+    factor-at d c (is-factor c (get_or fs c 0) p.0 p.1) (sym e)
 
 -- the first units are the same in each region
 pub told : (c f u : ℕ) → Factor c f → ltb (u % REGION_UNITS * f % PRODUCT_MODULUS) FIRST_PRODUCTS ≡ is_first c u

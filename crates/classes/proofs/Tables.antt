@@ -2,6 +2,7 @@
 use mathlib.Core.Path.{◌≡◌, refl, sym, ap, ◌∙◌}
 use mathlib.Core.Logic.{◌≢◌}
 use mathlib.Core.Bool.{Bool, true, false, true≢false, ◌||◌}
+use mathlib.Core.List.{List}
 use Prim.Native.Nat.{ℕ, zero, suc, ◌-◌, ◌*◌, ◌/◌, ◌%◌, ◌≤◌, ◌<◌}
 use native.Mathlib.Omega.{arith}
 use native.Mathlib.Decide.{dec_lt}
@@ -63,6 +64,12 @@ units-at c k h e = h ∙ ap units (sym e)
 
 pub per_region-at : (c k : ℕ) {x : ℕ} → x ≡ per_region k → c ≡ k → x ≡ per_region c
 per_region-at c k h e = h ∙ ap per_region (sym e)
+
+-- a row whose entries are the numbers of f at the classes has, at an index c that is the class d, the number of d
+pub entry-is : (xs : List ℕ) (f : ℕ → ℕ) → T (all (λ k. eqb (get_or xs k 0) (f k)) CLASSES)
+    → (c d : ℕ) → c < CLASSES → c ≡ d → get_or xs c 0 ≡ f d
+entry-is xs f t c d h e =
+    eqb→eq (get_or xs c 0) (f c) (at (λ k. eqb (get_or xs k 0) (f k)) CLASSES t c h) ∙ ap f e
 
 -- n is the number of blocks that fit in the bytes of a region
 pub per_region-is : (c : ℕ) → per_region c ≡ REGION_BYTES / block c

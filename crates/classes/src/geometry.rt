@@ -8,6 +8,7 @@ use limits::index::{Class, Region};
 
 // The first unit of a block. Callers have a region of the area and an index below n of the class: carving,
 // which counts the index up to n, and the links of a chain, which are tested first.
+#[inline(always)]
 pub fn first_unit(region: Region, class: Class, index: usize) -> usize
     requires { index < per_region class }
     ensures { result ≡ unit_of region class index }

@@ -1,77 +1,41 @@
-// The table of classes. Each row is a match, which becomes one read from a table; a constant array would be copied to
-// the stack at each read. The last arm is past the table and has what class 0 has, as the definitions do. No caller
-// comes there; were it the last class's, the compiler would ask for that class before each read.
+// The table of classes. Each row is an array that is read where it stands: a class is one of its indices, so that no
+// test of the range and no copy is made at a read.
 ghost use Rattle.std.specs.Prelude.{◌≡◌};
 ghost use Rattle.classes.specs.Classes.{units, per_region};
 ghost use Rattle.classes.specs.Factors.{Factor};
 
+use limits::CLASSES;
 use limits::index::Class;
+
+static UNITS: [usize; CLASSES] = [1, 2, 4, 6, 8, 10, 12, 14, 16, 20, 24, 28, 32];
 
 // The units of a block of the class. Callers have the class of a request, which its step has tested: `first_unit`,
 // `index_of`, and the steps that name a block by its index.
 pub fn units(class: Class) -> usize
     ensures { result ≡ units class }
 {
-    match class.get() {
-        0 => 1,
-        1 => 2,
-        2 => 4,
-        3 => 6,
-        4 => 8,
-        5 => 10,
-        6 => 12,
-        7 => 14,
-        8 => 16,
-        9 => 20,
-        10 => 24,
-        11 => 28,
-        12 => 32,
-        _ => 1,
-    }
+    UNITS[class.get()]
 }
+
+static PER_REGION: [usize; CLASSES] = [512, 256, 128, 85, 64, 51, 42, 36, 32, 25, 21, 18, 16];
 
 // How many blocks of the class a region has, n. Callers have the class as those of `units` do: the steps that compare
 // an index, or the count of a cache, a group or an anchor, with n.
 pub fn per_region(class: Class) -> usize
     ensures { result ≡ per_region class }
 {
-    match class.get() {
-        0 => 512,
-        1 => 256,
-        2 => 128,
-        3 => 85,
-        4 => 64,
-        5 => 51,
-        6 => 42,
-        7 => 36,
-        8 => 32,
-        9 => 25,
-        10 => 21,
-        11 => 18,
-        12 => 16,
-        _ => 512,
-    }
+    PER_REGION[class.get()]
 }
+
+static FACTORS: [usize; CLASSES] = [
+    128, 2147483776, 1073741953, 3579139543, 536871042, 3006477238, 357914074, 306783512,
+    268435588, 1503238690, 178957107, 460175205, 134217864,
+];
 
 // A number that tells the first units of the class's blocks by one product, without a division. Any with its property
 // would do; docs/DECISIONS.md says how these were found. Caller: `is_first`.
 pub fn factor(class: Class) -> usize
     ensures { Factor class result }
 {
-    match class.get() {
-        0 => 128,
-        1 => 2147483776,
-        2 => 1073741953,
-        3 => 3579139543,
-        4 => 536871042,
-        5 => 3006477238,
-        6 => 357914074,
-        7 => 306783512,
-        8 => 268435588,
-        9 => 1503238690,
-        10 => 178957107,
-        11 => 460175205,
-        12 => 134217864,
-        _ => 128,
-    }
+    FACTORS[class.get()]
 }

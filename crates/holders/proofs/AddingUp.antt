@@ -1,44 +1,73 @@
 -- The numbers of the regions that are open in a class, added up one region after the other.
-use mathlib.Core.Path.{◌≡◌, refl, sym, ap, ◌∙◌}
+use mathlib.Core.Path.{◌≡◌, refl, ap, ◌∙◌}
 use mathlib.Core.Logic.{◌≢◌}
 use Prim.Native.Nat.{ℕ, ◌+◌, ◌*◌, ◌≤◌, ◌<◌}
 use native.Mathlib.Numerals.{add-one}
 use native.Mathlib.Omega.{arith}
-use borrow.Author.Tests.{eqb-true, eqb-false}
-use mathlib.Core.Bool.{Bool, true, false}
 use mathlib.Core.List.{List}
-use lib.Dec.{eqb}
-use lib.ListN.{length, get_or}
-use Rattle.std.specs.Prelude.{None, Some}
+use lib.ListN.{length, get_or, set, length-set}
+use lib.Seq.{get_or-set_same, get_or-set_other}
+use Rattle.std.specs.Prelude.{None}
 use Rattle.std.specs.declared.option.Option.{Option}
 use Rattle.std.proofs.lemmas.List.{get_or_default}
-use Rattle.limits.specs.Limits.{MOST_BLOCKS}
+use Rattle.limits.specs.Limits.{REGIONS, MOST_BLOCKS}
+use Rattle.rows.specs.Comparisons.{same, other, same?}
 use Rattle.rows.specs.Weights.{when}
 use Rattle.rows.specs.Totals.{total}
 use Rattle.rows.proofs.Weights.{when-same, when-other, when-max}
 use Rattle.rows.proofs.Totals.{total-same, total-suc, total-most}
 use Rattle.report_regions.specs.declared.OpenRegion.{OpenRegion}
 use Rattle.holders.specs.Form.{added_up}
-use Rattle.holders.specs.FormFilling.{class_read, chain_read}
+use Rattle.holders.specs.FormFilling.{class_read, chain_read, NumbersOf}
 
--- the chain of a region that was found to be open, whatever a list gives behind its end
-pub chain_there : (rs : List (Option OpenRegion)) (i r : ℕ) (d : Option OpenRegion) {o : OpenRegion} → i ≡ r
-    → r < length rs → get_or rs i d ≡ Some o → o.chain ≡ chain_read (get_or rs r None)
-chain_there rs i r d {o} e l is =
-    let found : get_or rs r None ≡ Some o = get_or_default rs r None d l ∙ (rw e at is) in
-    rw found refl
+-- ---- the numbers of what was read of the regions
 
--- whether a region was found to be open in the class: what was read of it, whatever a list gives behind its end
-module _ (rs : List (Option OpenRegion)) (r c : ℕ) (d : Option OpenRegion) (l : r < length rs) {b : Bool}
-    (is : b ≡ eqb c (class_read (get_or rs r d))) where
-  same-test : eqb c (class_read (get_or rs r None)) ≡ b
-  same-test = ap (λ (o : Option OpenRegion). eqb c (class_read o)) (get_or_default rs r None d l) ∙ sym is
+-- what was read of a region, whatever a list gives behind its end
+module _ (rs : List (Option OpenRegion)) (r : ℕ) (d : Option OpenRegion) (l : r < length rs) {x : ℕ} where
+  pub class_there : x ≡ class_read (get_or rs r d) → x ≡ class_read (get_or rs r None)
+  class_there e = e ∙ ap class_read (get_or_default rs r d None l)
 
-  pub class-same : b ≡ true → c ≡ class_read (get_or rs r None)
-  class-same t = eqb-true c (class_read (get_or rs r None)) (same-test ∙ t)
+  pub chain_there : x ≡ chain_read (get_or rs r d) → x ≡ chain_read (get_or rs r None)
+  chain_there e = e ∙ ap chain_read (get_or_default rs r d None l)
 
-  pub class-other : b ≡ false → c ≢ class_read (get_or rs r None)
-  class-other f = eqb-false c (class_read (get_or rs r None)) (same-test ∙ f)
+-- the regions before r are told
+pub record NumbersTo (rs : List (Option OpenRegion)) (r : ℕ) (classes chains : List ℕ) : Type 0 where
+  pub whole : length classes ≡ REGIONS
+  pub whole_too : length chains ≡ REGIONS
+  pub told : NumbersOf r rs classes chains
+
+module _ {rs : List (Option OpenRegion)} {classes chains : List ℕ} where
+  -- none is
+  pub numbers-begin : length classes ≡ REGIONS → length chains ≡ REGIONS → NumbersTo rs 0 classes chains
+  numbers-begin e f = record {
+    whole = e;
+    whole_too = f;
+    told = record { classes_are = λ z l. absurd (omega arith); chains_are = λ z l. absurd (omega arith) };
+  }
+
+  -- one more is
+  pub numbers-next : {r x k : ℕ} → NumbersTo rs r classes chains → r < REGIONS → x ≡ class_read (get_or rs r None)
+      → k ≡ chain_read (get_or rs r None) → NumbersTo rs (r + 1) (set classes r x) (set chains r k)
+  numbers-next {r} {x} {k} N l e f = record {
+    whole = length-set classes r x ∙ N.whole;
+    whole_too = length-set chains r k ∙ N.whole_too;
+    told = record {
+      classes_are = λ z h. elim (same? z r) [
+        | same i ↦ rw i (get_or-set_same classes r x 0 (omega (arith, l, N.whole)) ∙ e)
+        | other d ↦ get_or-set_other classes r z x 0 d ∙ N.told.classes_are z (omega arith)
+      ];
+      chains_are = λ z h. elim (same? z r) [
+        | same i ↦ rw i (get_or-set_same chains r k 0 (omega (arith, l, N.whole_too)) ∙ f)
+        | other d ↦ get_or-set_other chains r z k 0 d ∙ N.told.chains_are z (omega arith)
+      ];
+    };
+  }
+
+  -- all are
+  pub numbers-end : {r regions : ℕ} → NumbersTo rs r classes chains → r ≡ regions → NumbersOf regions rs classes chains
+  numbers-end N e = rw e at N.told
+
+-- ---- adding up
 
 -- the regions before r are added up
 pub record AddedTo (classes : ℕ → ℕ) (c : ℕ) (number : ℕ → ℕ) (r sum : ℕ) : Type 0 where

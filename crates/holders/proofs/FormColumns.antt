@@ -6,7 +6,7 @@ use Prim.Native.Nat.{ℕ, suc, ◌+◌, ◌-◌, ◌*◌, ◌/◌, ◌%◌, ◌�
 use native.Mathlib.Omega.{arith}
 use borrow.Author.Tests.{lt-ltb, le-ltb}
 use lib.ListN.{get_or}
-use Rattle.std.specs.Prelude.{Ok, None, is_ok}
+use Rattle.std.specs.Prelude.{Ok, is_ok}
 use Rattle.std.specs.declared.option.Option.{Option}
 use Rattle.std.specs.declared.result.Result.{Result}
 use Rattle.limits.specs.declared.index.OutOfRange.{OutOfRange}
@@ -20,40 +20,44 @@ use Rattle.report_regions.specs.declared.OpenRegion.{OpenRegion}
 use Rattle.report_regions.specs.OpenClasses.{class_in, chain_in, open_class, open_chain, RegionsRead}
 use Rattle.holders.specs.Form.{FIRST_CACHE, FIRST_REQUEST, CHAINS, HOLDERS, added_up, in_hands, in_cache_of}
 use Rattle.holders.specs.Form.{in_request_of, in_chains, class_line, form_number}
-use Rattle.holders.specs.FormFilling.{class_read, chain_read, NumberIs, form_fits}
+use Rattle.holders.specs.FormFilling.{NumbersOf, AsRead, NumberIs, form_fits}
 use Rattle.holders.proofs.AddingUp.{added-alike}
 
+-- what was read of the regions is what its numbers tell
+pub numbers-as-read : {v : View} {regions : ℕ} {rs : List (Option OpenRegion)} {classes chains : List ℕ}
+    → RegionsRead v regions (Ok rs) → NumbersOf regions rs classes chains → AsRead v regions classes chains
+unfolding open_class open_chain
+numbers-as-read R N = record {
+  classes_are = λ r l. N.classes_are r l ∙ ap class_in (R.told r l);
+  chains_are = λ r l. N.chains_are r l ∙ ap chain_in (R.told r l);
+}
+
 -- the classes that were read are those of the regions
-pub as_read : {v : View} {regions : ℕ} {rs : List (Option OpenRegion)} → RegionsRead v regions (Ok rs) → (c : ℕ)
+pub as_read : {v : View} {regions : ℕ} {classes chains : List ℕ} → AsRead v regions classes chains → (c : ℕ)
     (number : ℕ → ℕ)
-    → added_up regions (λ r. class_read (get_or rs r None)) c number ≡ added_up regions (open_class v regions) c number
-unfolding open_class
-as_read {v} {regions} {rs} R c number =
-    added-alike regions (λ r. class_read (get_or rs r None)) (open_class v regions) c number number
-    (λ r l. ap class_in (R.told r l)) (λ r l. refl)
+    → added_up regions (λ r. get_or classes r 0) c number ≡ added_up regions (open_class v regions) c number
+as_read {v} {regions} {classes} A c number =
+    added-alike regions (λ r. get_or classes r 0) (open_class v regions) c number number A.classes_are (λ r l. refl)
 
 -- the chain that was read of a region is its chain
-pub chain-is : {v : View} {regions : ℕ} {rs : List (Option OpenRegion)} → RegionsRead v regions (Ok rs) → (r : ℕ)
-    → r < regions → chain_read (get_or rs r None) ≡ open_chain v regions r
-unfolding open_chain
-chain-is R r l = ap chain_in (R.told r l)
+pub chain-is : {v : View} {regions : ℕ} {classes chains : List ℕ} → AsRead v regions classes chains → (r : ℕ)
+    → r < regions → get_or chains r 0 ≡ open_chain v regions r
+chain-is A r l = A.chains_are r l
 
 -- and the chains that were read are theirs
-pub chains_read : {v : View} {regions : ℕ} {rs : List (Option OpenRegion)} → RegionsRead v regions (Ok rs) → (c : ℕ)
-    → added_up regions (λ r. class_read (get_or rs r None)) c (λ r. chain_read (get_or rs r None))
+pub chains_read : {v : View} {regions : ℕ} {classes chains : List ℕ} → AsRead v regions classes chains → (c : ℕ)
+    → added_up regions (λ r. get_or classes r 0) c (λ r. get_or chains r 0)
     ≡ added_up regions (open_class v regions) c (open_chain v regions)
-unfolding open_class
-chains_read {v} {regions} {rs} R c =
-    added-alike regions (λ r. class_read (get_or rs r None)) (open_class v regions) c
-    (λ r. chain_read (get_or rs r None)) (open_chain v regions) (λ r l. ap class_in (R.told r l))
-    (chain-is R)
+chains_read {v} {regions} {classes} {chains} A c =
+    added-alike regions (λ r. get_or classes r 0) (open_class v regions) c (λ r. get_or chains r 0)
+    (open_chain v regions) A.classes_are (chain-is A)
 
 -- so a number that was found by them is the form's
-pub number_read : {v : View} {regions : ℕ} {rs : List (Option OpenRegion)} → RegionsRead v regions (Ok rs) → (c : ℕ)
+pub number_read : {v : View} {regions : ℕ} {classes chains : List ℕ} → AsRead v regions classes chains → (c : ℕ)
     (number : ℕ → ℕ) {in_range : Bool} {x : Result ℕ OutOfRange}
-    → NumberIs in_range (added_up regions (λ r. class_read (get_or rs r None)) c number) x
+    → NumberIs in_range (added_up regions (λ r. get_or classes r 0) c number) x
     → NumberIs in_range (added_up regions (open_class v regions) c number) x
-number_read R c number {in_range} {x} N = subst (λ (n : ℕ). NumberIs in_range n x) (as_read R c number) N
+number_read A c number {in_range} {x} N = subst (λ (n : ℕ). NumberIs in_range n x) (as_read A c number) N
 
 -- a number by another name, that is in range where it is
 pub number-alike : {b b' : Bool} {n n' : ℕ} {x : Result ℕ OutOfRange} → b' ≡ b → n' ≡ n → NumberIs b n x

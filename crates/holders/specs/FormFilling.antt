@@ -1,6 +1,6 @@
 -- docs/POOL.md, "Reports"
 -- What the functions of the form ask and ensure.
-use Rattle.std.specs.Prelude.{◌≡◌, Bool, true, false, cond, ℕ, ◌-◌, ◌/◌, ◌%◌, ltb}
+use Rattle.std.specs.Prelude.{◌≡◌, Bool, true, false, cond, List, ℕ, ◌-◌, ◌/◌, ◌%◌, ◌<◌, ltb, get_or, None}
 use Rattle.std.specs.Prelude.{Ok, IfOk, OnOk, OnErr, is_ok}
 use Rattle.std.specs.declared.option.Option.{Option}
 use Rattle.std.specs.declared.result.Result.{Result}
@@ -10,7 +10,7 @@ use Rattle.report_caches.specs.CacheRows.{is_cache}
 use Rattle.report_requests.specs.UnderWay.{request_blocks}
 use Rattle.report_regions.specs.declared.OpenRegion.{OpenRegion}
 use Rattle.report_regions.specs.Opened.{opened_in}
-use Rattle.report_regions.specs.OpenClasses.{class_in, chain_in}
+use Rattle.report_regions.specs.OpenClasses.{class_in, chain_in, open_class, open_chain}
 use Rattle.holders.specs.Form.{FIRST_CACHE, FIRST_REQUEST, CHAINS, HOLDERS}
 
 -- the class in which a region was found to be open, 13 where it is not
@@ -20,6 +20,16 @@ class_read found = class_in (opened_in (Ok found))
 -- the length of its chain, 0 where it is not open
 abbrev pub chain_read : Option OpenRegion → ℕ
 chain_read found = chain_in (opened_in (Ok found))
+
+-- What is ensured by the function that tells what was read of the regions as numbers: the class and the chain of each.
+pub record NumbersOf (regions : ℕ) (found : List (Option OpenRegion)) (classes chains : List ℕ) : Type 0 where
+  pub classes_are : (r : ℕ) → r < regions → get_or classes r 0 ≡ class_read (get_or found r None)
+  pub chains_are : (r : ℕ) → r < regions → get_or chains r 0 ≡ chain_read (get_or found r None)
+
+-- What is asked of these numbers: they are the classes in which the regions of the area are open, and their chains.
+pub record AsRead (v : View) (regions : ℕ) (classes chains : List ℕ) : Type 0 where
+  pub classes_are : (r : ℕ) → r < regions → get_or classes r 0 ≡ open_class v regions r
+  pub chains_are : (r : ℕ) → r < regions → get_or chains r 0 ≡ open_chain v regions r
 
 -- What is ensured by a function that finds a number of the form: it finds it where all that it reads is in its range.
 pub record NumberIs (in_range : Bool) (number : ℕ) (found : Result ℕ OutOfRange) : Type 0 where

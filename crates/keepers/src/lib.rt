@@ -81,11 +81,11 @@ fn request_keeper(
 {
     for number in 0..limits::TASKS {
         let task = Task::new(number);
-        if one_region::has_blocks(control, regions, class, region, task) {
+        if one_region::has_blocks(control, regions.get(), class.get(), region.get(), task) {
             return Some(Keeper::InRequest(task));
         }
     }
-    if spares::has(control, regions, region) {
+    if spares::has(control, regions, region.get()) {
         return Some(Keeper::Spare);
     }
     None
@@ -105,7 +105,14 @@ fn cache_keeper(
 {
     for number in 0..limits::TASKS {
         let task = Task::new(number);
-        if let Some(unit) = report_caches::lowest(control, area, regions, task, class, region) {
+        if let Some(unit) = report_caches::lowest(
+            control,
+            area,
+            regions,
+            task,
+            class,
+            region.get(),
+        ) {
             return Some(Keeper::InCache(task, unit));
         }
     }
@@ -135,12 +142,12 @@ fn closed_keeper(control: &Control, regions: Regions, region: Region) -> Option<
     requires { is_spare_list (seen control.now) regions ≡ true }
     ensures { keeper_told result ≡ closed_keeper (seen control.now) regions region }
 {
-    if spares::has(control, regions, region) {
+    if spares::has(control, regions, region.get()) {
         return Some(Keeper::Spare);
     }
     for number in 0..limits::TASKS {
         let task = Task::new(number);
-        if one_region::has_region(control, region, task) {
+        if one_region::has_region(control, region.get(), task) {
             return Some(Keeper::InRequest(task));
         }
     }
@@ -182,7 +189,7 @@ fn read_fits(control: &Control, area: &[u8], regions: Regions) -> Result<(), Out
     caches_fit(control, area, regions)?;
     report_requests::of_class(control, regions, Class::new(0))?;
     report_regions::of_regions(control, regions)?;
-    one_region::fits(control, regions)?;
+    one_region::fits(control, regions.get())?;
     spares::fits(control, regions)
 }
 

@@ -70,7 +70,7 @@ impl<const N: usize> Index<N> {
     }
 }
 
-// How many regions the area has, at least one.
+// How many regions an area has, at most 16. The area of a started pool has at least one, which `of` tests.
 #[derive(Clone, Copy)]
 pub struct Regions {
     number: usize,
@@ -84,13 +84,21 @@ impl Model for Regions {
 
     ghost view = { λ a. a.number };
 
-    ghost invariant = { λ a. (1 ≤ a.number) × (a.number ≤ REGIONS) };
+    ghost invariant = { λ a. a.number ≤ REGIONS };
 
     ghost inverse = { λ n. record { number = n } };
 }
 
 impl Regions {
-    // So many regions, if the area can have so many.
+    // So many regions, which the caller knows to be no more than the largest area has.
+    pub fn new(number: usize) -> Regions
+        requires { number ≤ REGIONS }
+        ensures { result ≡ number }
+    {
+        Regions { number }
+    }
+
+    // So many regions, if the area of a started pool can have so many.
     pub fn of(number: usize) -> Result<Regions, OutOfRange>
         ensures found { IfOk result (λ r. r ≡ number) }
         ensures inside { OnOk result ((1 ≤ number) × (number ≤ REGIONS)) }
@@ -107,7 +115,7 @@ impl Regions {
 
     pub fn get(self) -> usize
         ensures same { result ≡ self }
-        ensures inside { (1 ≤ result) × (result ≤ REGIONS) }
+        ensures inside { result ≤ REGIONS }
     {
         self.number
     }

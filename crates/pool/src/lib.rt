@@ -81,7 +81,7 @@ fn begin_allocate(
         (allocate_outcome (lengths_of (length area.now) (length strips.now)) (seen control.old) task size)
         control.old control.new result }
 {
-    let started = tests::tests(control, area.len(), strips.len(), task)?;
+    let started = tests::later_tests(control, area.len(), strips.len(), task)?;
     allocate::begin(control, started.task, size)
 }
 
@@ -114,7 +114,7 @@ fn begin_free(
         (free_outcome (lengths_of (length area.now) (length strips.now)) (seen control.old) task unit)
         control.old control.new result }
 {
-    let started = tests::tests(control, area.len(), strips.len(), task)?;
+    let started = tests::later_tests(control, area.len(), strips.len(), task)?;
     free::begin(control, started.regions, started.task, unit)
 }
 
@@ -141,7 +141,7 @@ fn begin_leave(
         (leave_outcome (lengths_of (length area.now) (length strips.now)) (seen control.old) task)
         control.old control.new result }
 {
-    let started = tests::tests(control, area.len(), strips.len(), task)?;
+    let started = tests::later_tests(control, area.len(), strips.len(), task)?;
     leave::begin(control, started.task)
 }
 
@@ -162,7 +162,7 @@ fn step_of(control: &mut Control, area: &mut [u8], strips: &[u8], task: u64) -> 
         (step_outcome (lengths_of (length area.old) (length strips.now)) (seen control.old) (link area.old) task)
         task control.old area.old control.new area.new result }
 {
-    match tests::tests(control, area.len(), strips.len(), task) {
+    match tests::later_tests(control, area.len(), strips.len(), task) {
         Ok(started) => step::step(control, area, started.regions, started.task),
         Err(refusal) => answer::number(Err(refusal)),
     }
@@ -193,7 +193,7 @@ fn report_number(written: Result<(), Refusal>) -> u64
 fn report_tests(control: &Control, area: &[u8], strips: &[u8]) -> Result<Started, Refusal>
     ensures { TestsAre (lengths_of (length area.now) (length strips.now)) (seen control.now) 0 result }
 {
-    tests::tests(control, area.len(), strips.len(), 0)
+    tests::later_tests(control, area.len(), strips.len(), 0)
 }
 
 // The tests 4, 2 and the report. Caller: `pool_sheet`, which has tested the length of the control memory.

@@ -9,23 +9,38 @@ use limits::index::{Class, Regions};
 use words::anchor;
 use words::anchor::Anchor;
 
-// Whether a unit is the first of a block of the class in an area of so many regions. Callers have the class of the
-// request: the steps that take a block from a cache or put one on it.
-pub fn is_block(regions: Regions, class: Class, unit: usize) -> bool
+// Whether a unit is the first of a block of the class in so many regions, however many they are.
+pub fn is_block(regions: usize, class: Class, unit: usize) -> bool
     ensures { result ≡ is_block regions class unit }
 {
-    geometry::region_of(unit) < regions.get() && geometry::is_first(class, unit)
+    geometry::region_of(unit) < regions && geometry::is_first(class, unit)
 }
 
-// Whether a unit is the top of `count` cached blocks: 8,192 where there is none. Callers have the class of the request:
-// the steps that take a block from a cache or put one on it.
-pub fn is_top(regions: Regions, class: Class, count: usize, unit: usize) -> bool
+// Whether a unit is the top of `count` cached blocks in so many regions: 8,192 where there is none.
+pub fn is_top(regions: usize, class: Class, count: usize, unit: usize) -> bool
     ensures { result ≡ is_top regions class count unit }
 {
     if count == 0 {
         return unit == limits::UNITS;
     }
     is_block(regions, class, unit)
+}
+
+// Whether the area has a block of the class that begins at the unit. Callers have the class of the request: the steps
+// that take a block from a cache or put one on it, into which it is put in line, as in the steps' other tests.
+#[inline(always)]
+pub fn has_block(regions: Regions, class: Class, unit: usize) -> bool
+    ensures { result ≡ is_block regions class unit }
+{
+    is_block(regions.get(), class, unit)
+}
+
+// Whether a unit is the top of `count` blocks that are cached of the area. Callers as those of `has_block`.
+#[inline(always)]
+pub fn has_top(regions: Regions, class: Class, count: usize, unit: usize) -> bool
+    ensures { result ≡ is_top regions class count unit }
+{
+    is_top(regions.get(), class, count, unit)
 }
 
 // Whether a word is an anchor's: a state, and an index and a count as large as any class has.

@@ -2,7 +2,7 @@
 // block of a region in a cache that has passed these tests. Nothing here writes memory.
 #![tactic(auto)]
 
-ghost use Rattle.std.specs.Prelude.{◌≡◌, true, ◌+◌, ◌≤◌, ◌<◌, get_or, unwrap_or, IfSome, IfNone};
+ghost use Rattle.std.specs.Prelude.{◌≡◌, true, ◌+◌, ◌≤◌, ◌<◌, get_or, IfSome, IfNone};
 ghost use Rattle.limits.specs.Limits.{UNITS};
 ghost use Rattle.classes.specs.Classes.{per_region};
 ghost use Rattle.links.specs.Link.{link};
@@ -16,7 +16,7 @@ use classes::{geometry, table};
 use control::column::Control;
 use control::layout;
 use limits::REGIONS;
-use limits::index::{Class, OutOfRange, Region, Regions, Task, in_range};
+use limits::index::{Class, OutOfRange, Regions, Task, in_range};
 
 // The blocks of a cache of `count` blocks from its top down, each counted in its region. Caller: `cache`, which has
 // found the count at most n.
@@ -35,7 +35,7 @@ fn walk(
     let mut unit = top;
     let mut counts = from;
     for _ in 0..count {
-        in_range(ranges::is_block(regions, class, unit))?;
+        in_range(ranges::is_block(regions.get(), class, unit))?;
         counts[geometry::region_of(unit)] += 1;
         unit = links::read(area, unit) as usize;
     }
@@ -82,23 +82,17 @@ pub fn of_class(
     Ok(counts)
 }
 
-// The lowest block of the region so far, where `low` is the lowest of the blocks before the one at `unit`. Caller:
-// `lowest`.
-#[tactic(auto, unfolding(crate::specs::CacheRows::lower_of))]
-fn lower(unit: usize, region: Region, low: Option<u16>) -> Option<u16>
-    requires { (unit < UNITS) × IfSome low (λ lowest. lowest < UNITS) }
-    ensures lower { unwrap_or result UNITS ≡ lower_of region unit (unwrap_or low UNITS) }
-    ensures below { IfSome result (λ lowest. lowest < UNITS) }
+// The block at `unit`, where it lies in the region and below `low`; else `low`. Caller: `lowest`.
+fn lower(unit: usize, region: usize, low: usize) -> usize
+    ensures { result ≡ lower_of region unit low }
 {
-    if geometry::region_of(unit) != region.get() {
+    if geometry::region_of(unit) != region {
         return low;
     }
-    if let Some(lowest) = low {
-        if (lowest as usize) <= unit {
-            return low;
-        }
+    if unit < low {
+        return unit;
     }
-    Some(unit as u16)
+    low
 }
 
 // The lowest block of a region in a task's cache of a class, by its unit, if it has one there. Callers have found the
@@ -109,7 +103,7 @@ pub fn lowest(
     regions: Regions,
     task: Task,
     class: Class,
-    region: Region,
+    region: usize,
 ) -> Option<u16>
     requires { AreaOf regions area.now × (is_cache (seen control.now) (link area.now) regions task class ≡ true) }
     ensures found { IfSome result (λ unit. unit ≡ lowest_cached (seen control.now) (link area.now) task class region) }
@@ -117,10 +111,13 @@ pub fn lowest(
     ensures none { IfNone result (lowest_cached (seen control.now) (link area.now) task class region ≡ UNITS) }
 {
     let mut unit = layout::CACHE_TOPS.get_of(control, task, class) as usize;
-    let mut low = None;
+    let mut low = limits::UNITS;
     for _ in 0..layout::CACHE_COUNTS.get_of(control, task, class) {
         low = lower(unit, region, low);
         unit = links::read(area, unit) as usize;
     }
-    low
+    if low < limits::UNITS {
+        return Some(low as u16);
+    }
+    None
 }

@@ -34,7 +34,7 @@ pub fn fits(control: &Control, regions: Regions) -> Result<(), OutOfRange>
 }
 
 // Whether the region is on the list. Callers have found the list in its range: the keepers.
-pub fn has(control: &Control, regions: Regions, region: Region) -> bool
+pub fn has(control: &Control, regions: Regions, region: usize) -> bool
     requires { is_spare_list (seen control.now) regions ≡ true }
     ensures { result ≡ is_spare (seen control.now) regions region }
 {
@@ -43,7 +43,7 @@ pub fn has(control: &Control, regions: Regions, region: Region) -> bool
         let Some(number) = item.checked_sub(1) else {
             return false;
         };
-        if number == region.get() {
+        if number == region {
             return true;
         }
         item = layout::REGION_NEXTS.get(control, Region::new(number)) as usize;

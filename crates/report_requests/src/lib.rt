@@ -13,19 +13,26 @@ ghost use Rattle.report_requests.specs.UnderWay.{requests_in_range, blocks_in_re
 
 use classes::{geometry, table};
 use control::column::Control;
-use control::request::Request;
 use control::{layout, places};
 use limits::REGIONS;
-use limits::index::{Class, OutOfRange, Region, Regions, Task, in_range};
+use limits::index::{Class, OutOfRange, Regions, Task, in_range};
 
 // How many blocks of a class and region a request has under way, and the unit of the block that it frees, if there is
 // one.
 #[derive(Clone, Copy)]
 pub struct RequestBlocks {
     pub class: Class,
-    pub region: Region,
+    pub region: u8,
     pub blocks: u16,
     pub own: Option<u16>,
+}
+
+// A task's request of a class, in an area of so many regions.
+#[derive(Clone, Copy)]
+struct Request {
+    regions: usize,
+    task: Task,
+    class: Class,
 }
 
 // The last place of the pushes of a return.
@@ -79,7 +86,7 @@ fn with_own(
     control: &Control,
     request: Request,
     place: u8,
-    region: Region,
+    region: u8,
     blocks: u16,
 ) -> Result<RequestBlocks, OutOfRange>
     ensures { result
@@ -113,11 +120,10 @@ fn in_area(
     ensures { result ≡ in_area (seen control.now) request.regions request.task request.class place blocks }
 {
     if blocks == 0 {
-        return with_own(control, request, place, Region::new(0), 0);
+        return with_own(control, request, place, 0, 0);
     }
-    let region = request
-        .regions
-        .region(layout::TASK_REGIONS.get(control, request.task) as usize)?;
+    let region = layout::TASK_REGIONS.get(control, request.task);
+    in_range((region as usize) < request.regions)?;
     with_own(control, request, place, region, blocks)
 }
 
@@ -144,14 +150,14 @@ fn is_without(place: u8) -> bool
 
 // What a task's request has under way. Callers: the reports.
 #[tactic(auto, unfolding(crate::specs::UnderWay::request_blocks))]
-pub fn of_task(control: &Control, regions: Regions, task: Task) -> Result<RequestBlocks, OutOfRange>
+pub fn of_task(control: &Control, regions: usize, task: Task) -> Result<RequestBlocks, OutOfRange>
     ensures { result ≡ request_blocks (seen control.now) regions task }
 {
     let place = layout::TASK_PLACES.get(control, task);
     if is_without(place) {
         return Ok(RequestBlocks {
             class: Class::new(0),
-            region: Region::new(0),
+            region: 0,
             blocks: 0,
             own: None,
         });
@@ -182,12 +188,12 @@ pub fn with_request(
     ensures { Counted (is_ok (request_blocks (seen control.now) regions task))
         (λ z. get_or from z 0 + in_request class z (request_blocks (seen control.now) regions task)) result }
 {
-    let request = of_task(control, regions, task)?;
+    let request = of_task(control, regions.get(), task)?;
     let mut counts = from;
     if class.get() != request.class.get() {
         return Ok(counts);
     }
-    counts[request.region.get()] += request.blocks;
+    counts[request.region as usize] += request.blocks;
     if let Some(unit) = request.own {
         counts[geometry::region_of(unit as usize)] += 1;
     }

@@ -10,43 +10,43 @@ use crate::{RequestBlocks, of_task};
 use classes::geometry;
 use control::column::Control;
 use control::{layout, places};
-use limits::index::{Class, OutOfRange, Region, Regions, Task, in_range};
+use limits::index::{OutOfRange, Task, in_range};
 
 // The last place of the push of a region.
 const LAST_PUSH: u8 = places::PUSH_RELEASE + places::TO_EXCHANGE;
 
 // Whether there are blocks, and they are of the region. Caller: `are_there`.
-fn has_row(of: Region, blocks: u16, region: Region) -> bool
+fn has_row(of: usize, blocks: u16, region: usize) -> bool
     ensures { result ≡ leb 1 (when region of blocks) }
 {
-    of.get() == region.get() && 0 < blocks
+    of == region && 0 < blocks
 }
 
 // Whether there is a block that is freed, and it is of the region. Caller: `are_there`.
-fn has_own(own: Option<u16>, region: Region) -> bool
+fn has_own(own: Option<u16>, region: usize) -> bool
     ensures { result ≡ leb 1 (own_in region own) }
 {
     match own {
-        Some(unit) => geometry::region_of(unit as usize) == region.get(),
+        Some(unit) => geometry::region_of(unit as usize) == region,
         None => false,
     }
 }
 
 // Whether some of the blocks that were found are of the class and the region. Caller: `has_blocks`.
-fn are_there(found: RequestBlocks, class: Class, region: Region) -> bool
+fn are_there(found: RequestBlocks, class: usize, region: usize) -> bool
     ensures { result ≡ leb 1 (in_request class region (Ok found)) }
 {
-    class.get() == found.class.get()
-        && (has_row(found.region, found.blocks, region) || has_own(found.own, region))
+    class == found.class.get()
+        && (has_row(found.region as usize, found.blocks, region) || has_own(found.own, region))
 }
 
 // Whether a task's request has blocks of the class and the region under way. Callers: the keepers.
 #[tactic(auto, unfolding(crate::specs::OneRegion::has_blocks, crate::specs::UnderWay::in_request))]
 pub fn has_blocks(
     control: &Control,
-    regions: Regions,
-    class: Class,
-    region: Region,
+    regions: usize,
+    class: usize,
+    region: usize,
     task: Task,
 ) -> bool
     ensures { result ≡ has_blocks (seen control.now) regions class region task }
@@ -71,24 +71,24 @@ fn is_with_region(place: u8) -> bool
 
 // Whether a task has the region itself. Callers: the keepers.
 #[tactic(auto, unfolding(crate::specs::OneRegion::has_region))]
-pub fn has_region(control: &Control, region: Region, task: Task) -> bool
+pub fn has_region(control: &Control, region: usize, task: Task) -> bool
     ensures { result ≡ has_region (seen control.now) region task }
 {
     is_with_region(layout::TASK_PLACES.get(control, task))
-        && layout::TASK_REGIONS.get(control, task) as usize == region.get()
+        && layout::TASK_REGIONS.get(control, task) as usize == region
 }
 
 // Whether the region that a task has itself, if it has one, is one of the area's. Caller: `fits`.
 #[tactic(auto, unfolding(crate::specs::OneRegion::held_region_fits))]
-fn region_fits(control: &Control, regions: Regions, task: Task) -> bool
+fn region_fits(control: &Control, regions: usize, task: Task) -> bool
     ensures { result ≡ held_region_fits (seen control.now) regions task }
 {
     !is_with_region(layout::TASK_PLACES.get(control, task))
-        || (layout::TASK_REGIONS.get(control, task) as usize) < regions.get()
+        || (layout::TASK_REGIONS.get(control, task) as usize) < regions
 }
 
 // Whether the regions that tasks have themselves are the area's. Callers: the keepers.
-pub fn fits(control: &Control, regions: Regions) -> Result<(), OutOfRange>
+pub fn fits(control: &Control, regions: usize) -> Result<(), OutOfRange>
     ensures passed { OnOk result (held_regions_in_range (seen control.now) regions ≡ true) }
     ensures failed { OnErr result (held_regions_in_range (seen control.now) regions ≡ false) }
 {

@@ -24,7 +24,7 @@ zeros = record {
 
 -- the stand's memories
 abbrev pub memories : Stand → Memories
-memories s = record { control = s.control; area = s.area; strips = s.strips }
+memories s = record { control = s.control; area = s.area; strips = s.strips.now }
 
 -- how many regions the last accepted start was lent: none before the first; never more than the stand has
 abbrev pub lent_regions : View → ℕ

@@ -8,11 +8,12 @@ ghost use Rattle.schedule.specs.Bytes.{memories, zeros, on_part, on_bytes, start
 
 use crate::lend::{self, STAND_AREA, STAND_REGIONS};
 
+// No call reads or writes the strips' memory: it is a constant, so that it takes no stack.
 #[derive(Drop)]
 pub struct Stand {
     pub control: [u8; limits::CONTROL_BYTES],
     pub area: [u8; STAND_AREA],
-    pub strips: [u8; limits::STRIPS_BYTES],
+    pub strips: &'static [u8; limits::STRIPS_BYTES],
 }
 
 impl Stand {
@@ -23,7 +24,7 @@ impl Stand {
         Stand {
             control: [0; limits::CONTROL_BYTES],
             area: [0; STAND_AREA],
-            strips: [0; limits::STRIPS_BYTES],
+            strips: &[0; limits::STRIPS_BYTES],
         }
     }
 
@@ -38,27 +39,24 @@ impl Stand {
     pub fn start(&mut self, tasks: u8, regions: u8) -> u64
         ensures { Does (on_bytes (started (record { tasks = tasks })) (named regions)) self.old self.new result }
     {
+        let strips = self.strips;
         let regions = regions as usize;
         if STAND_REGIONS < regions {
             return 2;
         }
         let n = limits::REGION_BYTES * regions;
-        pool::pool_start(
-            &mut self.control,
-            &self.area[..n],
-            &self.strips,
-            tasks as u64,
-        )
+        pool::pool_start(&mut self.control, &self.area[..n], strips, tasks as u64)
     }
 
     pub fn allocate(&mut self, task: u8, size: u16) -> u64
         ensures { Does (on_bytes (allocated task size) as_started) self.old self.new result }
     {
+        let strips = self.strips;
         let n = lend::lent(&self.control);
         pool::pool_begin_allocate(
             &mut self.control,
             &self.area[..n],
-            &self.strips,
+            strips,
             task as u64,
             size as u64,
         )
@@ -67,11 +65,12 @@ impl Stand {
     pub fn free(&mut self, task: u8, unit: u16) -> u64
         ensures { Does (on_bytes (freed task unit) as_started) self.old self.new result }
     {
+        let strips = self.strips;
         let n = lend::lent(&self.control);
         pool::pool_begin_free(
             &mut self.control,
             &self.area[..n],
-            &self.strips,
+            strips,
             task as u64,
             unit as u64,
         )
@@ -80,20 +79,17 @@ impl Stand {
     pub fn leave(&mut self, task: u8) -> u64
         ensures { Does (on_bytes (left task) as_started) self.old self.new result }
     {
+        let strips = self.strips;
         let n = lend::lent(&self.control);
-        pool::pool_begin_leave(
-            &mut self.control,
-            &self.area[..n],
-            &self.strips,
-            task as u64,
-        )
+        pool::pool_begin_leave(&mut self.control, &self.area[..n], strips, task as u64)
     }
 
     pub fn step(&mut self, task: u8) -> u64
         ensures { Does (on_bytes (stepped task) as_started) self.old self.new result }
     {
+        let strips = self.strips;
         let n = lend::lent(&self.control);
-        step_on(&mut self.control, &mut self.area, &self.strips, n, task)
+        step_on(&mut self.control, &mut self.area, strips, n, task)
     }
 }
 

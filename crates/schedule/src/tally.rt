@@ -10,15 +10,31 @@ pub struct Tally {
 }
 
 impl Tally {
-    // Counts one more record of this code.
+    // The tally with one more record of this code.
     #[tactic(auto, unfolding(crate::specs::Tally::counted))]
+    pub fn counted(self, code: u64) -> Tally
+        ensures { result ≡ counted self code }
+    {
+        match code {
+            20 => Tally {
+                finished: self.finished.wrapping_add(1),
+                ..self
+            },
+            0 => Tally {
+                accepted: self.accepted.wrapping_add(1),
+                ..self
+            },
+            _ => Tally {
+                others: self.others.wrapping_add(1),
+                ..self
+            },
+        }
+    }
+
+    // Counts one more record of this code in the tally that is lent.
     pub fn count(&mut self, code: u64)
         ensures { self.new ≡ counted self.old code }
     {
-        match code {
-            20 => self.finished = self.finished.wrapping_add(1),
-            0 => self.accepted = self.accepted.wrapping_add(1),
-            _ => self.others = self.others.wrapping_add(1),
-        }
+        *self = self.counted(code);
     }
 }

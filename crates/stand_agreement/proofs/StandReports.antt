@@ -25,9 +25,10 @@ use Rattle.schedule.specs.Plain.{regions_fed}
 use Rattle.stand_agreement.proofs.AfterAll.{plain_after_all, after-all, lent_is, not_started}
 
 module _ (input : List ℕ) (bytes : Bytes input) (long : length input ≤ INPUT_BYTES) (row row' : List ℕ) (r : ℕ) where
-  -- What `./stand --sheet` puts into its row (`report_after` of crates/stand_reports/src/lib.rt with the report of
-  -- crates/stand_sheet), said of the plain pool: once a start is accepted the answer is 20, and the sheet tells the plain
-  -- pool fed the same records. The input is any bytes, at most 65,536, and there is no other premise.
+  -- What `./stand --sheet` puts into its row, said of the plain pool: once a start is accepted the answer is 20, and the
+  -- sheet tells the plain pool fed the same records. What is given of the row is what `report_after_all` of
+  -- crates/stand_reports/src/lib.rt ensures, word for word, with the report of crates/stand_sheet. The input is any
+  -- bytes, at most 65,536, and there is no other premise.
   module _ (A : Answers (sheet_of (started_part (after_all input)) row) row' r) where
     pub sheet-is-plain : 1 ≤ (plain_after_all input).tasks → SHEET_BYTES ≤ length row
         → (r ≡ 20) × SheetTells row' (plain_after_all input)

@@ -22,9 +22,9 @@ pub output-is-plain : (input : List ℕ) → Bytes input → length input ≤ IN
 unfolding output plain_output table_text
 output-is-plain input b l = ap (λ (t : List ℕ). columns_text Hidden ++ t) (stand-table input b l)
 
--- What the stand ensures of its buffer (`write` of crates/table/src/lib.rt), on memories that are zero at first, holds
--- of the plain pool: the table that it writes is that of the plain pool fed the same records. The input is any bytes, at
--- most 65,536, and there is no other premise.
+-- What the stand ensures of its buffer (`play` of crates/table/src/lib.rt, word for word) holds of the plain pool: the
+-- table that it writes is that of the plain pool fed the same records. The input is any bytes, at most 65,536, and there
+-- is no other premise.
 pub play-is-plain : {out out' : List ℕ} {r : ℕ} (input : List ℕ) → Bytes input → length input ≤ INPUT_BYTES
     → Plays Hidden input zeros out out' r → PlaysPlain input out out' r
 play-is-plain input b l w = rw (output-is-plain input b l) at w

@@ -10,7 +10,6 @@ ghost use Rattle.keepers.specs.Keepers.{KEEPER_BYTES, keepers_of};
 ghost use Rattle.stand_reports.specs.Written.{Writes};
 
 use schedule::lend;
-use schedule::stand::Stand;
 use stand_reports::{LastCode, Report};
 use std::io;
 use std::io::{Read, Write};
@@ -28,20 +27,15 @@ impl Report for RegionKeepers {
     }
 }
 
-// Writes the keepers on what it reads, on memories that are zero at first. That they tell the plain pool is
-// `keepers-are-plain` of crates/stand_agreement.
+// Writes the keepers on what it reads, on memories that are zero at first. What is put into the row, whatever was read,
+// is a promise of `report_after_all` of crates/stand_reports, and so is the last record's answer. That these tell the
+// plain pool are `keepers-are-plain` and `last-is-plain` of crates/stand_agreement.
 fn run<R: Read, W: Write>(reader: &mut R, writer: &mut W) -> io::Result<()>
     ensures { OnOk result (Writes (λ s. keepers_of (started_part s)) LastCode.Shown zeros (replicate (KEEPER_BYTES * STAND_REGIONS) 0)
         (R.remaining reader.old) (W.contents writer.old) (W.contents writer.new)) }
 {
     let mut row = [0; ROW_BYTES];
-    stand_reports::run::<RegionKeepers, R, W>(
-        &mut Stand::new(),
-        reader,
-        writer,
-        &mut row,
-        LastCode::Shown,
-    )
+    stand_reports::run_from_zeros::<RegionKeepers, R, W>(reader, writer, &mut row, LastCode::Shown)
 }
 
 fn main(rt: HostRuntime) -> io::Result<()> {

@@ -3,11 +3,12 @@
 #![tactic(auto)]
 
 ghost use Rattle.std.specs.Prelude.{◌≡◌, ◌≤◌, ℕ, List, length, take, IfOk, IfSome, OnOk};
+ghost use Rattle.control.specs.Answers.{code_in};
 ghost use Rattle.stepped.specs.Outcome.{Memories};
 ghost use Rattle.reports.specs.Reports.{Answers};
 ghost use Rattle.schedule.specs.Records.{INPUT_BYTES};
 ghost use Rattle.schedule.specs.Stand.{played, last_answer};
-ghost use Rattle.schedule.specs.Bytes.{memories, on_bytes, started_part, together};
+ghost use Rattle.schedule.specs.Bytes.{memories, zeros, on_bytes, started_part, after_all, last_of, together};
 ghost use Rattle.std.specs.Io.KnownBytes.{Appends};
 ghost use Rattle.stand_reports.specs.Reported.{Reports};
 ghost use Rattle.stand_reports.specs.Written.{codes_text, Writes};
@@ -57,11 +58,34 @@ pub fn report_after<T: Report>(stand: &mut Stand, input: &[u8], row: &mut [u8]) 
         row.new result.report }
 {
     let last = stand.play(input);
-    let report = T::write(&stand.control, stand.lent_area(), &stand.strips, row);
+    let strips = stand.strips;
+    let report = T::write(&stand.control, stand.lent_area(), strips, row);
     BothAnswers { last, report }
 }
 
-// The same for a schedule that is read: no more than 65,536 bytes.
+// The same on memories that are zero at first. The three programs write what this puts into the row, behind the code of
+// its answer. That it tells the plain pool is `sheet-is-plain`, `form-is-plain` and `keepers-are-plain` of
+// crates/stand_agreement.
+pub fn report_after_all<T: Report>(input: &[u8], row: &mut [u8]) -> BothAnswers
+    requires { length input.now ≤ INPUT_BYTES }
+    ensures last { result.last ≡ last_of input.now }
+    ensures report { Answers (T.report_on (started_part (after_all input.now)) row.old) row.new result.report }
+{
+    report_after::<T>(&mut Stand::new(), input, row)
+}
+
+// The codes of both answers.
+fn codes_of(answers: &BothAnswers) -> Codes
+    ensures last { result.last ≡ code_in answers.now.last }
+    ensures report { result.report ≡ code_in answers.now.report }
+{
+    Codes {
+        last: (answers.last % answer::CODES) as u8,
+        report: (answers.report % answer::CODES) as u8,
+    }
+}
+
+// `report_after` for a schedule that is read: no more than 65,536 bytes.
 fn read_and_report<T: Report, R: Read>(
     stand: &mut Stand,
     reader: &mut R,
@@ -73,10 +97,21 @@ fn read_and_report<T: Report, R: Read>(
     let mut records = [0; input::MOST_BYTES];
     let n = input::read_full(reader, &mut records)?;
     let answers = report_after::<T>(stand, &records[..n], row);
-    Ok(Codes {
-        last: (answers.last % answer::CODES) as u8,
-        report: (answers.report % answer::CODES) as u8,
-    })
+    Ok(codes_of(&answers))
+}
+
+// `report_after_all` for a schedule that is read.
+fn read_and_report_from_zeros<T: Report, R: Read>(
+    reader: &mut R,
+    row: &mut [u8],
+) -> io::Result<Codes>
+    ensures { IfOk result (λ codes. IfSome (R.remaining reader.old) (λ all.
+        Reports T.report_on (take INPUT_BYTES all) zeros row.old row.new codes)) }
+{
+    let mut records = [0; input::MOST_BYTES];
+    let n = input::read_full(reader, &mut records)?;
+    let answers = report_after_all::<T>(&records[..n], row);
+    Ok(codes_of(&answers))
 }
 
 fn write_codes<W: Write>(writer: &mut W, codes: &Codes, last: LastCode) -> io::Result<()>
@@ -89,7 +124,23 @@ fn write_codes<W: Write>(writer: &mut W, codes: &Codes, last: LastCode) -> io::R
     }
 }
 
-// The work of the three programs: reads a schedule, plays it, and writes the code of the report's answer and the row.
+// The work of the three programs: reads a schedule, plays it on memories that are zero at first, and writes the code of
+// the report's answer and the row.
+pub fn run_from_zeros<T: Report, R: Read, W: Write>(
+    reader: &mut R,
+    writer: &mut W,
+    row: &mut [u8],
+    last: LastCode,
+) -> io::Result<()>
+    ensures { OnOk result (Writes (λ s. T.report_on (started_part s)) last zeros row.old
+        (R.remaining reader.old) (W.contents writer.old) (W.contents writer.new)) }
+{
+    let codes = read_and_report_from_zeros::<T, R>(reader, row)?;
+    write_codes(writer, &codes, last)?;
+    writer.write_all(row)
+}
+
+// The same work on memories that are lent.
 pub fn run<T: Report, R: Read, W: Write>(
     stand: &mut Stand,
     reader: &mut R,

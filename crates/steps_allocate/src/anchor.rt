@@ -37,6 +37,7 @@ pub fn read(control: &mut Control, request: Request) -> Result<Answer, Refusal>
 
 // The word of (FULL, n, 0), n being that of the class. Callers: the steps that take a chain and open a region, whose
 // request is of the class.
+#[inline(always)]
 pub fn full_word(class: Class) -> u64
     ensures { result ≡ full_word class }
 {

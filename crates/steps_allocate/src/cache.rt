@@ -66,8 +66,8 @@ pub fn take(control: &mut Control, area: &[u8], request: Request) -> Result<Answ
     };
     in_range(count as usize <= table::per_region(class))?;
     let unit = layout::CACHE_TOPS.get_of(control, task, class);
-    in_range(ranges::is_block(regions, class, unit as usize))?;
+    in_range(ranges::has_block(regions, class, unit as usize))?;
     let below = links::read(area, unit as usize);
-    in_range(ranges::is_top(regions, class, left as usize, below as usize))?;
+    in_range(ranges::has_top(regions, class, left as usize, below as usize))?;
     Ok(finish(control, task, class, unit, left, below as u16))
 }

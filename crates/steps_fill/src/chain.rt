@@ -34,7 +34,7 @@ pub fn step(control: &mut Control, area: &mut [u8], request: Request) -> Result<
     let count = layout::CACHE_COUNTS.get_of(control, task, class);
     in_range((count as usize) < n)?;
     let top = layout::CACHE_TOPS.get_of(control, task, class);
-    in_range(ranges::is_top(regions, class, count as usize, top as usize))?;
+    in_range(ranges::has_top(regions, class, count as usize, top as usize))?;
     let unit = geometry::first_unit(region, class, index);
     if left == 1 {
         layout::TASK_PLACES.set(control, task, places::A1);

@@ -38,9 +38,9 @@ pub fn put(control: &mut Control, area: &mut [u8], request: Request) -> Result<A
         return Ok(Answer::Accepted);
     }
     let unit = layout::TASK_UNITS.get(control, task);
-    in_range(ranges::is_block(request.regions, class, unit as usize))?;
+    in_range(ranges::has_block(request.regions, class, unit as usize))?;
     let top = layout::CACHE_TOPS.get_of(control, task, class);
-    in_range(ranges::is_top(request.regions, class, count as usize, top as usize))?;
+    in_range(ranges::has_top(request.regions, class, count as usize, top as usize))?;
     links::write(area, unit as usize, top as u32);
     layout::TASK_PLACES.set(control, task, places::IDLE);
     set(control, task, class, unit, count + 1);

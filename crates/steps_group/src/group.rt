@@ -26,8 +26,9 @@ pub fn begin(control: &mut Control, task: Task)
 }
 
 // The first block of a group: the top of a cache of `count` blocks. Caller: `take`, which has found it a block of the
-// area.
+// area. It is put in line, since a Result that a call hands back lies in memory; so is `take_more`.
 #[tactic(auto, unfolding(stepped::specs::Free::f2_first))]
+#[inline(always)]
 fn take_first(
     control: &mut Control,
     area: &[u8],
@@ -43,7 +44,7 @@ fn take_first(
     let Request { task, class, .. } = request;
     let left = count - 1;
     let below = links::read(area, unit as usize);
-    in_range(ranges::is_top(request.regions, class, left as usize, below as usize))?;
+    in_range(ranges::has_top(request.regions, class, left as usize, below as usize))?;
     let region = geometry::region_of(unit as usize) as u8;
     let index = geometry::index_of(class, unit as usize) as u16;
     layout::TASK_REGIONS.set(control, task, region);
@@ -57,6 +58,7 @@ fn take_first(
 // A further block of a group of `group` blocks of the region: the top of a cache of `count` blocks, linked behind the
 // last. Caller: `take`, which has found it a block of the area and of the region.
 #[tactic(auto, unfolding(stepped::specs::Free::f2_more))]
+#[inline(always)]
 fn take_more(
     control: &mut Control,
     area: &mut [u8],
@@ -80,7 +82,7 @@ fn take_more(
     in_range(last < n)?;
     let left = count - 1;
     let below = links::read(area, unit as usize);
-    in_range(ranges::is_top(request.regions, class, left as usize, below as usize))?;
+    in_range(ranges::has_top(request.regions, class, left as usize, below as usize))?;
     let index = geometry::index_of(class, unit as usize) as u16;
     let end = geometry::first_unit(region, class, last);
     links::write(area, end, index as u32);
@@ -108,7 +110,7 @@ pub fn take(control: &mut Control, area: &mut [u8], request: Request) -> Result<
         return Ok(Answer::Accepted);
     }
     let unit = layout::CACHE_TOPS.get_of(control, task, class);
-    in_range(ranges::is_block(request.regions, class, unit as usize))?;
+    in_range(ranges::has_block(request.regions, class, unit as usize))?;
     if group == 0 {
         return take_first(control, area, request, count, unit);
     }

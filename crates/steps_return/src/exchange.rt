@@ -52,9 +52,10 @@ fn go_on(
 // The exchange: won where the anchor is the noted one, else the anchor is read again. A won one leads to step 4 if the
 // region is now EMPTY, else by the state before. Caller: `exchange`, which has tested the descriptor and the noted
 // anchor, and that this one has room for the group. So an anchor that is the noted one needs no test of its own. It
-// takes the numbers one by one, since it is a function of its own in the compiled code, and a struct would lie in
-// memory.
+// takes the numbers one by one, and is put in line: a struct that it is handed, and the Result that it hands back, would
+// lie in memory.
 #[tactic(auto, unfolding(stepped::specs::Free::f3_exchange_of, stepped::specs::Free::f3_won))]
+#[inline(always)]
 fn exchange_of(
     control: &mut Control,
     request: Request,

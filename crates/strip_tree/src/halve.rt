@@ -29,17 +29,19 @@ fn halve_high(first: u64, node: usize, order: usize, wanted: usize) -> u64
     )
 }
 
-// The last halvings, in any of the words. Caller: `halve`.
-fn halve_low(tree: Tree, node: usize, order: usize, wanted: usize) -> Tree
+// The last halvings, in any of the words. The tree is changed in place, so that the recursion is compiled to a loop, and
+// none of it goes through memory. Caller: `halve`.
+fn halve_low(tree: &mut Tree, node: usize, order: usize, wanted: usize)
     requires node { Within order node }
     requires smaller { wanted ≤ order }
-    ensures { result ≡ halving tree (order - wanted) node }
+    ensures { tree.new ≡ halving tree.old (order - wanted) node }
 {
     if order == wanted {
-        return tree;
+        return;
     }
     let lower = 2 * node;
-    halve_low(tree.mark(lower + 1), lower, order - 1, wanted)
+    *tree = tree.mark(lower + 1);
+    halve_low(tree, lower, order - 1, wanted);
 }
 
 impl Tree {
@@ -53,14 +55,18 @@ impl Tree {
         let order = order.get();
         let wanted = wanted.get();
         if order <= tree::FIRST_WORD_ORDER {
-            return halve_low(self, node, order, wanted);
+            let mut tree = self;
+            halve_low(&mut tree, node, order, wanted);
+            return tree;
         }
         if tree::FIRST_WORD_ORDER <= wanted {
             let a = halve_high(self.a, node, order, wanted);
             return Tree { a, ..self };
         }
         let a = halve_high(self.a, node, order, tree::FIRST_WORD_ORDER);
+        let mut tree = Tree { a, ..self };
         let low = node << (order - tree::FIRST_WORD_ORDER);
-        halve_low(Tree { a, ..self }, low, tree::FIRST_WORD_ORDER, wanted)
+        halve_low(&mut tree, low, tree::FIRST_WORD_ORDER, wanted);
+        tree
     }
 }

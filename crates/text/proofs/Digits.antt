@@ -36,6 +36,10 @@ last-digit n h =
     rw (le-ltb n 10 h)
     (ap (λ (l : List ℕ). l ++ (48 + n % 10) ∷ []) (enough n (suc (n / 10)) (n / 10) (omega arith) (omega arith)))
 
+-- a number of more than one digit has one digit more than its tenth
+pub one-longer : (n : ℕ) → 10 ≤ n → length (decimal n) ≡ length (decimal (n / 10)) + 1
+one-longer n h = ap length (last-digit n h) ∙ length-append (decimal (n / 10)) ((48 + n % 10) ∷ [])
+
 -- the library prints a number of 64 bits as its decimal text
 pub printed-is : (n : ℕ) → n < 2 ^ 64 → printed n ≡ decimal n
 printed-is n h =

@@ -10,6 +10,10 @@ use lib.Seq.{take-suc, take-suc-set, take-append-add, take-append-le, length-tak
 use borrow.Rule.Slice.PartMut.{mid_of, post_of, put_mid, same_len_mid, mid_len}
 use Rattle.text.specs.Texts.{Appended}
 
+-- nothing is written
+pub none : (out : List ℕ) (at : ℕ) → at ≤ length out → Appended out out at [] at
+none out at h = record { same_length = refl; end = omega arith; within = h; text_is = sym (append-nil (take at out)) }
+
 module _ {before after : List ℕ} {at r : ℕ} {text : List ℕ} (w : Appended before after at text r) where
   -- one byte more is written
   pub one_more : (v : ℕ) → r < length after → Appended before (set after r v) at (text ++ v ∷ []) (r + 1)
@@ -32,6 +36,13 @@ module _ {before after : List ℕ} {at r : ℕ} {text : List ℕ} (w : Appended 
     within = x.within;
     text_is = x.text_is ∙ ap (λ (l : List ℕ). l ++ more) w.text_is ∙ append_assoc (take at before) text more;
   }
+
+-- one byte more of a text that is copied byte by byte
+pub next : {before after : List ℕ} {at : ℕ} (text : List ℕ) (i : ℕ) → Appended before after at (take i text) (at + i)
+    → i < length text → at + i < length after
+    → Appended before (set after (at + i) (get_or text i 0)) at (take (i + 1) text) (at + (i + 1))
+next {before} {after} {at} text i w h k =
+    rw (add-one i, take-suc text i 0, ← add-one i, ← add_assoc at i 1) (one_more w (get_or text i 0) k)
 
 -- a text at the start of the part that begins at `at`, put back
 pub at_part : (out part text : List ℕ) (at r : ℕ) → at ≤ length out

@@ -3,7 +3,7 @@
 #![tactic(auto)]
 
 ghost use Rattle.std.specs.Prelude.{◌+◌, ◌≤◌, length};
-ghost use Rattle.text.specs.Texts.{Appended};
+ghost use Rattle.text.specs.Texts.{decimal as decimal_text, Appended};
 ghost use Rattle.text.specs.Lines.{FIELD_BYTES, LINE_ROOM, field_text, columns_text, line_text, total_text};
 
 use schedule::tally::Tally;
@@ -26,14 +26,26 @@ fn word(out: &mut [u8], at: usize, text: &[u8]) -> usize
     end
 }
 
-// A number in decimal and the byte behind it. A number of 64 bits has at most 20 digits.
+// A number in decimal. Most numbers of a table are one digit, which needs no buffer. Caller: `field`.
+fn decimal(out: &mut [u8], at: usize, number: u64) -> usize
+    requires { at + length (decimal_text number) ≤ length out.old }
+    ensures { Appended out.old out.new at (decimal_text number) result }
+{
+    if number < 10 {
+        out[at] = b'0' + number as u8;
+        return at + 1;
+    }
+    let mut digits = itoa::Buffer::new();
+    word(out, at, digits.format(number).as_bytes())
+}
+
+// A number and the byte behind it. A number of 64 bits has at most 20 digits.
 fn field(out: &mut [u8], at: usize, number: u64, behind: u8) -> usize
     requires { at + FIELD_BYTES ≤ length out.old }
     ensures appended { Appended out.old out.new at (field_text number behind) result }
     ensures short { result ≤ at + FIELD_BYTES }
 {
-    let mut digits = itoa::Buffer::new();
-    let end = word(out, at, digits.format(number).as_bytes());
+    let end = decimal(out, at, number);
     out[end] = behind;
     end + 1
 }

@@ -1,34 +1,32 @@
 -- The numbers of the regions before `region` are added up.
-use mathlib.Core.Path.{ap, ◌∙◌}
+use mathlib.Core.Path.{sym, ap, ◌∙◌}
 use Prim.Native.Nat.{◌<◌}
 use native.Mathlib.Omega.{arith}
-use Rattle.holders.proofs.AddingUp.{class-same, class-other, added-begin, added-same, added-other, added-end}
+use Rattle.holders.proofs.AddingUp.{added-begin, added-same, added-other, added-end}
 use Rattle.holders.proofs.add_up.Goals as goal
-use Rattle.holders.proofs.add_up.Goals.{then-is_open_in, else-is_open_in}
+use Rattle.holders.proofs.add_up.Goals.{then-wanted-classes, else-wanted-classes}
 
 pub loop-region-init : goal.loop-region-init
 loop-region-init g c = (omega arith, λ n e. added-begin _ _ _)
 
 pub loop-region-preserved : goal.loop-region-preserved
 loop-region-preserved g c =
-    let opened = c.args.opened.now in
-    let r = c.loop-region.region in
     let before = c.loop-region.invariant in
-    elim c.if-is_open_in.branch [
-      | then-is_open_in w ↦ (let x = w.number-sum in
-          let inside : w.new.result < c.args.regions = omega (arith, w.new.ensures) in
-          let small = c.requires.small w.new.result x.result inside x.ensures in (
-            omega (arith, w.sum-is, small, before.0),
-            λ n e. rw w.sum-is
-                (added-same _ _ _ (before.1 n e)
-                (class-same opened r _ _ (omega arith) c.is_open_in.ensures w.if-is_open_in.true)
-                (e w.new.result x.result inside x.ensures ∙ ap n w.new.ensures)),
-          ))
-      | else-is_open_in w ↦ (
+    let wanted = c.get-wanted.ensures.same in
+    let x = c.number-blocks in
+    let inside : c.new.result < c.args.regions = omega (arith, c.new.ensures) in
+    let small = c.requires.small c.new.result x.result inside x.ensures in
+    elim c.if-wanted-classes.branch [
+      | then-wanted-classes w ↦ (
+        omega (arith, w.sum-is, small, before.0),
+        λ n e. rw w.sum-is
+            (added-same _ _ _ (before.1 n e) (sym wanted ∙ w.if-wanted-classes.true)
+            (e c.new.result x.result inside x.ensures ∙ ap n c.new.ensures)),
+      )
+      | else-wanted-classes w ↦ (
         omega (arith, w.sum-is, before.0),
         λ n e. rw w.sum-is
-            (added-other _ _ _ (before.1 n e)
-            (class-other opened r _ _ (omega arith) c.is_open_in.ensures w.if-is_open_in.false)),
+            (added-other _ _ _ (before.1 n e) (λ i. w.if-wanted-classes.false (wanted ∙ i))),
       )
     ]
 

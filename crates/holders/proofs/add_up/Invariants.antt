@@ -2,9 +2,7 @@
 use mathlib.Core.Path.{◌≡◌}
 use Prim.Native.Nat.{ℕ, ◌+◌, ◌*◌, ◌≤◌, ◌<◌}
 use lib.ListN.{get_or}
-use Rattle.std.specs.Prelude.{None}
 use Rattle.limits.specs.Limits.{MOST_BLOCKS}
-use Rattle.holders.specs.FormFilling.{class_read}
 use Rattle.holders.proofs.AddingUp.{AddedTo}
 use Rattle.holders.proofs.add_up.Given as goal
 
@@ -12,4 +10,4 @@ abbrev pub invariant-loop-region : goal.invariant-loop-region
 invariant-loop-region g l =
     (l.sum ≤ (MOST_BLOCKS + 1) * l.region)
     × ((n : ℕ → ℕ) → ((r x : ℕ) → r < l.fn.regions → goal.F-post g l.number r x → x ≡ n r)
-    → AddedTo (λ r. class_read (get_or l.opened r None)) l.class n l.region l.sum)
+    → AddedTo (λ r. get_or l.classes r 0) l.fn.class n l.region l.sum)

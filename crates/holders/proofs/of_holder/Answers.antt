@@ -1,29 +1,17 @@
 -- One law for each kind of holder.
 use mathlib.Core.Path.{◌≡◌, ◌∙◌}
-use Prim.Native.Nat.{ℕ}
 use native.Mathlib.Omega.{arith}
 use lib.ListN.{get_or}
-use Rattle.std.specs.Prelude.{None}
 use Rattle.std.proofs.Common.{rules}
 use Rattle.control.specs.Layout.{seen}
-use Rattle.report_marks.specs.InHand.{blocks_in_hand}
 use Rattle.report_regions.proofs.OpenBounds.{chain-most}
-use Rattle.holders.specs.FormFilling.{chain_read}
-use Rattle.holders.proofs.Bounds.{hand-most}
 use Rattle.holders.proofs.FormColumns.{as_read, chain-is, chains_read, number_read, marks-number}
 use Rattle.holders.proofs.FormColumns.{cache-number, request-number, chains-number}
 use Rattle.holders.proofs.of_holder.Goals as goal
 
-pub add_up-blocks-requires-clause-small : goal.add_up-blocks-requires-clause-small
-add_up-blocks-requires-clause-small c = λ r x l p.
-    let e : x ≡ blocks_in_hand (seen c.args.control.now) r c.args.class = search rules in
-    omega (arith, e, hand-most (seen c.args.control.now) r c.args.class)
-
 pub returns-then-holder-lt-FIRST_CACHE : goal.returns-then-holder-lt-FIRST_CACHE
 returns-then-holder-lt-FIRST_CACHE c =
-    let hands : ℕ → ℕ = λ r. blocks_in_hand (seen c.args.control.now) r c.args.class in
-    marks-number _ _ _ c.args.class _ c.requires.1 (omega arith)
-    (c.add_up-blocks.ensures hands (λ r x l p. search rules) ∙ as_read c.requires.2 _ _)
+    marks-number _ _ _ c.args.class _ c.requires.1 (omega arith) (c.in_hands.ensures ∙ as_read c.requires.2 _ _)
 
 pub returns-then-holder-lt-FIRST_REQUEST : goal.returns-then-holder-lt-FIRST_REQUEST
 returns-then-holder-lt-FIRST_REQUEST c =
@@ -37,12 +25,12 @@ returns-then-holder-lt-CHAINS c =
 
 pub add_up-requires-clause-small : goal.add_up-requires-clause-small
 add_up-requires-clause-small c = λ r x l p.
-    let e : x ≡ chain_read (get_or c.args.opened.now r None) = search rules in
+    let e : x ≡ get_or c.args.opened.now.chains r 0 = search rules in
     let v = seen c.args.control.now in
     omega (arith, e, chain-is c.requires.2 r l, chain-most v c.args.regions r)
 
 pub returns : goal.returns
 returns c =
     chains-number _ _ _ c.args.class _ c.requires.1 (omega arith)
-    (c.add_up.ensures (λ r. chain_read (get_or c.args.opened.now r None)) (λ r x l p. search rules)
+    (c.add_up.ensures (λ r. get_or c.args.opened.now.chains r 0) (λ r x l p. search rules)
     ∙ chains_read c.requires.2 _)

@@ -12,7 +12,7 @@ pub returns-in-Some : goal.returns-in-Some
 returns-in-Some c =
     rw c.new-task.ensures
     (cache-found _ _ _ _ _ c.loop-number.number c.loop-number.invariant (omega arith)
-    (rw c.new-task.ensures at c.in-Some.ensures.found) c.in-Some.ensures.below)
+    (rw (c.new-task.ensures, c.get.ensures.same) at c.in-Some.ensures.found) c.in-Some.ensures.below)
 
 pub request_keeper-requires : goal.request_keeper-requires
 request_keeper-requires c = list-fits _ _ _ c.requires.fits

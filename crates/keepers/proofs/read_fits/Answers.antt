@@ -25,14 +25,14 @@ pub returns-in_err-fits-clause-failed : goal.returns-in_err-fits-clause-failed
 returns-in_err-fits-clause-failed c =
     let r = c.from_residual-in_err-fits in
     let p = err_from_is_err_and r.result r.ensures.1 in
-    rw p.1 (held-fails _ _ _ c.in_err-fits.ensures.failed)
+    rw p.1 (held-fails _ _ _ (rw c.get.ensures.same at c.in_err-fits.ensures.failed))
 
 pub returns-clause-passed : goal.returns-clause-passed
 returns-clause-passed c =
     rw (spares-tell _ _ _ c.in_ok-caches_fit.ensures.passed c.in_ok-of_class.ensures.in_range_is
-    c.in_ok-of_regions.ensures.passed c.in_ok-fits.ensures.passed) at c.fits-2.ensures.passed
+    c.in_ok-of_regions.ensures.passed (rw c.get.ensures.same at c.in_ok-fits.ensures.passed)) at c.fits-2.ensures.passed
 
 pub returns-clause-failed : goal.returns-clause-failed
 returns-clause-failed c =
     rw (spares-tell _ _ _ c.in_ok-caches_fit.ensures.passed c.in_ok-of_class.ensures.in_range_is
-    c.in_ok-of_regions.ensures.passed c.in_ok-fits.ensures.passed) at c.fits-2.ensures.failed
+    c.in_ok-of_regions.ensures.passed (rw c.get.ensures.same at c.in_ok-fits.ensures.passed)) at c.fits-2.ensures.failed

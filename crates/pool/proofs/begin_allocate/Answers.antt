@@ -8,11 +8,11 @@ use Rattle.pool.proofs.begin_allocate.Goals as goal
 
 pub returns-in_err-started : goal.returns-in_err-started
 unfolding allocate_outcome
-returns-in_err-started c = refused-by _ (stopped c.tests.ensures _ c.in_err-started.was) c.from_residual.ensures.1
+returns-in_err-started c = refused-by _ (stopped c.later_tests.ensures _ c.in_err-started.was) c.from_residual.ensures.1
 
 pub returns : goal.returns
 unfolding allocate_outcome
 returns c =
     does
-    (follows c.tests.ensures (λ k. when_idle (seen c.args.control.now) k (begin_allocate k c.args.size)) c.in_ok-started.was)
+    (follows c.later_tests.ensures (λ k. when_idle (seen c.args.control.now) k (begin_allocate k c.args.size)) c.in_ok-started.was)
     c.begin.ensures

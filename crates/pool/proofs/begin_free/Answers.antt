@@ -11,16 +11,16 @@ use Rattle.pool.proofs.begin_free.Goals as goal
 
 pub returns-in_err-started : goal.returns-in_err-started
 unfolding free_outcome
-returns-in_err-started c = refused-by _ (stopped c.tests.ensures _ c.in_err-started.was) c.from_residual.ensures.1
+returns-in_err-started c = refused-by _ (stopped c.later_tests.ensures _ c.in_err-started.was) c.from_residual.ensures.1
 
 pub returns : goal.returns
 unfolding free_outcome
 returns c =
     does
-    (follows c.tests.ensures
+    (follows c.later_tests.ensures
     (λ k. when_idle (seen c.args.control.now) k (begin_free (seen c.args.control.now) (seen c.args.control.now Regions) k c.args.unit))
     c.in_ok-started.was
     ∙ ap (λ (z : ℕ). when_idle (seen c.args.control.now) c.in_ok-started.started.task
     (begin_free (seen c.args.control.now) z c.in_ok-started.started.task c.args.unit))
-    (sym (found c.tests.ensures c.in_ok-started.was).regions))
+    (sym (found c.later_tests.ensures c.in_ok-started.was).regions))
     c.begin.ensures

@@ -9,11 +9,11 @@ use Rattle.pool.proofs.begin_leave.Goals as goal
 
 pub returns-in_err-started : goal.returns-in_err-started
 unfolding leave_outcome
-returns-in_err-started c = refused-by _ (stopped c.tests.ensures _ c.in_err-started.was) c.from_residual.ensures.1
+returns-in_err-started c = refused-by _ (stopped c.later_tests.ensures _ c.in_err-started.was) c.from_residual.ensures.1
 
 pub returns : goal.returns
 unfolding leave_outcome
 returns c =
     does
-    (follows c.tests.ensures (λ k. when_idle (seen c.args.control.now) k (begin_leave (seen c.args.control.now) k)) c.in_ok-started.was)
+    (follows c.later_tests.ensures (λ k. when_idle (seen c.args.control.now) k (begin_leave (seen c.args.control.now) k)) c.in_ok-started.was)
     c.begin.ensures

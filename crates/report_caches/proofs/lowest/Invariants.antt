@@ -1,7 +1,5 @@
 -- What is left of the cache gives the lowest of the whole.
-use Prim.Native.Nat.{◌-◌, ◌<◌}
-use Rattle.std.specs.Prelude.{unwrap_or, IfSome}
-use Rattle.limits.specs.Limits.{UNITS}
+use Prim.Native.Nat.{◌-◌}
 use Rattle.links.specs.Link.{link}
 use Rattle.control.specs.Layout.{seen}
 use Rattle.report_caches.proofs.LowestBlocks.{LowestTo}
@@ -9,6 +7,4 @@ use Rattle.report_caches.proofs.lowest.Given as goal
 
 abbrev pub invariant-loop : goal.invariant-loop
 invariant-loop l =
-    LowestTo (seen l.control) (link l.area) l.fn.regions l.fn.task l.fn.class l.fn.region l.unit (l.end - l.counter)
-    (unwrap_or l.low UNITS)
-    × IfSome l.low (λ lowest. lowest < UNITS)
+    LowestTo (seen l.control) (link l.area) l.fn.regions l.fn.task l.fn.class l.fn.region l.unit (l.end - l.counter) l.low

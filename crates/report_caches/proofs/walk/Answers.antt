@@ -12,7 +12,9 @@ loop-init c = walk_begins (search rules)
 pub returns-in_err-in_range : goal.returns-in_err-in_range
 returns-in_err-in_range c =
     let p = err_from_is_err_and c.from_residual.result c.from_residual.ensures.1 in
-    rw p.1 (walk-stops c.loop.invariant (omega arith) (sym c.is_block.ensures ∙ c.in_err-in_range.ensures.failed))
+    rw p.1
+    (walk-stops c.loop.invariant (omega arith)
+    (rw c.get.ensures.same at (sym c.is_block.ensures ∙ c.in_err-in_range.ensures.failed)))
 
 pub overflow_add-counts : goal.overflow_add-counts
 overflow_add-counts c =
@@ -23,8 +25,9 @@ overflow_add-counts c =
 
 pub loop-preserved : goal.loop-preserved
 loop-preserved c =
-    walk-goes c.loop.invariant (omega arith) (omega arith) (sym c.is_block.ensures ∙ c.in_ok-in_range.ensures.passed)
-    c.region_of.ensures c.read-unit.ensures
+    walk-goes c.loop.invariant (omega arith) (omega arith)
+    (rw c.get.ensures.same at (sym c.is_block.ensures ∙ c.in_ok-in_range.ensures.passed)) c.region_of.ensures
+    c.read-unit.ensures
 
 pub returns-in_err-in_range-2 : goal.returns-in_err-in_range-2
 returns-in_err-in_range-2 c =

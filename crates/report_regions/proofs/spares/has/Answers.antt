@@ -13,8 +13,8 @@ pub returns-in_default : goal.returns-in_default
 returns-in_default c =
     on-ends _ _ _ _ c.loop.invariant (omega arith) (omega (arith, c.in_default.ensures))
 
-pub returns-then-number-get : goal.returns-then-number-get
-returns-then-number-get c =
+pub returns-then-number-region : goal.returns-then-number-region
+returns-then-number-region c =
     let some = c.in-Some.ensures in
     on-found _ _ _ _ c.loop.invariant (omega arith) (λ e. omega (arith, some)) (omega (arith, some))
 

@@ -6,15 +6,15 @@ use Rattle.report_requests.proofs.one_region.are_there.Goals as goal
 
 pub returns-then-has_row : goal.returns-then-has_row
 returns-then-has_row c =
-    let same = sym c.get.ensures.same ∙ c.if-get.true ∙ c.get-2.ensures.same in
+    let same = c.if-class-get.true ∙ c.get.ensures.same in
     c.if-has_row.true ∙ blocks-row _ _ _ same (sym c.has_row.ensures ∙ c.if-has_row.true)
 
 pub returns-else-has_row : goal.returns-else-has_row
 returns-else-has_row c =
-    let same = sym c.get.ensures.same ∙ c.if-get.true ∙ c.get-2.ensures.same in
+    let same = c.if-class-get.true ∙ c.get.ensures.same in
     blocks-own _ _ _ same (sym c.has_row.ensures ∙ c.if-has_row.false) c.has_own.ensures
 
-pub returns-else-get : goal.returns-else-get
-returns-else-get c =
-    ne_eqb _ _ c.if-get.false
-    ∙ sym (blocks-other _ _ _ (λ e. c.if-get.false (c.get.ensures.same ∙ e ∙ sym c.get-2.ensures.same)))
+pub returns-else-class-get : goal.returns-else-class-get
+returns-else-class-get c =
+    ne_eqb _ _ c.if-class-get.false
+    ∙ sym (blocks-other _ _ _ (λ e. c.if-class-get.false (e ∙ sym c.get.ensures.same)))

@@ -10,13 +10,10 @@ use Rattle.steps.proofs.step.step.Goals as goal
 pub returns-then-place-eq-IDLE : goal.returns-then-place-eq-IDLE
 returns-then-place-eq-IDLE c = numbers {r = Err Idle} (done-in (idle _ _ _ _ (omega arith)) refl (cc) (cc)) refl
 
-pub returns-in_default : goal.returns-in_default
-returns-in_default c =
-    numbers {r = Err OutOfRange} (done-in (no-class _ _ _ _ (omega arith) (omega (arith, c.in_default.ensures.outside))) refl (cc) (cc))
-    refl
+pub returns-then-noted-ge-CLASSES : goal.returns-then-noted-ge-CLASSES
+returns-then-noted-ge-CLASSES c =
+    numbers {r = Err OutOfRange} (done-in (no-class _ _ _ _ (omega arith) (omega arith)) refl (cc) (cc)) refl
 
 pub returns : goal.returns
 returns c =
-    numbers-in
-    (to-place _ _ _ _ (omega arith) (omega arith) (omega (arith, c.in-Ok.ensures.found)) (omega (arith, c.in-Ok.ensures.inside, c.in-Ok.ensures.found)))
-    c.at.ensures
+    numbers-in (to-place _ _ _ _ (omega arith) (omega arith) (omega (arith, c.new.ensures)) (omega arith)) c.at.ensures

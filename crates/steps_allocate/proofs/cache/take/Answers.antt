@@ -20,7 +20,7 @@ pub returns-in_err-in_range-2 : goal.returns-in_err-in_range-2
 returns-in_err-in_range-2 c =
     refuses _ (a1-some _ _ _ _ _ c.get_of-count.ensures c.per_region.ensures (omega (arith, c.in-Some.ensures))
     c.get_of-unit.ensures c.in_ok-in_range.ensures.passed
-    ∙ a1_take-block _ _ _ _ _ _ _ (shown c.is_block.ensures c.in_err-in_range-2.ensures.failed))
+    ∙ a1_take-block _ _ _ _ _ _ _ (shown c.has_block.ensures c.in_err-in_range-2.ensures.failed))
     c.from_residual-in_err-in_range-2.ensures.1
 
 pub returns-in_err-in_range-3 : goal.returns-in_err-in_range-3
@@ -28,8 +28,8 @@ returns-in_err-in_range-3 c =
     refuses _ (a1-some _ _ _ _ _ c.get_of-count.ensures c.per_region.ensures (omega (arith, c.in-Some.ensures))
     c.get_of-unit.ensures c.in_ok-in_range.ensures.passed
     ∙ a1_take-below _ _ _ _ _ _ _ c.read-below.ensures c.in-Some.ensures.1
-    (shown c.is_block.ensures c.in_ok-in_range-2.ensures.passed)
-    (shown c.is_top.ensures c.in_err-in_range-3.ensures.failed))
+    (shown c.has_block.ensures c.in_ok-in_range-2.ensures.passed)
+    (shown c.has_top.ensures c.in_err-in_range-3.ensures.failed))
     c.from_residual-in_err-in_range-3.ensures.1
 
 pub returns : goal.returns
@@ -37,5 +37,5 @@ returns c =
     does (a1-some _ _ _ _ _ c.get_of-count.ensures c.per_region.ensures (omega (arith, c.in-Some.ensures))
     c.get_of-unit.ensures c.in_ok-in_range.ensures.passed
     ∙ a1_take-taken _ _ _ _ _ _ _ c.read-below.ensures c.in-Some.ensures.1
-    (shown c.is_block.ensures c.in_ok-in_range-2.ensures.passed)
-    (shown c.is_top.ensures c.in_ok-in_range-3.ensures.passed)) c.finish.ensures
+    (shown c.has_block.ensures c.in_ok-in_range-2.ensures.passed)
+    (shown c.has_top.ensures c.in_ok-in_range-3.ensures.passed)) c.finish.ensures

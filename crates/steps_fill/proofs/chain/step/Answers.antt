@@ -51,7 +51,7 @@ returns-in_err-in_range-5 c =
     refuses-in _ (a4-top _ _ _ _ _ (r.found ∙ c.get.ensures) (omega (arith, r)) c.get-index.ensures
     c.per_region-n.ensures c.in_ok-in_range.ensures.passed c.get-left.ensures c.in_ok-in_range-2.ensures.passed
     c.in_ok-in_range-3.ensures.passed c.get_of-count.ensures c.in_ok-in_range-4.ensures.passed c.get_of-top.ensures
-    (shown c.is_top.ensures c.in_err-in_range-5.ensures.failed))
+    (shown c.has_top.ensures c.in_err-in_range-5.ensures.failed))
     c.from_residual-in_err-in_range-5.ensures.1
 
 pub read-next-requires : goal.read-next-requires
@@ -66,7 +66,7 @@ returns-in_err-in_range-6 c =
     refuses-in _ (a4-moves _ _ _ _ _ (r.found ∙ c.get.ensures) (omega (arith, r)) c.get-index.ensures
     c.per_region-n.ensures c.in_ok-in_range.ensures.passed c.get-left.ensures c.in_ok-in_range-2.ensures.passed
     c.in_ok-in_range-3.ensures.passed c.get_of-count.ensures c.in_ok-in_range-4.ensures.passed c.get_of-top.ensures
-    c.first_unit-unit.ensures (shown c.is_top.ensures c.in_ok-in_range-5.ensures.passed)
+    c.first_unit-unit.ensures (shown c.has_top.ensures c.in_ok-in_range-5.ensures.passed)
     ∙ a4_move-bad _ _ _ _ _ _ _ _ _ c.if-left-eq1.false c.read-next.ensures c.per_region-n.ensures
     c.in_err-in_range-6.ensures.failed)
     c.from_residual-in_err-in_range-6.ensures.1
@@ -107,7 +107,7 @@ returns c =
     let moves = a4-moves _ _ _ _ _ (r.found ∙ c.get.ensures) (omega (arith, r)) c.get-index.ensures
     c.per_region-n.ensures c.in_ok-in_range.ensures.passed c.get-left.ensures c.in_ok-in_range-2.ensures.passed
     c.in_ok-in_range-3.ensures.passed c.get_of-count.ensures c.in_ok-in_range-4.ensures.passed c.get_of-top.ensures
-    c.first_unit-unit.ensures (shown c.is_top.ensures c.in_ok-in_range-5.ensures.passed) in
+    c.first_unit-unit.ensures (shown c.has_top.ensures c.in_ok-in_range-5.ensures.passed) in
     elim c.if-left-eq1.branch [
       | then-left-eq1 w ↦
           done-in (moves ∙ a4_move-last _ _ _ _ _ _ _ _ _ w.if-left-eq1.true) refl

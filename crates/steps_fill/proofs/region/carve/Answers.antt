@@ -32,7 +32,7 @@ returns-in_err-in_range-3 c =
     refuses-in _ (a8-top _ _ _ _ _ (r.found ∙ c.get.ensures) (omega (arith, r)) c.get-index.ensures
     c.per_region-n.ensures c.in_ok-in_range.ensures.passed c.get_of-count.ensures c.in_ok-in_range-2.ensures.passed
     c.get_of-top.ensures
-    (shown c.is_top.ensures c.in_err-in_range-3.ensures.failed))
+    (shown c.has_top.ensures c.in_err-in_range-3.ensures.failed))
     c.from_residual-in_err-in_range-3.ensures.1
 
 pub overflow_cast-next : goal.overflow_cast-next
@@ -91,7 +91,7 @@ returns c =
     c.per_region-n.ensures c.in_ok-in_range.ensures.passed c.get_of-count.ensures c.in_ok-in_range-2.ensures.passed
     c.get_of-top.ensures
     (ap (λ (u : ℕ). u * c.get-index.result) c.units.ensures)
-    (shown c.is_top.ensures c.in_ok-in_range-3.ensures.passed) in
+    (shown c.has_top.ensures c.in_ok-in_range-3.ensures.passed) in
     elim c.if-next-n.branch [
       | then-next-n w ↦
           done-in (puts ∙ a8_put-last _ _ _ _ _ _ _ _ _ c.per_region-n.ensures w.if-next-n.true) refl
