@@ -221,8 +221,9 @@
  *
  * So 12,257 bytes are left out where no report is called, and no memcpy is needed.
  *
- * A report may keep values below the stack pointer, in the 128 bytes that the System V ABI calls the red zone; the other
- * calls do not. An interrupt that comes during a report, and uses the same stack, has to leave these bytes as they are.
+ * A report may keep values below the stack pointer, in the 128 bytes that the System V ABI calls the red zone; the
+ * other calls do not. An interrupt that comes during a report, and uses the same stack, has to leave these bytes as
+ * they are.
  */
 #ifndef POOL_H
 #define POOL_H
@@ -462,8 +463,8 @@ uint64_t pool_sheet(const uint8_t *control, uint64_t control_length, const uint8
  *
  * It follows the link of every cached block, at 14 instructions each. It takes 16,866 instructions in a fresh pool of
  * one region, and 113,276 where all blocks of sixteen regions are cached. The most that was found for any memories is
- * 178,692. A form uses at most 2,008 bytes of stack, of which 468 hold the numbers until all are tested; what your memset
- * and memcpy use comes on top. "What the code needs" above says what its code takes.
+ * 178,692. A form uses at most 2,008 bytes of stack, of which 468 hold the numbers until all are tested; what your
+ * memset and memcpy use comes on top. "What the code needs" above says what its code takes.
  */
 uint64_t pool_holders(const uint8_t *control, uint64_t control_length, const uint8_t *area, uint64_t area_length,
                       const uint8_t *strips, uint64_t strips_length, uint8_t *form, uint64_t form_length);
