@@ -216,10 +216,10 @@
  *
  *   1,913 bytes   of the sheet alone, where the sheet is not called;
  *   2,869 bytes   of the form alone, where the form is not called;
- *   6,132 bytes   of the keepers alone, where the keepers are not called;
+ *   6,271 bytes   of the keepers alone, where the keepers are not called;
  *   1,343 bytes   that reports share, where none is called.
  *
- * So 12,257 bytes are left out where no report is called, and no memcpy is needed.
+ * So 12,396 bytes are left out where no report is called, and no memcpy is needed.
  *
  * A report may keep values below the stack pointer, in the 128 bytes that the System V ABI calls the red zone; the
  * other calls do not. An interrupt that comes during a report, and uses the same stack, has to leave these bytes as
@@ -461,9 +461,9 @@ uint64_t pool_sheet(const uint8_t *control, uint64_t control_length, const uint8
  * Answers, by the first test that fails: POOL_BAD_CONTROL, POOL_NOT_STARTED, POOL_BAD_AREA, POOL_DAMAGED exactly where
  * pool_sheet has it, POOL_SHORT_ROW; else POOL_FINISHED with value 0.
  *
- * It follows the link of every cached block, at 14 instructions each. It takes 16,866 instructions in a fresh pool of
- * one region, and 113,276 where all blocks of sixteen regions are cached. The most that was found for any memories is
- * 178,692. A form uses at most 2,008 bytes of stack, of which 468 hold the numbers until all are tested; what your
+ * It follows the link of every cached block, at 14 instructions each. It takes 16,857 instructions in a fresh pool of
+ * one region, and 113,267 where all blocks of sixteen regions are cached. The most that was found for any memories is
+ * 178,683. A form uses at most 2,008 bytes of stack, of which 468 hold the numbers until all are tested; what your
  * memset and memcpy use comes on top. "What the code needs" above says what its code takes.
  */
 uint64_t pool_holders(const uint8_t *control, uint64_t control_length, const uint8_t *area, uint64_t area_length,
@@ -499,7 +499,7 @@ uint64_t pool_holders(const uint8_t *control, uint64_t control_length, const uin
  * It follows the link of every cached block, at 14 instructions each. For each open region that has no block in hand
  * it follows those of the region's class once more, at about 10 each, task by task up to the first that has a block of
  * the region. The keepers of a fresh pool of one region take 4,473 instructions, and those of sixteen regions whose
- * blocks are all cached take 372,847. The most that was found for any memories is 790,101. They use at most 408 bytes of
+ * blocks are all cached take 372,847. The most that was found for any memories is 790,701. They use at most 408 bytes of
  * stack; what your memcpy uses comes on top. "What the code needs" above says what their code takes.
  */
 uint64_t pool_keepers(const uint8_t *control, uint64_t control_length, const uint8_t *area, uint64_t area_length,

@@ -1,6 +1,7 @@
 -- From a task's fields to what is told of its request: the tests pass, and the numbers are those of the blocks that the
 -- plain pool has under way.
 use mathlib.Core.Path.{◌≡◌, sym, ap, ◌∙◌}
+use mathlib.Core.Logic.{◌≢◌}
 use mathlib.Core.Bool.{Bool, true, false, cond, not}
 use mathlib.Core.List.{List, [], ◌∷◌, ◌++◌}
 use Prim.Native.Nat.{ℕ, zero, suc, ◌+◌, ◌≤◌, ◌<◌}
@@ -11,7 +12,7 @@ use borrow.Author.Tests.{lt-ltb, le-leb, eq-eqb, ne_eqb}
 use Rattle.std.specs.Prelude.{None, Some, is_ok}
 use Rattle.std.specs.declared.result.Result.{Result}
 use Rattle.limits.specs.declared.index.OutOfRange.{OutOfRange}
-use Rattle.limits.specs.Limits.{REGIONS, CLASSES}
+use Rattle.limits.specs.Limits.{REGIONS, UNITS, CLASSES}
 use Rattle.rows.specs.Comparisons.{same, other, same?}
 use Rattle.rows.specs.Weights.{when, one}
 use Rattle.rows.specs.Counting.{count}
@@ -27,6 +28,7 @@ use Rattle.plain.specs.Blocks.{blocks_from}
 use Rattle.control.specs.Layout.{TaskUnit, LEAVING, TaskPlace, TaskClass, TaskRegion}
 use Rattle.control.specs.Places.{PLACES}
 use Rattle.stepped.specs.Ranges.{is_block}
+use Rattle.ranges.proofs.Passed.{block-passed}
 use Rattle.agreement.specs.Contents.{purpose_of}
 use Rattle.agreement.proofs.Purposes.{is-leaving, is-freeing}
 use Rattle.reports.specs.ByRegion.{in_region}
@@ -186,13 +188,14 @@ module _ {v : View} {regions t k least : ℕ} {f : Bool} (w : InRange v regions 
   freed-told {p} q small e b c-is under n =
       let u = v (TaskUnit t) in
       let there = with-own e (rw (← c-is) b) in
+      let d : u ≢ UNITS = λ z. omega (arith, block-passed regions (class_at p) u b) in
       record {
         fits = ap (λ (q : Result RequestBlocks OutOfRange). is_ok q) there;
         number = λ c r.
             let both : when r (region_for v t k) k + one r (region_of u) ≡ in_region r (u ∷ q) =
             omega (arith, same_number v t k r, n r) in
             ap (in_request c r) there
-            ∙ rw (both, c-is, under);
+            ∙ rw (ne_eqb u UNITS d, both, c-is, under);
       }
 
 -- the places of a return: the block that is being freed, or none where the task leaves, and q under way beside it

@@ -7,6 +7,7 @@ use native.Mathlib.Omega.{arith}
 use borrow.Author.Tests.{eq-eqb, ne_eqb, le-leb}
 use lib.Dec.{leb, eqb}
 use Rattle.std.specs.Prelude.{Ok, Some}
+use Rattle.limits.specs.Limits.{UNITS}
 use Rattle.rows.specs.Comparisons.{same, other, same?}
 use Rattle.rows.specs.Weights.{when}
 use Rattle.rows.proofs.Weights.{when-same, when-other}
@@ -25,10 +26,11 @@ pub row-there : (r z k : ℕ) → z ≡ r → leb 1 (when r z k) ≡ leb 1 k
 row-there r z k e = rw e (ap (leb 1) (when-same r k))
 
 -- the block being freed, of the region z, is of the region k, which is r, or of another
-pub own-tells : (r u : ℕ) {z k : ℕ} → z ≡ region_of u → k ≡ r → eqb z k ≡ leb 1 (own_in r (Some u))
-own-tells r u {z} f e = elim (same? z r) [
-  | same d ↦ rw (e, eq-eqb z r d, ← f, d, when-same r 1)
-  | other d ↦ rw (e, ne_eqb z r d, ← f, when-other r z 1 (λ e. d (sym e)))
+pub own-tells : (r u : ℕ) {z k : ℕ} → u ≢ UNITS → z ≡ region_of u → k ≡ r
+    → eqb z k ≡ leb 1 (own_in r (Some u))
+own-tells r u {z} n f e = elim (same? z r) [
+  | same d ↦ rw (e, eq-eqb z r d, ne_eqb u UNITS n, ← f, d, when-same r 1)
+  | other d ↦ rw (e, ne_eqb z r d, ne_eqb u UNITS n, ← f, when-other r z 1 (λ e. d (sym e)))
 ]
 
 -- none of them is of the class

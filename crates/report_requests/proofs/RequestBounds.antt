@@ -9,8 +9,8 @@ use Rattle.std.specs.Prelude.{Ok, Err, None, Some, IfOk, IfSome}
 use Rattle.std.specs.declared.option.Option.{Option}
 use Rattle.std.specs.declared.result.Result.{Result}
 use Rattle.limits.specs.declared.index.OutOfRange.{OutOfRange}
-use Rattle.limits.specs.Limits.{REGIONS, MOST_BLOCKS, CLASSES}
-use Rattle.rows.specs.Weights.{when}
+use Rattle.limits.specs.Limits.{UNITS, REGIONS, MOST_BLOCKS, CLASSES}
+use Rattle.rows.specs.Weights.{when, one}
 use Rattle.rows.proofs.Weights.{when-max}
 use Rattle.fields.specs.Columns.{View}
 use Rattle.classes.specs.Classes.{per_region}
@@ -100,7 +100,11 @@ read-bounded v regions t e h = (subst Bounded (sym e) (request-bounded v regions
 -- the block being freed is one, or there is none
 own-max : (r : ℕ) (own : Option ℕ) → own_in r own ≤ 1
 own-max r None = omega arith
-own-max r (Some u) = when-max r (region_of u) 1
+own-max r (Some u) = at_most_one (eqb u UNITS) (one r (region_of u)) (when-max r (region_of u) 1)
+  where
+    at_most_one : (b : Bool) (n : ℕ) → n ≤ 1 → cond b 0 n ≤ 1
+    at_most_one true n h = omega arith
+    at_most_one false n h = h
 
 -- a bounded request has at most so many blocks of a class in a region
 pub request-max : (c r : ℕ) (q : Result RequestBlocks OutOfRange) → Bounded q → in_request c r q ≤ MOST_BLOCKS + 1

@@ -8,7 +8,8 @@ use lib.ListN.{length, get_or, set, length-set}
 use Rattle.std.specs.Prelude.{Ok, Err, None, Some, is_ok}
 use Rattle.std.specs.declared.result.Result.{Result}
 use Rattle.limits.specs.declared.index.OutOfRange.{OutOfRange}
-use Rattle.limits.specs.Limits.{REGIONS}
+use borrow.Author.Tests.{ne_eqb}
+use Rattle.limits.specs.Limits.{UNITS, REGIONS}
 use Rattle.rows.specs.Weights.{when}
 use Rattle.rows.proofs.Weights.{when-same, when-other, when-max}
 use Rattle.classes.specs.Geometry.{region_of}
@@ -70,5 +71,7 @@ module _ {q : RequestBlocks} {p : Result RequestBlocks OutOfRange} (is : Ok q �
           let counts = grown from q.region q.blocks in
           let long = length-set from q.region (get_or from q.region 0 + q.blocks) in
           let inside : z < length counts = omega (arith, own_inside) in
+          let d : u ≢ UNITS = λ e. omega (arith, own_inside) in
           counted (λ r.
-          rw (class, when-same q.class _, own, ← region) (omega (arith, blocks-counted r, count-grows counts z 1 r inside)))
+          rw (class, when-same q.class _, own, ne_eqb u UNITS d, ← region)
+          (omega (arith, blocks-counted r, count-grows counts z 1 r inside)))

@@ -9,7 +9,7 @@ use Rattle.std.specs.Prelude.{Ok, Err, None, Some}
 use Rattle.std.specs.declared.option.Option.{Option}
 use Rattle.std.specs.declared.result.Result.{Result}
 use Rattle.limits.specs.declared.index.OutOfRange.{OutOfRange}
-use Rattle.limits.specs.Limits.{TASKS, CLASSES}
+use Rattle.limits.specs.Limits.{UNITS, TASKS, CLASSES}
 use Rattle.rows.specs.Weights.{when, one}
 use Rattle.rows.specs.Totals.{total}
 use Rattle.fields.specs.Columns.{View}
@@ -52,7 +52,8 @@ is_freeing v t p = eqb p F1 || (is_return p && not (eqb (v (TaskUnit t)) LEAVING
 unfoldable pub is_without : ℕ → Bool
 is_without p = eqb p IDLE || is_from_to STRIP_TAKE LEAVE_END p
 
--- k blocks of the class c and the region z, and a block that is freed, if there is one, by its unit
+-- k blocks of the class c and the region z, and a block that is freed, if there is one, by its unit: 8,192 is that of
+-- no block
 abbrev pub has : ℕ → ℕ → ℕ → Option ℕ → Result RequestBlocks OutOfRange
 has c z k own = Ok (record { class = c; region = z; blocks = k; own = own })
 
@@ -92,10 +93,11 @@ module _ (v : View) (regions t : ℕ) where
       let c = v (TaskClass t) in
       cond (is_without p) no_blocks (cond (ltb p PLACES && ltb c CLASSES) (request_blocks_at c p) outside)
 
--- 1 if the block being freed lies in the region r; 0 where it does not, or none is freed
+-- 1 if the block being freed, of the unit u, lies in the region r; 0 where it does not, or none is freed: 8,192 is the
+-- unit of no block
 abbrev pub own_in : ℕ → Option ℕ → ℕ
 own_in r None = 0
-own_in r (Some u) = one r (region_of u)
+own_in r (Some u) = cond (eqb u UNITS) 0 (one r (region_of u))
 
 -- how many of a request's blocks are of the class c and lie in the region r; none of one that is out of range
 unfoldable pub in_request : ℕ → ℕ → Result RequestBlocks OutOfRange → ℕ

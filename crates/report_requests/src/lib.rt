@@ -18,7 +18,7 @@ use limits::REGIONS;
 use limits::index::{Class, OutOfRange, Regions, Task, in_range};
 
 // How many blocks of a class and region a request has under way, and the unit of the block that it frees, if there is
-// one.
+// one: the unit 8,192 is that of no block.
 #[derive(Clone, Copy)]
 pub struct RequestBlocks {
     pub class: Class,

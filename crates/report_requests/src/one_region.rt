@@ -15,6 +15,9 @@ use limits::index::{OutOfRange, Task, in_range};
 // The last place of the push of a region.
 const LAST_PUSH: u8 = places::PUSH_RELEASE + places::TO_EXCHANGE;
 
+// The unit of no block: what stands at the bottom of a cache.
+const NONE: u16 = limits::UNITS as u16;
+
 // Whether there are blocks, and they are of the region. Caller: `are_there`.
 fn has_row(of: usize, blocks: u16, region: usize) -> bool
     ensures { result ≡ leb 1 (when region of blocks) }
@@ -22,12 +25,13 @@ fn has_row(of: usize, blocks: u16, region: usize) -> bool
     of == region && 0 < blocks
 }
 
-// Whether there is a block that is freed, and it is of the region. Caller: `are_there`.
+// Whether there is a block that is freed, and it is of the region. In an area of more than sixteen regions the unit of
+// no block passes the test of the range. Caller: `are_there`.
 fn has_own(own: Option<u16>, region: usize) -> bool
     ensures { result ≡ leb 1 (own_in region own) }
 {
     match own {
-        Some(unit) => geometry::region_of(unit as usize) == region,
+        Some(unit) => unit != NONE && geometry::region_of(unit as usize) == region,
         None => false,
     }
 }

@@ -1,6 +1,7 @@
 -- docs/POOL.md, "The stand"
 -- The stand on the bytes of its three memories.
-use Rattle.std.specs.Prelude.{◌≡◌, ℕ, ◌*◌, cond, List, length, replicate, ◌==◌, nat_lt}
+use Rattle.std.specs.Prelude.{◌≡◌, ℕ, ◌*◌, cond, List, length, replicate, unwrap_or, ◌==◌, nat_lt}
+use Rattle.std.specs.Option.{option_copied}
 use borrow.Rule.Slice.PartMut.{mid_of, put_mid}
 use Rattle.limits.specs.Limits.{CONTROL_BYTES, REGION_BYTES, STRIPS_BYTES}
 use Rattle.fields.specs.Columns.{View}
@@ -22,9 +23,13 @@ zeros = record {
   strips = replicate STRIPS_BYTES 0;
 }
 
--- the stand's memories
+-- the stand's memories; the strips' are zeros where it has none
 abbrev pub memories : Stand → Memories
-memories s = record { control = s.control; area = s.area; strips = s.strips.now }
+memories s = record {
+  control = s.control;
+  area = s.area;
+  strips = unwrap_or (option_copied s.strips) (replicate STRIPS_BYTES 0);
+}
 
 -- how many regions the last accepted start was lent: none before the first; never more than the stand has
 abbrev pub lent_regions : View → ℕ

@@ -6,7 +6,7 @@ ghost use Rattle.schedule.specs.Bytes.{PlaysAll};
 use crate::records::Records;
 use crate::stand::Stand;
 
-impl Stand {
+impl<'a> Stand<'a> {
     // Has the records treated one after the other, up to the end of the input or the first bad one. It answers as the
     // last of them, 0 where there is none.
     pub fn play(&mut self, input: &[u8]) -> u64

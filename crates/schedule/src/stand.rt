@@ -8,23 +8,34 @@ ghost use Rattle.schedule.specs.Bytes.{memories, zeros, on_part, on_bytes, start
 
 use crate::lend::{self, STAND_AREA, STAND_REGIONS};
 
-// No call reads or writes the strips' memory: it is a constant, so that it takes no stack.
+// No call reads or writes the strips' memory. Where there is none, it is zeros, which take no room: neither on the stack
+// nor in a program's file.
 #[derive(Drop)]
-pub struct Stand {
+pub struct Stand<'a> {
     pub control: [u8; limits::CONTROL_BYTES],
     pub area: [u8; STAND_AREA],
-    pub strips: &'static [u8; limits::STRIPS_BYTES],
+    pub strips: Option<&'a [u8; limits::STRIPS_BYTES]>,
 }
 
-impl Stand {
+impl<'a> Stand<'a> {
     // "Zero at first".
-    pub fn new() -> Stand
+    pub fn new() -> Stand<'a>
         ensures { memories result ≡ zeros }
     {
         Stand {
             control: [0; limits::CONTROL_BYTES],
             area: [0; STAND_AREA],
-            strips: &[0; limits::STRIPS_BYTES],
+            strips: None,
+        }
+    }
+
+    // The strips' memory that every call is lent.
+    pub fn lent_strips(&self) -> &'a [u8; limits::STRIPS_BYTES]
+        ensures { result.now ≡ (memories self.now).strips }
+    {
+        match self.strips {
+            Some(strips) => strips,
+            None => &[0; limits::STRIPS_BYTES],
         }
     }
 
@@ -39,7 +50,7 @@ impl Stand {
     pub fn start(&mut self, tasks: u8, regions: u8) -> u64
         ensures { Does (on_bytes (started (record { tasks = tasks })) (named regions)) self.old self.new result }
     {
-        let strips = self.strips;
+        let strips = self.lent_strips();
         let regions = regions as usize;
         if STAND_REGIONS < regions {
             return 2;
@@ -51,7 +62,7 @@ impl Stand {
     pub fn allocate(&mut self, task: u8, size: u16) -> u64
         ensures { Does (on_bytes (allocated task size) as_started) self.old self.new result }
     {
-        let strips = self.strips;
+        let strips = self.lent_strips();
         let n = lend::lent(&self.control);
         pool::pool_begin_allocate(
             &mut self.control,
@@ -65,7 +76,7 @@ impl Stand {
     pub fn free(&mut self, task: u8, unit: u16) -> u64
         ensures { Does (on_bytes (freed task unit) as_started) self.old self.new result }
     {
-        let strips = self.strips;
+        let strips = self.lent_strips();
         let n = lend::lent(&self.control);
         pool::pool_begin_free(
             &mut self.control,
@@ -79,7 +90,7 @@ impl Stand {
     pub fn leave(&mut self, task: u8) -> u64
         ensures { Does (on_bytes (left task) as_started) self.old self.new result }
     {
-        let strips = self.strips;
+        let strips = self.lent_strips();
         let n = lend::lent(&self.control);
         pool::pool_begin_leave(&mut self.control, &self.area[..n], strips, task as u64)
     }
@@ -87,7 +98,7 @@ impl Stand {
     pub fn step(&mut self, task: u8) -> u64
         ensures { Does (on_bytes (stepped task) as_started) self.old self.new result }
     {
-        let strips = self.strips;
+        let strips = self.lent_strips();
         let n = lend::lent(&self.control);
         step_on(&mut self.control, &mut self.area, strips, n, task)
     }

@@ -9,7 +9,7 @@ use crate::stand::Stand;
 use crate::tally::Tally;
 use crate::treat::Line;
 
-impl Stand {
+impl<'a> Stand<'a> {
     // The treatment of a record, which is handed the tally and counts the record in it by its code: its line, the three
     // memories and the tally afterwards.
     pub fn treat_counted(&mut self, entry: Entry, tally: &mut Tally) -> Line

@@ -20,7 +20,7 @@ pub struct Line {
     pub lost: u32,
 }
 
-impl Stand {
+impl<'a> Stand<'a> {
     // "5 run .. stops at a finish, an end or a refusal (most 0: code 0, no call made)". It answers as the last call.
     fn run(&mut self, task: u8, most: u16) -> u64
         ensures { Does (runs on_bytes 0 task most) self.old self.new result }

@@ -50,7 +50,7 @@ pub enum LastCode {
 
 // Plays the schedule, and has the report on the pool that it leaves put into the row. The report is lent the part of
 // the area that the pool was started with.
-pub fn report_after<T: Report>(stand: &mut Stand, input: &[u8], row: &mut [u8]) -> BothAnswers
+pub fn report_after<T: Report>(stand: &mut Stand<'_>, input: &[u8], row: &mut [u8]) -> BothAnswers
     requires { length input.now ≤ INPUT_BYTES }
     ensures last { result.last ≡ last_answer on_bytes (length input.now) input.now 0 0 (memories stand.old) }
     ensures report { Answers
@@ -58,7 +58,7 @@ pub fn report_after<T: Report>(stand: &mut Stand, input: &[u8], row: &mut [u8]) 
         row.new result.report }
 {
     let last = stand.play(input);
-    let strips = stand.strips;
+    let strips = stand.lent_strips();
     let report = T::write(&stand.control, stand.lent_area(), strips, row);
     BothAnswers { last, report }
 }
@@ -87,7 +87,7 @@ fn codes_of(answers: &BothAnswers) -> Codes
 
 // `report_after` for a schedule that is read: no more than 65,536 bytes.
 fn read_and_report<T: Report, R: Read>(
-    stand: &mut Stand,
+    stand: &mut Stand<'_>,
     reader: &mut R,
     row: &mut [u8],
 ) -> io::Result<Codes>
@@ -142,7 +142,7 @@ pub fn run_from_zeros<T: Report, R: Read, W: Write>(
 
 // The same work on memories that are lent.
 pub fn run<T: Report, R: Read, W: Write>(
-    stand: &mut Stand,
+    stand: &mut Stand<'_>,
     reader: &mut R,
     writer: &mut W,
     row: &mut [u8],

@@ -19,7 +19,7 @@ use text::LostColumn;
 pub const TABLE_BYTES: usize = 2228480;
 
 // Has the records treated one after the other, and puts the table's text at the start of `out`.
-pub fn write(stand: &mut Stand, input: &[u8], out: &mut [u8], lost: LostColumn) -> usize
+pub fn write(stand: &mut Stand<'_>, input: &[u8], out: &mut [u8], lost: LostColumn) -> usize
     requires input { length input.now ≤ INPUT_BYTES }
     requires room { TABLE_BYTES ≤ length out.old }
     ensures { Plays lost input.now (memories stand.old) out.old out.new result }
@@ -77,7 +77,7 @@ pub fn run_from_zeros<R: Read, W: Write>(
 
 // The same work on memories that are lent.
 pub fn run<R: Read, W: Write>(
-    stand: &mut Stand,
+    stand: &mut Stand<'_>,
     reader: &mut R,
     writer: &mut W,
     lost: LostColumn,
