@@ -12,14 +12,14 @@ use control::answer::Answer;
 use control::column::Control;
 use control::{layout, places};
 use limits::index;
-use limits::index::{Class, Descriptor, Index, Regions, Task};
+use limits::index::{Class, Descriptor, Index, RegionCount, Task};
 use limits::refusal::Refusal;
 use words::anchor::Anchor;
 use words::{anchor, mark};
 
 // The descriptor that has opened the unit's region. 10 where the area has no such region, the map has no entry for it,
 // or the descriptor of that entry does not name it back or has the anchor EMPTY. Caller: `begin`.
-fn opened_by(control: &Control, regions: Regions, unit: usize) -> Result<Descriptor, Refusal>
+fn opened_by(control: &Control, regions: RegionCount, unit: usize) -> Result<Descriptor, Refusal>
     ensures { (t : ℕ) → begin_free_small (seen control.now) regions t unit
         ≡ unless_refused result (free_open (seen control.now) t unit) }
 {
@@ -50,7 +50,7 @@ fn opened_by(control: &Control, regions: Regions, unit: usize) -> Result<Descrip
 // unit, and 11 where its mark is clear; else the mark is cleared. The caller is the exported call, after the tests.
 pub fn begin(
     control: &mut Control,
-    regions: Regions,
+    regions: RegionCount,
     task: Task,
     unit: u64,
 ) -> Result<Answer, Refusal>

@@ -20,7 +20,7 @@ ghost use Rattle.holders.specs.FormFilling.{class_read, chain_read, NumbersOf, A
 
 use control::column::Control;
 use limits::REGIONS;
-use limits::index::{Class, OutOfRange, Region, Regions, Task};
+use limits::index::{Class, OutOfRange, Region, RegionCount, Task};
 use limits::refusal::Refusal;
 use report_regions::OpenRegion;
 use reports::row;
@@ -74,7 +74,7 @@ fn chain_of(found: Option<OpenRegion>) -> u16
 }
 
 // The numbers of what was read of the regions. Caller: `fill`.
-fn numbers_of(regions: Regions, opened: &[Option<OpenRegion>; REGIONS]) -> OpenNumbers
+fn numbers_of(regions: RegionCount, opened: &[Option<OpenRegion>; REGIONS]) -> OpenNumbers
     ensures { NumbersOf regions opened.now result.classes result.chains }
 {
     let mut classes = [NO_CLASS; REGIONS];
@@ -90,7 +90,7 @@ fn numbers_of(regions: Regions, opened: &[Option<OpenRegion>; REGIONS]) -> OpenN
 // the class: the numbers stand in arrays, and where each is read, the compiled code adds up several at once. Callers:
 // the functions below.
 fn add_up<F: Fn(Region) -> u16>(
-    regions: Regions,
+    regions: RegionCount,
     classes: &[u16; REGIONS],
     class: Class,
     number: F,
@@ -113,7 +113,7 @@ fn add_up<F: Fn(Region) -> u16>(
 
 // The blocks in hand of the regions that are open in the class, added up: the marks of others are not read. Caller:
 // `of_holder`.
-fn in_hands(control: &Control, regions: Regions, classes: &[u16; REGIONS], class: Class) -> u16
+fn in_hands(control: &Control, regions: RegionCount, classes: &[u16; REGIONS], class: Class) -> u16
     ensures { result
         ≡ added_up regions (λ z. get_or classes.now z 0) class (λ z. blocks_in_hand (seen control.now) z class) }
 {
@@ -131,7 +131,7 @@ fn in_hands(control: &Control, regions: Regions, classes: &[u16; REGIONS], class
 fn in_cache(
     control: &Control,
     area: &[u8],
-    regions: Regions,
+    regions: RegionCount,
     classes: &[u16; REGIONS],
     task: Task,
     class: Class,
@@ -148,7 +148,7 @@ fn in_cache(
 // The blocks of the class that a task's request has under way, in those regions. Caller: `of_holder`.
 fn in_request(
     control: &Control,
-    regions: Regions,
+    regions: RegionCount,
     classes: &[u16; REGIONS],
     task: Task,
     class: Class,
@@ -165,7 +165,7 @@ fn in_request(
 fn of_holder(
     control: &Control,
     area: &[u8],
-    regions: Regions,
+    regions: RegionCount,
     opened: &OpenNumbers,
     class: Class,
     holder: usize,
@@ -207,7 +207,7 @@ fn of_holder(
 fn fill(
     control: &Control,
     area: &[u8],
-    regions: Regions,
+    regions: RegionCount,
     numbers: &mut [u16],
 ) -> Result<(), OutOfRange>
     requires { AreaOf regions area.now × (length numbers.old ≡ FORM_NUMBERS) }
@@ -228,7 +228,7 @@ fn fill(
 pub fn write(
     control: &Control,
     area: &[u8],
-    regions: Regions,
+    regions: RegionCount,
     row: &mut [u8],
 ) -> Result<(), Refusal>
     requires { AreaOf regions area.now }

@@ -18,7 +18,7 @@ ghost use Rattle.keepers.specs.Keepers.{KEEPER_NUMBERS, keeper_number, read_in_r
 ghost use Rattle.keepers.specs.Filling.{keeper_told, numbers_told, GivenRead, KeepersFilled};
 
 use control::column::Control;
-use limits::index::{Class, OutOfRange, Region, Regions, Task};
+use limits::index::{Class, OutOfRange, Region, RegionCount, Task};
 use limits::refusal::Refusal;
 use report_regions::spares;
 use report_requests::one_region;
@@ -72,7 +72,7 @@ fn numbers_of(keeper: Keeper) -> [u16; KEEPER_NUMBERS]
 // if it has the region. Caller: `cache_keeper`.
 fn request_keeper(
     control: &Control,
-    regions: Regions,
+    regions: RegionCount,
     class: Class,
     region: Region,
 ) -> Option<Keeper>
@@ -96,7 +96,7 @@ fn request_keeper(
 fn cache_keeper(
     control: &Control,
     area: &[u8],
-    regions: Regions,
+    regions: RegionCount,
     class: Class,
     region: Region,
 ) -> Option<Keeper>
@@ -123,7 +123,7 @@ fn cache_keeper(
 fn hand_keeper(
     control: &Control,
     area: &[u8],
-    regions: Regions,
+    regions: RegionCount,
     class: Class,
     region: Region,
 ) -> Option<Keeper>
@@ -138,7 +138,7 @@ fn hand_keeper(
 
 // The list of spare regions, if it has the region, which is not open; else the lowest task that has the region itself.
 // Caller: `keeper_of`.
-fn closed_keeper(control: &Control, regions: Regions, region: Region) -> Option<Keeper>
+fn closed_keeper(control: &Control, regions: RegionCount, region: Region) -> Option<Keeper>
     requires { is_spare_list (seen control.now) regions ≡ true }
     ensures { keeper_told result ≡ closed_keeper (seen control.now) regions region }
 {
@@ -155,7 +155,7 @@ fn closed_keeper(control: &Control, regions: Regions, region: Region) -> Option<
 }
 
 // The keeper of a region of the area. Caller: `fill`.
-fn keeper_of(control: &Control, area: &[u8], regions: Regions, region: Region) -> Option<Keeper>
+fn keeper_of(control: &Control, area: &[u8], regions: RegionCount, region: Region) -> Option<Keeper>
     requires { GivenRead control.now area.now regions }
     ensures { keeper_told result ≡ keeper_of (seen control.now) (link area.now) regions region }
 {
@@ -167,7 +167,7 @@ fn keeper_of(control: &Control, area: &[u8], regions: Regions, region: Region) -
 }
 
 // Goes on where all caches are in their ranges. Caller: `read_fits`.
-fn caches_fit(control: &Control, area: &[u8], regions: Regions) -> Result<(), OutOfRange>
+fn caches_fit(control: &Control, area: &[u8], regions: RegionCount) -> Result<(), OutOfRange>
     requires { AreaOf regions area.now }
     ensures passed { OnOk result
         (all_pass CLASSES (caches_in_range (seen control.now) (link area.now) regions) ≡ true) }
@@ -181,7 +181,7 @@ fn caches_fit(control: &Control, area: &[u8], regions: Regions) -> Result<(), Ou
 }
 
 // Goes on where all that is read is in its range. Caller: `write`.
-fn read_fits(control: &Control, area: &[u8], regions: Regions) -> Result<(), OutOfRange>
+fn read_fits(control: &Control, area: &[u8], regions: RegionCount) -> Result<(), OutOfRange>
     requires { AreaOf regions area.now }
     ensures passed { OnOk result (read_in_range (seen control.now) (link area.now) regions ≡ true) }
     ensures failed { OnErr result (read_in_range (seen control.now) (link area.now) regions ≡ false) }
@@ -197,7 +197,7 @@ fn read_fits(control: &Control, area: &[u8], regions: Regions) -> Result<(), Out
 fn fill(
     control: &Control,
     area: &[u8],
-    regions: Regions,
+    regions: RegionCount,
     numbers: &mut [u16],
 ) -> Result<(), OutOfRange>
     requires { GivenRead control.now area.now regions × (length numbers.old ≡ KEEPER_NUMBERS * REGIONS) }
@@ -218,7 +218,7 @@ fn fill(
 pub fn write(
     control: &Control,
     area: &[u8],
-    regions: Regions,
+    regions: RegionCount,
     row: &mut [u8],
 ) -> Result<(), Refusal>
     requires { AreaOf regions area.now }

@@ -70,7 +70,55 @@ impl<const N: usize> Index<N> {
     }
 }
 
-// How many regions an area has, at most 16. The area of a started pool has at least one, which `of` tests.
+// How many regions, at most as many as the largest area has: 0, too.
+#[derive(Clone, Copy)]
+pub struct RegionCount {
+    number: usize,
+}
+
+impl Model for RegionCount {
+    ghost use Rattle.std.specs.Prelude.{ℕ, ◌≤◌};
+    ghost use Rattle.limits.specs.Limits.{REGIONS};
+
+    ghost Value = { ℕ };
+
+    ghost view = { λ a. a.number };
+
+    ghost invariant = { λ a. a.number ≤ REGIONS };
+
+    ghost inverse = { λ n. record { number = n } };
+}
+
+impl RegionCount {
+    // So many regions, which the caller knows to be no more than the largest area has.
+    pub fn new(number: usize) -> RegionCount
+        requires { number ≤ REGIONS }
+        ensures { result ≡ number }
+    {
+        RegionCount { number }
+    }
+
+    pub fn get(self) -> usize
+        ensures same { result ≡ self }
+        ensures inside { result ≤ REGIONS }
+    {
+        self.number
+    }
+
+    // The region of this number, if it is one of so many.
+    pub fn region(self, number: usize) -> Result<Region, OutOfRange>
+        ensures found { IfOk result (λ z. z ≡ number) }
+        ensures inside { OnOk result (number < self) }
+        ensures outside { OnErr result (self ≤ number) }
+    {
+        if self.number <= number {
+            return Err(OutOfRange);
+        }
+        Ok(Index { number })
+    }
+}
+
+// How many regions the area of a started pool has, at least one.
 #[derive(Clone, Copy)]
 pub struct Regions {
     number: usize,
@@ -84,21 +132,13 @@ impl Model for Regions {
 
     ghost view = { λ a. a.number };
 
-    ghost invariant = { λ a. a.number ≤ REGIONS };
+    ghost invariant = { λ a. (1 ≤ a.number) × (a.number ≤ REGIONS) };
 
     ghost inverse = { λ n. record { number = n } };
 }
 
 impl Regions {
-    // So many regions, which the caller knows to be no more than the largest area has.
-    pub fn new(number: usize) -> Regions
-        requires { number ≤ REGIONS }
-        ensures { result ≡ number }
-    {
-        Regions { number }
-    }
-
-    // So many regions, if the area of a started pool can have so many.
+    // So many regions, if the area can have so many.
     pub fn of(number: usize) -> Result<Regions, OutOfRange>
         ensures found { IfOk result (λ r. r ≡ number) }
         ensures inside { OnOk result ((1 ≤ number) × (number ≤ REGIONS)) }
@@ -113,11 +153,18 @@ impl Regions {
         Ok(Regions { number })
     }
 
+    // The same number, for a function that takes 0, too.
+    pub fn count(self) -> RegionCount
+        ensures { result ≡ self }
+    {
+        RegionCount::new(self.number)
+    }
+
     pub fn get(self) -> usize
         ensures same { result ≡ self }
-        ensures inside { result ≤ REGIONS }
+        ensures inside { (1 ≤ result) × (result ≤ REGIONS) }
     {
-        self.number
+        self.count().get()
     }
 
     // The region of this number, if the area has it.
@@ -126,10 +173,7 @@ impl Regions {
         ensures inside { OnOk result (number < self) }
         ensures outside { OnErr result (self ≤ number) }
     {
-        if self.number <= number {
-            return Err(OutOfRange);
-        }
-        Ok(Index { number })
+        self.count().region(number)
     }
 }
 

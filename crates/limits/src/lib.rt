@@ -4,6 +4,8 @@
 
 pub mod index;
 pub mod refusal;
+#[cfg(test)]
+mod tests;
 
 // Control memory is so many bytes.
 pub const CONTROL_BYTES: usize = 8192;

@@ -62,7 +62,7 @@ pub fn pool_start(control: &mut [u8], area: &[u8], strips: &[u8], tasks: u64) ->
     };
     match start_tests(area.len(), strips.len(), tasks) {
         Ok(regions) => {
-            start::image(control, tasks as u8, regions);
+            start::image(control, tasks as u8, regions.count());
             0
         }
         Err(refusal) => answer::number(Err(refusal)),
@@ -115,7 +115,7 @@ fn begin_free(
         control.old control.new result }
 {
     let started = tests::later_tests(control, area.len(), strips.len(), task)?;
-    free::begin(control, started.regions, started.task, unit)
+    free::begin(control, started.regions.count(), started.task, unit)
 }
 
 // Begins the free of the block or strip at this unit, by any task: the mark of a block is cleared, and the byte of a
@@ -163,7 +163,7 @@ fn step_of(control: &mut Control, area: &mut [u8], strips: &[u8], task: u64) -> 
         task control.old area.old control.new area.new result }
 {
     match tests::later_tests(control, area.len(), strips.len(), task) {
-        Ok(started) => step::step(control, area, started.regions, started.task),
+        Ok(started) => step::step(control, area, started.regions.count(), started.task),
         Err(refusal) => answer::number(Err(refusal)),
     }
 }
@@ -207,7 +207,7 @@ fn fill_sheet(
         sheet.old sheet.new (report_number result) }
 {
     let started = report_tests(control, area, strips)?;
-    sheet::write(control, area, started.regions, sheet)
+    sheet::write(control, area, started.regions.count(), sheet)
 }
 
 // The stock sheet: where the small blocks are, for each class and region, in the lent row. It changes nothing else.
@@ -232,7 +232,7 @@ fn fill_holders(
         form.old form.new (report_number result) }
 {
     let started = report_tests(control, area, strips)?;
-    holders::write(control, area, started.regions, form)
+    holders::write(control, area, started.regions.count(), form)
 }
 
 // The form by holder: how many small blocks of each class each holder has, in the lent row. It changes nothing else.
@@ -257,7 +257,7 @@ fn fill_keepers(
         keepers.old keepers.new (report_number result) }
 {
     let started = report_tests(control, area, strips)?;
-    keepers::write(control, area, started.regions, keepers)
+    keepers::write(control, area, started.regions.count(), keepers)
 }
 
 // The region's keepers: who keeps each region of the area, in the lent row. It changes nothing else.

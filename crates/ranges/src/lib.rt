@@ -5,7 +5,7 @@ ghost use Rattle.std.specs.Prelude.{◌≡◌};
 ghost use Rattle.stepped.specs.Ranges.{is_block, is_top, is_anchor, has_chain, has_first, has_room};
 
 use classes::geometry;
-use limits::index::{Class, Regions};
+use limits::index::{Class, RegionCount};
 use words::anchor;
 use words::anchor::Anchor;
 
@@ -29,7 +29,7 @@ pub fn is_top(regions: usize, class: Class, count: usize, unit: usize) -> bool
 // Whether the area has a block of the class that begins at the unit. Callers have the class of the request: the steps
 // that take a block from a cache or put one on it, into which it is put in line, as in the steps' other tests.
 #[inline(always)]
-pub fn has_block(regions: Regions, class: Class, unit: usize) -> bool
+pub fn has_block(regions: RegionCount, class: Class, unit: usize) -> bool
     ensures { result ≡ is_block regions class unit }
 {
     is_block(regions.get(), class, unit)
@@ -37,7 +37,7 @@ pub fn has_block(regions: Regions, class: Class, unit: usize) -> bool
 
 // Whether a unit is the top of `count` blocks that are cached of the area. Callers as those of `has_block`.
 #[inline(always)]
-pub fn has_top(regions: Regions, class: Class, count: usize, unit: usize) -> bool
+pub fn has_top(regions: RegionCount, class: Class, count: usize, unit: usize) -> bool
     ensures { result ≡ is_top regions class count unit }
 {
     is_top(regions.get(), class, count, unit)

@@ -16,13 +16,13 @@ use classes::{geometry, table};
 use control::column::Control;
 use control::layout;
 use limits::REGIONS;
-use limits::index::{Class, OutOfRange, Regions, Task, in_range};
+use limits::index::{Class, OutOfRange, RegionCount, Task, in_range};
 
 // The blocks of a cache of `count` blocks from its top down, each counted in its region. Caller: `cache`, which has
 // found the count at most n.
 fn walk(
     area: &[u8],
-    regions: Regions,
+    regions: RegionCount,
     class: Class,
     top: usize,
     count: usize,
@@ -48,7 +48,7 @@ fn walk(
 pub fn cache(
     control: &Control,
     area: &[u8],
-    regions: Regions,
+    regions: RegionCount,
     task: Task,
     class: Class,
     from: [u16; REGIONS],
@@ -68,7 +68,7 @@ pub fn cache(
 pub fn of_class(
     control: &Control,
     area: &[u8],
-    regions: Regions,
+    regions: RegionCount,
     class: Class,
 ) -> Result<[u16; REGIONS], OutOfRange>
     requires { AreaOf regions area.now }
@@ -100,7 +100,7 @@ fn lower(unit: usize, region: usize, low: usize) -> usize
 pub fn lowest(
     control: &Control,
     area: &[u8],
-    regions: Regions,
+    regions: RegionCount,
     task: Task,
     class: Class,
     region: usize,

@@ -13,7 +13,7 @@ ghost use Rattle.report_regions.specs.OpenClasses.{RegionsRead};
 use classes::table;
 use control::column::Control;
 use control::layout;
-use limits::index::{Class, Descriptor, OutOfRange, Region, Regions, in_range};
+use limits::index::{Class, Descriptor, OutOfRange, Region, RegionCount, in_range};
 use words::anchor;
 use words::anchor::Anchor;
 
@@ -45,7 +45,7 @@ fn open(
 // The region is not open where the descriptor does not name it back, or its anchor is EMPTY. Caller: `of_region`.
 fn by(
     control: &Control,
-    regions: Regions,
+    regions: RegionCount,
     region: Region,
     descriptor: Descriptor,
 ) -> Result<Option<OpenRegion>, OutOfRange>
@@ -67,7 +67,7 @@ fn by(
 // What is read of a region of the area: `None` where it is not open.
 pub fn of_region(
     control: &Control,
-    regions: Regions,
+    regions: RegionCount,
     region: Region,
 ) -> Result<Option<OpenRegion>, OutOfRange>
     ensures { opened_in result ≡ opened_of (seen control.now) regions region }
@@ -81,7 +81,7 @@ pub fn of_region(
 // What is read of all regions of the area, region by region. Callers have the started regions: the reports.
 pub fn of_regions(
     control: &Control,
-    regions: Regions,
+    regions: RegionCount,
 ) -> Result<[Option<OpenRegion>; limits::REGIONS], OutOfRange>
     ensures { RegionsRead (seen control.now) regions result }
 {

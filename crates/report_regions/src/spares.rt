@@ -7,7 +7,7 @@ ghost use Rattle.report_regions.specs.SpareList.{is_spare_list, is_spare};
 
 use control::column::Control;
 use control::layout;
-use limits::index::{List, OutOfRange, Region, Regions, in_range};
+use limits::index::{List, OutOfRange, Region, RegionCount, in_range};
 use words::head::Head;
 
 // The first item of the list: a region's number plus one, or 0. Callers: the functions below.
@@ -19,7 +19,7 @@ fn first(control: &Control) -> usize
 }
 
 // Goes on where each item is a region of the area, and the list ends. Callers have the started regions: the keepers.
-pub fn fits(control: &Control, regions: Regions) -> Result<(), OutOfRange>
+pub fn fits(control: &Control, regions: RegionCount) -> Result<(), OutOfRange>
     ensures passed { OnOk result (is_spare_list (seen control.now) regions ≡ true) }
     ensures failed { OnErr result (is_spare_list (seen control.now) regions ≡ false) }
 {
@@ -34,7 +34,7 @@ pub fn fits(control: &Control, regions: Regions) -> Result<(), OutOfRange>
 }
 
 // Whether the region is on the list. Callers have found the list in its range: the keepers.
-pub fn has(control: &Control, regions: Regions, region: usize) -> bool
+pub fn has(control: &Control, regions: RegionCount, region: usize) -> bool
     requires { is_spare_list (seen control.now) regions ≡ true }
     ensures { result ≡ is_spare (seen control.now) regions region }
 {

@@ -9,7 +9,7 @@ use lib.Dec.{leb, eqb}
 use Rattle.std.specs.Prelude.{Ok, Some}
 use Rattle.limits.specs.Limits.{UNITS}
 use Rattle.rows.specs.Comparisons.{same, other, same?}
-use Rattle.rows.specs.Weights.{when}
+use Rattle.rows.specs.Weights.{when, one}
 use Rattle.rows.proofs.Weights.{when-same, when-other}
 use Rattle.classes.specs.Geometry.{region_of}
 use Rattle.report_requests.specs.declared.RequestBlocks.{RequestBlocks}
@@ -25,13 +25,17 @@ row-elsewhere r z k d = ap (leb 1) (when-other r z k (λ e. d (sym e)))
 pub row-there : (r z k : ℕ) → z ≡ r → leb 1 (when r z k) ≡ leb 1 k
 row-there r z k e = rw e (ap (leb 1) (when-same r k))
 
+-- the region z of a unit is k, which is r, or another
+pub region-tells : (r u : ℕ) {z k : ℕ} → z ≡ region_of u → k ≡ r → eqb z k ≡ leb 1 (one r (region_of u))
+region-tells r u {z} f e = elim (same? z r) [
+  | same d ↦ rw (e, eq-eqb z r d, ← f, d, when-same r 1)
+  | other d ↦ rw (e, ne_eqb z r d, ← f, when-other r z 1 (λ e. d (sym e)))
+]
+
 -- the block being freed, of the region z, is of the region k, which is r, or of another
 pub own-tells : (r u : ℕ) {z k : ℕ} → u ≢ UNITS → z ≡ region_of u → k ≡ r
     → eqb z k ≡ leb 1 (own_in r (Some u))
-own-tells r u {z} n f e = elim (same? z r) [
-  | same d ↦ rw (e, eq-eqb z r d, ne_eqb u UNITS n, ← f, d, when-same r 1)
-  | other d ↦ rw (e, ne_eqb z r d, ne_eqb u UNITS n, ← f, when-other r z 1 (λ e. d (sym e)))
-]
+own-tells r u n f e = rw (ne_eqb u UNITS n) (region-tells r u f e)
 
 -- none of them is of the class
 pub blocks-other : (c r : ℕ) (q : RequestBlocks) → c ≢ q.class → leb 1 (in_request c r (Ok q)) ≡ false

@@ -15,7 +15,7 @@ use classes::{geometry, table};
 use control::column::Control;
 use control::{layout, places};
 use limits::REGIONS;
-use limits::index::{Class, OutOfRange, Regions, Task, in_range};
+use limits::index::{Class, OutOfRange, RegionCount, Task, in_range};
 
 // How many blocks of a class and region a request has under way, and the unit of the block that it frees, if there is
 // one: the unit 8,192 is that of no block.
@@ -179,7 +179,7 @@ pub fn of_task(control: &Control, regions: usize, task: Task) -> Result<RequestB
 // can grow: `of_class`, and the reports that tell the tasks apart.
 pub fn with_request(
     control: &Control,
-    regions: Regions,
+    regions: RegionCount,
     task: Task,
     class: Class,
     from: [u16; REGIONS],
@@ -203,7 +203,7 @@ pub fn with_request(
 // The blocks of the class that all tasks' requests have under way. Callers: the reports.
 pub fn of_class(
     control: &Control,
-    regions: Regions,
+    regions: RegionCount,
     class: Class,
 ) -> Result<[u16; REGIONS], OutOfRange>
     ensures { Counted (requests_in_range (seen control.now) regions)

@@ -13,7 +13,7 @@ ghost use Rattle.sheet.specs.Sheet.{SHEET_NUMBERS, sheet_number, sheet_in_range}
 ghost use Rattle.sheet.specs.Filling.{FourAre, RowsAre};
 
 use control::column::Control;
-use limits::index::{Class, OutOfRange, Region, Regions};
+use limits::index::{Class, OutOfRange, Region, RegionCount};
 use limits::refusal::Refusal;
 use reports::row;
 
@@ -33,7 +33,7 @@ const ZEROS: [u16; COLUMNS] = [0; COLUMNS];
 // with requests, and in the chain. Caller: `rows`.
 fn four_of(
     control: &Control,
-    regions: Regions,
+    regions: RegionCount,
     class: Class,
     region: Region,
     caches: u16,
@@ -58,7 +58,7 @@ fn four_of(
 // Caller: `fill`.
 fn rows(
     control: &Control,
-    regions: Regions,
+    regions: RegionCount,
     class: Class,
     caches: &[u16; limits::REGIONS],
     requests: &[u16; limits::REGIONS],
@@ -86,7 +86,7 @@ fn rows(
 fn fill(
     control: &Control,
     area: &[u8],
-    regions: Regions,
+    regions: RegionCount,
     numbers: &mut [u16],
 ) -> Result<(), OutOfRange>
     requires { AreaOf regions area.now × (length numbers.old ≡ SHEET_NUMBERS) }
@@ -107,7 +107,7 @@ fn fill(
 pub fn write(
     control: &Control,
     area: &[u8],
-    regions: Regions,
+    regions: RegionCount,
     row: &mut [u8],
 ) -> Result<(), Refusal>
     requires { AreaOf regions area.now }

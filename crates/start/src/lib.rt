@@ -10,7 +10,7 @@ ghost use Rattle.start.specs.Filled.{filled};
 use control::column::{Column, Control};
 use control::layout;
 use fields::Number;
-use limits::index::{Index, List, Regions};
+use limits::index::{Index, List, RegionCount};
 use strip_tree::tree;
 use words::head::Head;
 
@@ -50,7 +50,7 @@ fn fill<T: Number, const N: usize, F: Fn(usize) -> T>(
 }
 
 // The control memory of a pool that has just been started.
-pub fn image(control: &mut Control, tasks: u8, regions: Regions)
+pub fn image(control: &mut Control, tasks: u8, regions: RegionCount)
     ensures { control.new ≡ start_image (record { tasks = tasks }) regions }
 {
     let count = regions.get();

@@ -11,7 +11,7 @@ use control::answer::Answer;
 use control::column::Control;
 use control::request::Request;
 use control::{answer, layout, places};
-use limits::index::{Class, Regions, Task};
+use limits::index::{Class, RegionCount, Task};
 use limits::refusal::Refusal;
 
 // The step at a place that is not the first of a request. Caller: `at`.
@@ -58,7 +58,7 @@ fn at(control: &mut Control, area: &mut [u8], request: Request, place: u8) -> u6
 }
 
 // One step of a task, if it has a request in hand. Caller: the exported call, after the tests.
-pub fn step(control: &mut Control, area: &mut [u8], regions: Regions, task: Task) -> u64
+pub fn step(control: &mut Control, area: &mut [u8], regions: RegionCount, task: Task) -> u64
     requires { AreaOf regions area.old }
     ensures { NumberIn (step_of (seen control.old) (link area.old) regions task) task
         control.old area.old control.new area.new result }

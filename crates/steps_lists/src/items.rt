@@ -3,7 +3,7 @@
 use crate::heads;
 use control::column::Control;
 use control::layout;
-use limits::index::{Descriptor, OutOfRange, Region, Regions, Task, in_range};
+use limits::index::{Descriptor, OutOfRange, Region, RegionCount, Task, in_range};
 
 // What the items of a list are.
 #[derive(Clone, Copy)]
@@ -23,7 +23,7 @@ impl Items {
     ghost use Rattle.steps_lists.specs.Kinds.{kind};
 
     // The most that an item's number plus one may be: how many items there are, no more than with the most regions.
-    pub fn most(self, regions: Regions) -> usize
+    pub fn most(self, regions: RegionCount) -> usize
         ensures same { result ≡ how_many (kind self) regions }
         ensures inside { result ≤ how_many (kind self) REGIONS }
     {
@@ -34,7 +34,7 @@ impl Items {
     }
 
     // The number plus one of the item on top of a head word, 0 for none, if there is such an item.
-    pub fn on_top(self, word: u64, regions: Regions) -> Result<usize, OutOfRange>
+    pub fn on_top(self, word: u64, regions: RegionCount) -> Result<usize, OutOfRange>
         ensures found { IfOk result (λ item. item ≡ item_of word) }
         ensures inside { OnOk result (item_of word ≤ how_many (kind self) regions) }
         ensures below { OnOk result (item_of word ≤ how_many (kind self) REGIONS) }
@@ -46,7 +46,7 @@ impl Items {
     }
 
     // The item on top of a head word, if it has one.
-    pub fn top(self, word: u64, regions: Regions) -> Result<usize, OutOfRange>
+    pub fn top(self, word: u64, regions: RegionCount) -> Result<usize, OutOfRange>
         ensures found { IfOk result (λ item. item ≡ item_of word - 1) }
         ensures inside { OnOk result (one_to (how_many (kind self) regions) (item_of word) ≡ true) }
         ensures within { OnOk result (item_of word - 1 < how_many (kind self) REGIONS) }
@@ -96,7 +96,7 @@ impl Items {
         self,
         control: &Control,
         task: Task,
-        regions: Regions,
+        regions: RegionCount,
     ) -> Result<usize, OutOfRange>
         ensures found { IfOk result (λ item. item ≡ seen control.now (hand_field (kind self) task)) }
         ensures inside { OnOk result (seen control.now (hand_field (kind self) task) < how_many (kind self) regions) }

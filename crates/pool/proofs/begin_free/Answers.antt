@@ -23,4 +23,4 @@ returns c =
     ∙ ap (λ (z : ℕ). when_idle (seen c.args.control.now) c.in_ok-started.started.task
     (begin_free (seen c.args.control.now) z c.in_ok-started.started.task c.args.unit))
     (sym (found c.later_tests.ensures c.in_ok-started.was).regions))
-    c.begin.ensures
+    (rw c.count.ensures at c.begin.ensures)

@@ -11,4 +11,4 @@ returns-in_err-started c =
 
 pub returns : goal.returns
 returns c =
-    fills sheet_in_range sheet_number _ _ (omega arith) c.report_tests.ensures (λ k. SHEET_NUMBERS) c.in_ok-started.was c.write.ensures
+    fills sheet_in_range sheet_number _ _ (omega arith) c.report_tests.ensures (λ k. SHEET_NUMBERS) c.in_ok-started.was (rw c.count.ensures at c.write.ensures)

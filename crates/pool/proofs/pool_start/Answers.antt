@@ -1,5 +1,7 @@
 -- A control memory of another length is refused, then the other tests are made, then the start.
+use mathlib.Core.Path.{ap, ◌∙◌}
 use Rattle.plain.specs.Calls.{start_control}
+use Rattle.stepped.specs.Start.{start_image}
 use Rattle.pool.proofs.Started.{refused, refused-by, starts}
 use Rattle.pool.proofs.pool_start.Goals as goal
 
@@ -9,7 +11,7 @@ returns-in_default c = refused _ _ _ _ c.number.ensures (start_control c.in_defa
 pub returns-in-Ok : goal.returns-in-Ok
 returns-in-Ok c =
     let kept = c.in-Some.ensures.cases in
-    starts _ _ _ _ kept.long c.in-Ok.ensures.started c.image.ensures
+    starts _ _ _ _ kept.long c.in-Ok.ensures.started (c.image.ensures ∙ ap (start_image _) c.count.ensures)
 
 pub returns-in-Err : goal.returns-in-Err
 returns-in-Err c =
