@@ -11,4 +11,6 @@ returns-in_err-started c =
 
 pub returns : goal.returns
 returns c =
-    fills sheet_in_range sheet_number _ _ (omega arith) c.report_tests.ensures (λ k. SHEET_NUMBERS) c.in_ok-started.was (rw c.count.ensures at c.write.ensures)
+    let T = c.report_tests.ensures in
+    let A = rw c.count.ensures at c.write.ensures in
+    fills sheet_in_range sheet_number _ _ (omega arith) T (λ k. SHEET_NUMBERS) c.in_ok-started.was A
